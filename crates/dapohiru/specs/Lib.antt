@@ -1,0 +1,3 @@
+-- The calls open to C and Rust.
+-- Assumes nothing.
+pub mod Event

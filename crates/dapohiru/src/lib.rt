@@ -1,0 +1,2 @@
+// The calls open to C and Rust: numbers and byte slices in, one 64-bit number out.
+pub mod event; // event.rt: the event step

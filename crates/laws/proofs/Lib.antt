@@ -1,0 +1,9 @@
+-- The laws that other crates cite.
+-- Assumes nothing.
+pub mod Tests
+pub mod Bounded
+pub mod Bits
+pub mod Image
+pub mod Walk
+pub mod Count
+pub mod Bytes

@@ -1,0 +1,1 @@
+// Definitions and laws that every layer cites. There is no code here.

@@ -1,0 +1,4 @@
+-- The running monitor.
+-- Assumes nothing.
+pub mod Monitor
+pub mod Run

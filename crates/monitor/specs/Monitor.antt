@@ -1,0 +1,44 @@
+-- The event step (document 01, "The rule and the monitor"; refusals 13, 14 and 15 in that order).
+-- Assumes nothing.
+use mathlib.Core.Bool.{cond}
+use Prim.Native.Nat.{ℕ, _+_, _-_, _^_}
+use lib.Dec.{ltb}
+use Rattle.automaton.specs.Automaton.{Automaton, next, final, wellFormed}
+use Rattle.monitor.specs.declared.step.Record.{Record}
+use Rattle.monitor.specs.declared.step.Taken.{Taken}
+use Rattle.monitor.specs.declared.step.Report.{Report}
+use Rattle.monitor.specs.declared.step.Report.the-variants.{Quiet, Alarm, Refused}
+
+-- "one record": the state and the alarm total
+abbrev pub recordOf : ℕ → ℕ → Record
+recordOf q n = record { state = q; alarms = n }
+
+-- a record with what is reported
+abbrev pub reported : Record → Report → Taken
+reported r x = record { state = r .state; alarms = r .alarms; report = x }
+
+-- the highest alarm total
+abbrev pub maxTotal : ℕ
+maxTotal = 2 ^ 64 - 1
+
+-- "rises by one at each alarm and stays at 2^64-1 once there" (saturating)
+unfoldable pub raised : ℕ → ℕ
+raised n = cond (ltb n maxTotal) (n + 1) n
+
+-- "a refusal leaves the record unchanged"
+abbrev pub refusedWith : ℕ → Record → Taken
+refusedWith k r = reported r (Refused k)
+
+-- "moves to the next state; it alarms exactly when the state moved to is final, also when it was final before":
+-- the move to state q with n alarms before
+unfoldable pub movedTo : Automaton → ℕ → ℕ → Taken
+movedTo m q n = cond (final m q) (reported (recordOf q (raised n)) Alarm) (reported (recordOf q n) Quiet)
+
+-- the event step: 13 for a rule that is none, 14 for a symbol of A or more, 15 for a state of S or more, else the move
+unfoldable pub taken : Automaton → ℕ → Record → Taken
+taken m a r =
+    cond (wellFormed m)
+    (cond (ltb a (m .symbols))
+    (cond (ltb (r .state) (m .states)) (movedTo m (next m (r .state) a) (r .alarms)) (refusedWith 15 r))
+    (refusedWith 14 r))
+    (refusedWith 13 r)
