@@ -12,9 +12,9 @@ fn wide(cell: u8) -> u64
 }
 
 // The next state of a state on a symbol.
-pub fn next(table: [[u8; 16]; 16], state: u64, symbol: u64) -> u64
+pub fn next(table: &[[u8; 16]; 16], state: u64, symbol: u64) -> u64
     requires { ⌜ (state < 16) × (symbol < 16) ⌝ }
-    ensures { λ r. ⌜ r ≡ cell table state symbol ⌝ }
+    ensures { λ r. ⌜ r ≡ cell (now (table .entry)) state symbol ⌝ }
 {
     let q = state as usize;
     let a = symbol as usize;

@@ -4,25 +4,26 @@ use mathlib.Core.Path.{_≡_, refl, sym, ap, _∙_}
 use mathlib.Core.Logic.{by-cases}
 use mathlib.Core.Bool.{Bool, true, false, cond, true≢false}
 use mathlib.Core.List.{List, [], _∷_, _++_, append-nil}
-use Prim.Native.Nat.{ℕ, zero, suc, _+_, _/_}
+use Prim.Native.Nat.{ℕ, zero, suc, _+_, _/_, _<_, _≤_}
 use native.Mathlib.Nat.{not-suc-le-zero, lt-irrefl}
 use native.Mathlib.Decide.{ℕ-discrete}
 use native.Mathlib.Omega.{arith}
 use lib.Dec.{eqb}
 use lib.ListN.{length, take, drop, drop-of-length-le}
 use lib.Seq.{sets, sets-eq, length-sets, take-at}
-use borrow.Author.Tests.{eq-eqb, ne-eqb}
+use borrow.Author.Tests.{eq-eqb, ne-eqb, lt-ltb, le-ltb}
 use Rattle.laws.specs.Bytes.{numberAt, bytesOf, putNumber}
-use Rattle.automaton.specs.Automaton.{Automaton, automatonOf, wellFormed}
+use Rattle.automaton.specs.Automaton.{Automaton, automatonOf, next, wellFormed}
 use Rattle.automaton.specs.Table.{tableOf}
 use Rattle.automaton.proofs.AutomatonLaws.{not-well-formed, well-formed-says}
-use Rattle.monitor.specs.Monitor.{recordOf, maxTotal, refusedWith, taken}
+use Rattle.monitor.specs.Monitor.{recordOf, maxTotal, refusedWith, movedTo, taken}
 use Rattle.monitor.specs.Run.{isEvent}
 use Rattle.monitor.specs.declared.step.Record.{Record}
 use Rattle.monitor.specs.declared.step.Taken.{Taken}
 use Rattle.monitor.specs.declared.step.Report.{Report}
-use Rattle.monitor.proofs.MonitorLaws.{taken-13, taken-14, taken-15, TakenCase, no-rule, no-symbol, no-state, moves, taken-case}
-use Rattle.dapohiru.specs.Event.{ruleIn, fieldIn, recordIn, eventTaken, numberOf, recordBytes, leftBy, recordLeft}
+use Rattle.monitor.specs.declared.step.Report.the-variants.{Quiet, Alarm, Refused}
+use Rattle.monitor.proofs.MonitorLaws.{taken-13, taken-14, taken-15, TakenCase, no-rule, no-symbol, no-state, moves, taken-moved, moved-event, taken-case}
+use Rattle.dapohiru.specs.Event.{ruleIn, fieldIn, recordIn, eventTaken, numberOf, recordBytes, leftBy, recordLeft, refusalOf, refusedBy, RefusesInOrder}
 
 -- ---- reading
 
@@ -92,11 +93,16 @@ pub event-no-rule
 unfolding eventTaken
 event-no-rule rule s a f c rec e = sym (taken-13 _ c (recordIn rec) (rule-none rule s a f e))
 
+-- a state below S is held by a record of 16 bytes alone
+state-length : (rec : List ℕ) (s : ℕ) → fieldIn rec 0 maxTotal < s → s ≤ 16 → length rec ≡ 16
+state-length rec s h k =
+    by-cases (ℕ-discrete (length rec) 16) (λ e. e) (λ e. absurd (lt-irrefl maxTotal (omega (arith, field-none rec 0 maxTotal e))))
+
 -- an event has a record of 16 bytes
 pub event-length
     : (rule : List ℕ) (s a f c : ℕ) (rec : List ℕ) → isEvent (eventTaken rule s a f c rec .report) ≡ true → length rec ≡ 16
 unfolding eventTaken
-event-length rule s a f c rec e = by-cases (ℕ-discrete (length rec) 16) (λ h. h) (λ h. absurd (true≢false (sym e ∙ go h (taken-case m c r))))
+event-length rule s a f c rec e = go (taken-case m c r)
   where
     m : Automaton
     m = ruleIn rule s a f
@@ -104,14 +110,14 @@ event-length rule s a f c rec e = by-cases (ℕ-discrete (length rec) 16) (λ h.
     r : Record
     r = recordIn rec
 
-    report : Taken → Bool
-    report t = isEvent (t .report)
+    no-event : {t : Taken} → taken m c r ≡ t → isEvent (t .report) ≡ false → length rec ≡ 16
+    no-event u h = absurd (true≢false (sym e ∙ ap (λ (v : Taken). isEvent (v .report)) u ∙ h))
 
-    go : (length rec ≡ 16 → ⊥) → TakenCase m c r → isEvent (taken m c r .report) ≡ false
-    go h (no-rule w) = ap report (taken-13 m c r w)
-    go h (no-symbol w k) = ap report (taken-14 m c r w k)
-    go h (no-state w k l) = ap report (taken-15 m c r w k l)
-    go h (moves w k l) = absurd (lt-irrefl maxTotal (omega (arith, field-none rec 0 maxTotal h, well-formed-says m .0 w .few-states)))
+    go : TakenCase m c r → length rec ≡ 16
+    go (no-rule w) = no-event (taken-13 m c r w) refl
+    go (no-symbol w k) = no-event (taken-14 m c r w k) refl
+    go (no-state w k l) = no-event (taken-15 m c r w k l) refl
+    go (moves w k l) = state-length rec (m .states) l (well-formed-says m .0 w .few-states)
 
 -- the number and the bytes of an answer t that reports x, where u is what the definition has
 pub answered
@@ -127,3 +133,58 @@ pub answered-length
     : (rule : List ℕ) (s a f c : ℕ) (rec : List ℕ) (t : Taken) (x : Report) → t ≡ eventTaken rule s a f c rec → t .report ≡ x → isEvent x ≡ true
     → length rec ≡ 16
 answered-length rule s a f c rec t x e r h = event-length rule s a f c rec (ap (λ (v : Taken). isEvent (v .report)) (sym e) ∙ ap isEvent r ∙ h)
+
+-- an event is refused by nothing
+refused-none : (x : Report) → isEvent x ≡ true → refusedBy x ≡ 0
+refused-none Quiet e = refl
+refused-none Alarm e = refl
+refused-none (Refused k) e = absurd (true≢false (sym e))
+
+-- with a rule of 256 bytes, in each case of the event step
+refuses-case
+    : (rule : List ℕ) (s a f symbol : ℕ) (rec : List ℕ) → length rule ≡ 256 → TakenCase (automatonOf (tableOf rule) s a f) symbol (recordIn rec)
+    → refusedBy (taken (automatonOf (tableOf rule) s a f) symbol (recordIn rec) .report) ≡ refusalOf rule s a f symbol rec
+unfolding refusalOf
+refuses-case rule s a f symbol rec e (no-rule w) =
+    ap (λ (t : Taken). refusedBy (t .report)) (taken-13 _ symbol (recordIn rec) w) ∙ sym (simp (eq-eqb (length rule) 256 e, w))
+refuses-case rule s a f symbol rec e (no-symbol w h) =
+    ap (λ (t : Taken). refusedBy (t .report)) (taken-14 _ symbol (recordIn rec) w h)
+    ∙ sym (simp (eq-eqb (length rule) 256 e, w, le-ltb symbol a h))
+refuses-case rule s a f symbol rec e (no-state w h k) =
+    ap (λ (t : Taken). refusedBy (t .report)) (taken-15 _ symbol (recordIn rec) w h k)
+    ∙ sym
+    (by-cases (ℕ-discrete (length rec) 16)
+    (λ (g : length rec ≡ 16).
+    simp (eq-eqb (length rule) 256 e, w, lt-ltb symbol a h, eq-eqb (length rec) 16 g, le-ltb (numberAt 8 rec 0) s (rw (field-of rec 0 maxTotal g) at k)))
+    (λ g. simp (eq-eqb (length rule) 256 e, w, lt-ltb symbol a h, ne-eqb (length rec) 16 g)))
+refuses-case rule s a f symbol rec e (moves w h k) =
+    let m = automatonOf (tableOf rule) s a f in
+    let r = recordIn rec in
+    let q = next m (r .state) symbol in
+    let g : length rec ≡ 16 = state-length rec s k (well-formed-says m .0 w .few-states) in
+    ap (λ (t : Taken). refusedBy (t .report)) (taken-moved m symbol r q w h k refl)
+    ∙ refused-none (movedTo m q (r .alarms) .report) (moved-event m q (r .alarms))
+    ∙ sym
+    (simp (
+      eq-eqb (length rule) 256 e,
+      w,
+      lt-ltb symbol a h,
+      eq-eqb (length rec) 16 g,
+      lt-ltb (numberAt 8 rec 0) s (rw (field-of rec 0 maxTotal g) at k),
+    ))
+
+-- without 256 bytes
+refusal-no-rule : (rule : List ℕ) (s a f symbol : ℕ) (rec : List ℕ) → (length rule ≡ 256 → ⊥) → refusalOf rule s a f symbol rec ≡ 13
+unfolding refusalOf
+refusal-no-rule rule s a f symbol rec e = simp (ne-eqb (length rule) 256 e)
+
+-- the call refuses in order what its bytes say
+pub refuses-in-order : RefusesInOrder
+refuses-in-order rule s a f symbol rec =
+    by-cases (ℕ-discrete (length rule) 256)
+    (λ (e : length rule ≡ 256).
+    ap (λ (t : Taken). refusedBy (t .report)) (sym (event-taken rule s a f symbol rec (tableOf rule) e refl))
+    ∙ refuses-case rule s a f symbol rec e (taken-case (automatonOf (tableOf rule) s a f) symbol (recordIn rec)))
+    (λ e.
+    ap (λ (t : Taken). refusedBy (t .report)) (sym (event-no-rule rule s a f symbol rec e))
+    ∙ sym (refusal-no-rule rule s a f symbol rec e))

@@ -1,12 +1,13 @@
 -- The event step across the C call (document 01, "The job file": C-style calls on numbers and byte slices).
 -- Assumes nothing.
-use mathlib.Core.Bool.{cond}
+use mathlib.Core.Path.{_≡_}
+use mathlib.Core.Bool.{cond, _&&_}
 use mathlib.Core.List.{List, _++_}
 use Prim.Native.Nat.{ℕ, _+_, _^_}
-use lib.Dec.{eqb}
+use lib.Dec.{eqb, ltb}
 use lib.ListN.{length}
 use Rattle.laws.specs.Bytes.{numberAt, bytesOf}
-use Rattle.automaton.specs.Automaton.{Automaton, automatonOf}
+use Rattle.automaton.specs.Automaton.{Automaton, automatonOf, wellFormed}
 use Rattle.automaton.specs.Table.{tableOf}
 use Rattle.monitor.specs.Monitor.{recordOf, maxTotal, taken}
 use Rattle.monitor.specs.declared.step.Record.{Record}
@@ -50,3 +51,21 @@ leftBy (Refused k) old new = old
 
 abbrev pub recordLeft : List ℕ → Taken → List ℕ
 recordLeft old t = leftBy (t .report) old (recordBytes (t .state) (t .alarms))
+
+-- the refusals read off the bytes, 0 for none: 13, 14 and 15 in that order, a wrong length of the rule as 13 and of the record as 15
+unfoldable pub refusalOf : List ℕ → ℕ → ℕ → ℕ → ℕ → List ℕ → ℕ
+refusalOf rule s a f symbol rec =
+    cond (eqb (length rule) 256 && wellFormed (automatonOf (tableOf rule) s a f))
+    (cond (ltb symbol a) (cond (eqb (length rec) 16 && ltb (numberAt 8 rec 0) s) 0 15) 14)
+    13
+
+-- the number of a refusal, 0 for an event
+abbrev pub refusedBy : Report → ℕ
+refusedBy Quiet = 0
+refusedBy Alarm = 0
+refusedBy (Refused k) = k
+
+-- the statement: the call refuses what `refusalOf` says, and nothing else
+abbrev pub RefusesInOrder : Type 0
+RefusesInOrder =
+    (rule : List ℕ) (s a f symbol : ℕ) (rec : List ℕ) → refusedBy (eventTaken rule s a f symbol rec .report) ≡ refusalOf rule s a f symbol rec

@@ -1,3 +1,4 @@
 -- The calls open to C and Rust.
 -- Assumes nothing.
 pub mod Event
+pub mod Run

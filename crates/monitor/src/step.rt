@@ -66,7 +66,7 @@ pub fn step(
         if states <= state {
             return refuse(15, state, alarms);
         }
-        let moved = automaton::rule::next(table, state, symbol);
+        let moved = automaton::rule::next(&table, state, symbol);
         if automaton::rule::is_final(finals, moved) {
             return Taken {
                 state: moved,

@@ -1,4 +1,4 @@
--- `automaton::rule::next` meets its contract: the cell at the state's row and the symbol's column.
+-- `automaton::rule::next` meets its contract: the cell of the state and the symbol.
 -- Assumes nothing.
 use Rattle.automaton.specs.Automaton.{cell}
 use borrow.Author.Needs.{needs}

@@ -1,0 +1,137 @@
+//! The event step of the monitor, for Rust: a safe form of the C call in the proved static library.
+//! A refusal carries its number in document 01, "Turned back, by number".
+use std::{error, fmt};
+
+/// The C calls of the static library.
+mod ffi {
+    extern "C" {
+        /// `#[no_mangle] pub extern "C" fn dapohiru_event(rule: &[u8], states: u64, symbols: u64, finals: u64, symbol: u64, rec: &mut [u8]) -> u64`
+        pub fn dapohiru_event(
+            rule: *const u8,
+            rule_len: usize,
+            states: u64,
+            symbols: u64,
+            finals: u64,
+            symbol: u64,
+            rec: *mut u8,
+            rec_len: usize,
+        ) -> u64;
+    }
+}
+
+/// The number of an accepted event without an alarm.
+const QUIET: u64 = 1 << 48;
+/// The number of an accepted event with an alarm.
+const ALARM: u64 = QUIET + 1;
+
+/// What the monitor reports of an event that it takes.
+#[derive(Clone, Copy, Debug, PartialEq, Eq)]
+pub enum Report {
+    /// The state moved to is not final.
+    Quiet,
+    /// The state moved to is final.
+    Alarm,
+}
+
+/// The number of a refusal: 13 for the rule, 14 for the symbol, 15 for the record.
+#[derive(Clone, Copy, Debug, PartialEq, Eq)]
+pub struct Refusal(pub u64);
+
+impl fmt::Display for Refusal {
+    fn fmt(&self, f: &mut fmt::Formatter<'_>) -> fmt::Result {
+        write!(f, "refused {}", self.0)
+    }
+}
+
+impl error::Error for Refusal {}
+
+/// Takes one event: moves the record to the next state, and raises its alarm total at an alarm.
+///
+/// `rule` is 256 bytes, sixteen rows of sixteen next states. `record` is 16 bytes, the state and
+/// then the alarm total, each with its lowest byte first. A refusal leaves `record` as it was.
+#[inline]
+pub fn event(
+    rule: &[u8],
+    states: u64,
+    symbols: u64,
+    finals: u64,
+    symbol: u64,
+    record: &mut [u8],
+) -> Result<Report, Refusal> {
+    // SAFETY: each pointer and length are of one slice, `rule` is only read, and nothing else holds
+    // `record` during the call.
+    let number = unsafe {
+        ffi::dapohiru_event(
+            rule.as_ptr(),
+            rule.len(),
+            states,
+            symbols,
+            finals,
+            symbol,
+            record.as_mut_ptr(),
+            record.len(),
+        )
+    };
+    match number {
+        QUIET => Ok(Report::Quiet),
+        ALARM => Ok(Report::Alarm),
+        13..=15 => Err(Refusal(number)),
+        _ => unreachable!("dapohiru_event returned {number}, which is none of its answers"),
+    }
+}
+
+/// A rule: states 0 to `states` - 1, symbols 0 to `symbols` - 1.
+#[derive(Clone, Debug, PartialEq, Eq)]
+pub struct Rule {
+    /// The next state of state q on symbol a, at 16 q + a; other places have no meaning.
+    pub table: [u8; 256],
+    /// How many states there are, 1 to 16.
+    pub states: u64,
+    /// How many symbols there are, 1 to 16.
+    pub symbols: u64,
+    /// The set of final states: bit q stands for state q.
+    pub finals: u64,
+}
+
+impl Rule {
+    /// Takes one event on `record`. A refusal leaves `record` as it was.
+    pub fn event(&self, symbol: u64, record: &mut Record) -> Result<Report, Refusal> {
+        let mut bytes = record.to_bytes();
+        let report = event(
+            &self.table,
+            self.states,
+            self.symbols,
+            self.finals,
+            symbol,
+            &mut bytes,
+        )?;
+        *record = Record::from_bytes(bytes);
+        Ok(report)
+    }
+}
+
+/// A running monitor.
+#[derive(Clone, Copy, Debug, Default, PartialEq, Eq)]
+pub struct Record {
+    /// The state that the monitor is in.
+    pub state: u64,
+    /// The alarms so far; the total stays at 2^64-1 once there.
+    pub alarms: u64,
+}
+
+impl Record {
+    /// The sixteen bytes of the C call: the state, then the alarm total, each with its lowest byte first.
+    pub fn to_bytes(self) -> [u8; 16] {
+        let both = u128::from(self.alarms) << 64 | u128::from(self.state);
+        both.to_le_bytes()
+    }
+
+    /// The record that has these sixteen bytes.
+    pub fn from_bytes(bytes: [u8; 16]) -> Self {
+        let both = u128::from_le_bytes(bytes);
+        Record {
+            state: both as u64,
+            alarms: (both >> 64) as u64,
+        }
+    }
+}
