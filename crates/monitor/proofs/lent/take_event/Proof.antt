@@ -24,14 +24,13 @@ use types.Part.{whole, sub, look-in, store-in}
 use types.SemTy.{Body}
 use sound.WpLaws.{FmC, fmOf, WpFn-mono}
 use denote.RattleType.{RattleType, Denots, Valss, flat, owns}
-use denote.Laws.{Is, Ises, Makes, Makess, Lawful, shows, owns-make}
+use denote.Laws.{Is, Ises, Makes, Makess, shows, owns-make}
 use denote.Memory.{mem}
-use denote.Plain.{uint-vals, uint-tells, uint-makes, uint-lawful}
+use denote.Plain.{uint-vals, uint-tells, uint-makes}
 use denote.Builtin.{u8, u64}
-use denote.Array.{Array, array-vals, array-tells, array-lawful, array-makes}
+use denote.Array.{Array, array-vals, array-tells}
 use denote.Ref.{MutRef, ptr-vals, mut-tells}
-use denote.Signature.{Slot, plain}
-use denote.Signature.Array.{arrayOf}
+use denote.Signature.{plain}
 use denote.Steps.{only, opens, closes, owned, facts, heard, nothing}
 use denote.Struct.Steps.{spelt}
 use denote.Struct.Laws as LL
@@ -58,39 +57,20 @@ use Rattle.monitor.proofs.step.step as step
 use Rattle.monitor.proofs.step.step.Symbol as step-def
 use Rattle.monitor.proofs.step.step.Symbol.{name as #monitor·step·step}
 use Rattle.monitor.proofs.step.step.Met as step-thm
+use Rattle.monitor.proofs.MachineValues.{Table, table-vals, tableSlot, numberSlot, state-fits, alarms-fits, table-lawful, table-makes}
 use Rattle.monitor.proofs.lent.take_event.Key.{name as #monitor·lent·take-event}
 use Rattle.monitor.proofs.lent.take_event as f
 use Rattle.monitor.proofs.lent.take_event.Statement as stated
 use Rattle.monitor.proofs.lent.take_event.Code as code
 
--- the table's type, and a table's machine value
-abbrev Table : RattleType
-Table = Array (Array u8 16) 16
-
-abbrev table-vals : List (List ℕ) → List Val
-table-vals = array-vals (array-vals (uint-vals w8))
-
--- the slots of the plain parameters, of which nothing is had at exit
-abbrev TableS : Slot 1
-TableS = arrayOf (arrayOf (plain (λ _. u8)) 16) 16
-
-abbrev NumberS : Slot 1
-NumberS = plain (λ _. u64)
-
 abbrev stayed : Stays (f.ended .signature .params) (f.ended .kept)
-stayed = (stay-ref (0 ∷ []) tt (plain (λ _. T.the-row)), (stay-dropped TableS yes, (stay-dropped NumberS yes, (stay-dropped NumberS yes, (stay-dropped NumberS yes, (stay-dropped NumberS yes, tt))))))
+stayed = (stay-ref (0 ∷ []) tt (plain (λ _. T.the-row)), (stay-dropped (tableSlot 1) yes, (stay-dropped (numberSlot 1) yes, (stay-dropped (numberSlot 1) yes, (stay-dropped (numberSlot 1) yes, (stay-dropped (numberSlot 1) yes, tt))))))
 
 -- the types of what `step` takes
 abbrev Asked : List RattleType
 Asked = Table ∷ u64 ∷ u64 ∷ u64 ∷ u64 ∷ u64 ∷ u64 ∷ []
 
--- a record's and a `Taken`'s numbers fit their width, and a `Taken`'s report is lowered as its own type says
-state-fits : (h : Record) (vs : List Val) → Is T.the-row h vs → h .state < 2 ^ 64
-state-fits h vs is = LL.owed T.the-type T′.the-laws h vs is .0 .1
-
-alarms-fits : (h : Record) (vs : List Val) → Is T.the-row h vs → h .alarms < 2 ^ 64
-alarms-fits h vs is = LL.owed T.the-type T′.the-laws h vs is .1 .0 .1
-
+-- a `Taken`'s numbers fit their width, and its report is lowered as its own type says
 new-state-fits : (k : Taken) (vs : List Val) → Is K.the-row k vs → k .state < 2 ^ 64
 new-state-fits k vs is = LL.owed K.the-type K′.the-laws k vs is .0 .1
 
@@ -108,14 +88,11 @@ left-is : (k : Taken) (vs : List Val) → Is K.the-row k vs → Is T.the-row (le
 left-is k vs is = LL.owes T.the-type T′.the-laws (left k) ((refl, new-state-fits k vs is), ((refl, new-alarms-fits k vs is), tt))
 
 module _ {M : Type 1} (𝓤 : URA M) (H : Heap 𝓤) (A : Atoms 𝓤) (W : Given 𝓤 H A) where
-  -- a table has its MIR type, and what is owned of plain values is had for nothing
-  table-lawful : Lawful 𝓤 H A Table
-  table-lawful = array-lawful 𝓤 H A W (Array u8 16) (array-lawful 𝓤 H A W u8 (uint-lawful 𝓤 H A W w8) 16) 16
-
+  -- what is owned of plain values is had for nothing
   asked-makes : Makess 𝓤 H A Asked (Ises Asked)
   asked-makes =
       let number : Makes 𝓤 H A u64 (Is u64) = uint-makes 𝓤 H A W w64 in
-      (array-makes 𝓤 H A W (Array u8 16) (array-makes 𝓤 H A W u8 (uint-makes 𝓤 H A W w8) 16) 16, (number, (number, (number, (number, (number, (number, tt)))))))
+      (table-makes 𝓤 H A W, (number, (number, (number, (number, (number, (number, tt)))))))
 
 -- the contract that the proof cites
 abbrev Step : {M : Type 1} (𝓤 : URA M) (H : Heap 𝓤) (A : Atoms 𝓤) (at-mem : Memory → SProp 𝓤) (run : Routine → Fun 𝓤) → Contract 𝓤
@@ -216,11 +193,11 @@ module _ {M : Type 1} (𝓤 : URA M) (H : Heap 𝓤) (A : Atoms 𝓤) (W : Given
       (are .1 .0) (are .1 .1 .0 .1) (are .1 .1 .1 .0 .1) (are .1 .1 .1 .1 .0 .1) (are .1 .1 .1 .1 .1 .0 .1) C Λ fm known))
 
   -- what is had of each parameter at exit gives what the contract says of it
-  goes-number : Goes 𝓤 H A W 1 NumberS yes (stay-dropped NumberS yes)
-  goes-number = goes-dropped 𝓤 H A W 1 NumberS yes (λ κs x f. refl)
+  goes-number : Goes 𝓤 H A W 1 (numberSlot 1) yes (stay-dropped (numberSlot 1) yes)
+  goes-number = goes-dropped 𝓤 H A W 1 (numberSlot 1) yes (λ κs x f. refl)
 
   goes : AllGo 𝓤 H A W 1 (f.signature .params) (f.ended .kept) stayed
-  goes = (goes-ref 𝓤 H A W 1 0 tt (plain (λ _. T.the-row)), (goes-dropped 𝓤 H A W 1 TableS yes (λ κs x f. refl), (goes-number, (goes-number, (goes-number, (goes-number, tt))))))
+  goes = (goes-ref 𝓤 H A W 1 0 tt (plain (λ _. T.the-row)), (goes-dropped 𝓤 H A W 1 (tableSlot 1) yes (λ κs x f. refl), (goes-number, (goes-number, (goes-number, (goes-number, tt))))))
 
 -- so the MIR meets the contract
 take-event-meets : {M : Type 1} (𝓤 : URA M) (H : Heap 𝓤) (A : Atoms 𝓤) → Given 𝓤 H A → (at-mem : Memory → SProp 𝓤) (run : Routine → Fun 𝓤) (𝓣 : Tables 𝓤 H) → Triple 𝓤 (𝓣 .C #monitor·step·step) (Step 𝓤 H A at-mem run)

@@ -25,15 +25,14 @@ use types.SemTy.{Body}
 use types.Tokens.{lft-new, lft-end}
 use sound.WpLaws.{FmC, fmOf, WpFn-mono}
 use denote.RattleType.{RattleType, Denots, Valss, flat, owns}
-use denote.Laws.{Is, Ises, Makes, Makess, Lawful, shows, owns-make}
+use denote.Laws.{Is, Ises, Makes, Makess, shows, owns-make}
 use denote.Memory.{mem, cellAt, partOf}
 use denote.Lend.{lends-ref, ref-back}
-use denote.Plain.{uint-vals, uint-tells, uint-makes, uint-lawful}
+use denote.Plain.{uint-vals, uint-tells, uint-makes}
 use denote.Builtin.{u8, u64}
-use denote.Array.{Array, array-vals, array-tells, array-lawful, array-makes}
+use denote.Array.{Array, array-vals, array-tells}
 use denote.Ref.{RefT, MutRef}
-use denote.Signature.{Slot, plain}
-use denote.Signature.Array.{arrayOf}
+use denote.Signature.{plain}
 use denote.Steps.{only, owned, facts, heard, nothing}
 use denote.Struct.Steps.{spelt}
 use denote.Struct.Laws as LL
@@ -60,38 +59,18 @@ use Rattle.monitor.proofs.lent.take_event as take-event
 use Rattle.monitor.proofs.lent.take_event.Symbol as take-event-def
 use Rattle.monitor.proofs.lent.take_event.Symbol.{name as #monitor·lent·take-event}
 use Rattle.monitor.proofs.lent.take_event.Met as take-event-thm
+use Rattle.monitor.proofs.MachineValues.{Table, table-vals, tableSlot, numberSlot, state-fits, alarms-fits, table-lawful, table-makes}
 use Rattle.monitor.proofs.lent.take_event_on.Key.{name as #monitor·lent·take-event-on}
 use Rattle.monitor.proofs.lent.take_event_on as f
 use Rattle.monitor.proofs.lent.take_event_on.Statement as stated
 use Rattle.monitor.proofs.lent.take_event_on.Code as code
 
--- the table's type, and a table's machine value
-abbrev Table : RattleType
-Table = Array (Array u8 16) 16
-
-abbrev table-vals : List (List ℕ) → List Val
-table-vals = array-vals (array-vals (uint-vals w8))
-
--- the slots of the parameters, of which nothing is had at exit
-abbrev TableS : Slot 0
-TableS = arrayOf (arrayOf (plain (λ _. u8)) 16) 16
-
-abbrev NumberS : Slot 0
-NumberS = plain (λ _. u64)
-
 abbrev stayed : Stays (f.ended .signature .params) (f.ended .kept)
-stayed = (stay-dropped TableS yes, (stay-dropped NumberS yes, (stay-dropped NumberS yes, (stay-dropped NumberS yes, (stay-dropped NumberS yes, (stay-dropped NumberS yes, (stay-dropped NumberS yes, tt)))))))
+stayed = (stay-dropped (tableSlot 0) yes, (stay-dropped (numberSlot 0) yes, (stay-dropped (numberSlot 0) yes, (stay-dropped (numberSlot 0) yes, (stay-dropped (numberSlot 0) yes, (stay-dropped (numberSlot 0) yes, (stay-dropped (numberSlot 0) yes, tt)))))))
 
 -- the types of what `take_event` takes beside the reference
 abbrev Asked : List RattleType
 Asked = Table ∷ u64 ∷ u64 ∷ u64 ∷ u64 ∷ []
-
--- a record's numbers fit their width
-state-fits : (h : Record) (vs : List Val) → Is T.the-row h vs → h .state < 2 ^ 64
-state-fits h vs is = LL.owed T.the-type T′.the-laws h vs is .0 .1
-
-alarms-fits : (h : Record) (vs : List Val) → Is T.the-row h vs → h .alarms < 2 ^ 64
-alarms-fits h vs is = LL.owed T.the-type T′.the-laws h vs is .1 .0 .1
 
 -- a record and a report make a `Taken`
 made : (h : Record) (p : Report) (vs : List Val) → Is T.the-row h (T′.lowered h ∷ []) → Is P.the-row p vs → Is K.the-row (reported h p) (K′.lowered (reported h p) ∷ [])
@@ -101,14 +80,11 @@ made h p vs h-is p-is =
     subst (Is K.the-row (reported h p)) (K′.lowers .val-is (reported h p) _ g) g
 
 module _ {M : Type 1} (𝓤 : URA M) (H : Heap 𝓤) (A : Atoms 𝓤) (W : Given 𝓤 H A) where
-  -- a table has its MIR type, and what is owned of plain values is had for nothing
-  table-lawful : Lawful 𝓤 H A Table
-  table-lawful = array-lawful 𝓤 H A W (Array u8 16) (array-lawful 𝓤 H A W u8 (uint-lawful 𝓤 H A W w8) 16) 16
-
+  -- what is owned of plain values is had for nothing
   asked-makes : Makess 𝓤 H A Asked (Ises Asked)
   asked-makes =
       let number : Makes 𝓤 H A u64 (Is u64) = uint-makes 𝓤 H A W w64 in
-      (array-makes 𝓤 H A W (Array u8 16) (array-makes 𝓤 H A W u8 (uint-makes 𝓤 H A W w8) 16) 16, (number, (number, (number, (number, tt)))))
+      (table-makes 𝓤 H A W, (number, (number, (number, (number, tt)))))
 
   -- a local that holds a record, as memory that can be lent, and such memory as the local again
   lies : (l : ℕ) (h : Record) → Is T.the-row h (T′.lowered h ∷ []) → ent 𝓤 (sem 𝓤 H A (fat fullShare T′.mir l 0 (T′.lowered h))) (sem 𝓤 H A (mem T.the-row .lies h l 0))
@@ -234,11 +210,11 @@ module _ {M : Type 1} (𝓤 : URA M) (H : Heap 𝓤) (A : Atoms 𝓤) (W : Given
       (are .0) (are .1 .0 .1) (are .1 .1 .0 .1) (are .1 .1 .1 .0 .1) (are .1 .1 .1 .1 .0 .1) (are .1 .1 .1 .1 .1 .0 .1) (are .1 .1 .1 .1 .1 .1 .0 .1) C Λ fm known))
 
   -- nothing is had of a parameter at exit, and the contract says nothing of it
-  goes-number : Goes 𝓤 H A W 0 NumberS yes (stay-dropped NumberS yes)
-  goes-number = goes-dropped 𝓤 H A W 0 NumberS yes (λ κs x f. refl)
+  goes-number : Goes 𝓤 H A W 0 (numberSlot 0) yes (stay-dropped (numberSlot 0) yes)
+  goes-number = goes-dropped 𝓤 H A W 0 (numberSlot 0) yes (λ κs x f. refl)
 
   goes : AllGo 𝓤 H A W 0 (f.signature .params) (f.ended .kept) stayed
-  goes = (goes-dropped 𝓤 H A W 0 TableS yes (λ κs x f. refl), (goes-number, (goes-number, (goes-number, (goes-number, (goes-number, (goes-number, tt)))))))
+  goes = (goes-dropped 𝓤 H A W 0 (tableSlot 0) yes (λ κs x f. refl), (goes-number, (goes-number, (goes-number, (goes-number, (goes-number, (goes-number, tt)))))))
 
 -- so the MIR meets the contract
 take-event-on-meets : {M : Type 1} (𝓤 : URA M) (H : Heap 𝓤) (A : Atoms 𝓤) → Given 𝓤 H A → (at-mem : Memory → SProp 𝓤) (run : Routine → Fun 𝓤) (𝓣 : Tables 𝓤 H) → Triple 𝓤 (𝓣 .C #monitor·lent·take-event) (TakeEvent 𝓤 H A at-mem run)
