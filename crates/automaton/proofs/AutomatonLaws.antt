@@ -1,19 +1,17 @@
 -- Laws of a rule: what its test says, and that cells past S or A are not looked at.
 -- Assumes nothing.
-use mathlib.Core.Path.{_≡_, refl, sym, ap, _∙_, subst}
+use mathlib.Core.Path.{_≡_, sym, ap, _∙_}
 use mathlib.Core.Logic.{_↔_}
-use mathlib.Core.Bool.{Bool, true, false, _&&_, and-eq-true-iff}
-use mathlib.Core.List.{List, []}
+use mathlib.Core.Bool.{true, false, and-eq-true-iff}
+use mathlib.Core.List.{List}
 use Prim.Native.Nat.{ℕ, _^_, _<_, _≤_}
 use native.Mathlib.Omega.{arith}
-use lib.Dec.{ltb, leb}
 use borrow.Author.Tests.{ltb-true, leb-true, lt-ltb, le-ltb, le-leb}
-use Rattle.laws.specs.Bounded.{allBelow}
 use Rattle.laws.specs.Bits.{has}
-use Rattle.laws.proofs.Bounded.{all-at, all-of, all-fails, all-cong}
+use Rattle.laws.proofs.Bounded.{all-at, all-of, all-fails}
 use Rattle.laws.proofs.Bits.{below-says}
 use Rattle.laws.proofs.Tests.{fails-of, test-ext}
-use Rattle.automaton.specs.Automaton.{Automaton, automatonOf, cell, cellBelow, cellsBelow, next, final, withinLimits, wellFormed, WellFormed, SameRule}
+use Rattle.automaton.specs.Automaton.{Automaton, automatonOf, cell, cellBelow, cellsBelow, wellFormed, WellFormed, SameRule}
 
 -- one next state of s or more in the part is enough
 pub cell-fails : (t : List (List ℕ)) (s a q c : ℕ) → q < s → c < a → cellBelow t s q c ≡ false → cellsBelow t s a ≡ false

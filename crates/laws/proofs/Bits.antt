@@ -3,7 +3,7 @@
 use Prim.Native.Nat.{ℕ, zero, suc, _+_, _*_, _/_, _%_, _^_, _≤_, _<_, min, max}
 use mathlib.Core.Path.{_≡_, refl, sym, ap, subst, _∙_}
 use mathlib.Core.Logic.{_≢_, _↔_, ⊎-elim, by-cases}
-use mathlib.Core.Bool.{Bool, true, false, _&&_, _||_, true≢false, or-true, or-false}
+use mathlib.Core.Bool.{Bool, true, false, _&&_, _||_, true≢false, or-true, or-false, and-false}
 use native.Mathlib.Nat.{le-of-suc-le-suc, not-suc-le-zero, lt-of-lt-of-le, lt-of-not-le, le-add-right, le-add-left}
 use native.Mathlib.Nat.{one-mul, pow-suc, mod-lt, mod-eq-of-lt, div-one, div-self, zero-div, div-eq-of-lt, div-lt-iff-lt-mul}
 use native.Mathlib.Numerals.{add-one, one-add}
@@ -11,7 +11,7 @@ use native.Mathlib.Decide.{ℕ-discrete, decLt}
 use native.Mathlib.Omega.{arith}
 use lib.Dec.{eqb, lit<}
 use lib.Pow.{pow-pos, pow-mono, pow-lt, shl-shr, shr-shr, shr-lt, field, mod-mod-pow}
-use lib.Bits.{bitOr, bitAnd, or-step, and-step, or-shr, and-shr, or-lt, shifted-half, shifted-even}
+use lib.Bits.{bitOr, bitAnd, or-step, and-step, or-shr, and-shr, or-lt, or-disjoint, shifted-half, shifted-even}
 use borrow.Author.Tests.{eq-eqb, ne-eqb, eqb-true, eqb-false}
 use Rattle.laws.specs.Bits.{bit, has, with}
 use Rattle.laws.proofs.Tests.{fails-of, passes-or-fails}
@@ -226,3 +226,14 @@ below-says n s = (λ l i. has-below n s i l, members-below n s)
 pub shr-zero-says : (n s : ℕ) → (s / 2 ^ n ≡ 0) ↔ (s < 2 ^ n)
 shr-zero-says n s =
     (λ e. rw one-mul at (div-lt-iff-lt-mul {x = s} {y = 1} (pow-pos n) .0 (omega arith)), div-eq-of-lt)
+
+-- the members of a set to which a power is added that it does not hold
+pub has-add : (s k i : ℕ) → has s k ≡ false → has (s + 2 ^ k) i ≡ (has s i || eqb i k)
+has-add s k i h = rw (← or-disjoint s (2 ^ k) (same-set (bitAnd s (2 ^ k)) 0 none)) (has-with s k i)
+  where
+    none : (n : ℕ) → has (bitAnd s (2 ^ k)) n ≡ has 0 n
+    none n =
+        has-and s (2 ^ k) n ∙ ap (λ (b : Bool). has s n && b) (has-pow k n)
+        ∙ by-cases (ℕ-discrete n k)
+        (λ (e : n ≡ k). rw (e, h, has-empty k))
+        (λ (ne : n ≢ k). rw (ne-eqb n k ne, has-empty n) (and-false (has s n)))

@@ -2,7 +2,7 @@
 -- Assumes nothing.
 use mathlib.Core.Path.{_≡_, refl, sym}
 use mathlib.Core.Logic.{_⊎_, inl, inr}
-use mathlib.Core.Bool.{Bool, true, false, _&&_, _||_, false≢true}
+use mathlib.Core.Bool.{Bool, true, false, not, _&&_, _||_, true≢false, false≢true}
 
 -- a test that does not pass fails
 pub fails-of : (a : Bool) → (a ≡ true → ⊥) → a ≡ false
@@ -44,3 +44,15 @@ or-right false b p = p
 pub or-fails : (a b : Bool) → a ≡ false → b ≡ false → (a || b) ≡ false
 or-fails true b p q = p
 or-fails false b p q = q
+
+-- a test is not its own contrary
+pub not-own : (a : Bool) → a ≡ not a → ⊥
+not-own true e = true≢false e
+not-own false e = false≢true e
+
+-- two tests are the same or contrary
+pub same-or-contrary : (a b : Bool) → (a ≡ b) ⊎ (a ≡ not b)
+same-or-contrary true true = inl refl
+same-or-contrary true false = inr refl
+same-or-contrary false true = inr refl
+same-or-contrary false false = inl refl

@@ -7,7 +7,6 @@ use Prim.Native.Nat.{ℕ, _+_, _<_, _≤_}
 use native.Mathlib.Nat.{lt-of-not-le}
 use native.Mathlib.Decide.{decLe}
 use native.Mathlib.Omega.{arith}
-use lib.Dec.{ltb}
 use borrow.Author.Tests.{lt-ltb, le-ltb}
 use Rattle.laws.specs.Bits.{has}
 use Rattle.laws.proofs.Tests.{passes-or-fails}
@@ -17,7 +16,7 @@ use Rattle.monitor.specs.Monitor.{recordOf, reported, maxTotal, raised, 
 use Rattle.monitor.specs.declared.step.Record.{Record}
 use Rattle.monitor.specs.Run.{isEvent}
 use Rattle.monitor.specs.declared.step.Taken.{Taken}
-use Rattle.monitor.specs.declared.step.Report.the-variants.{Quiet, Alarm, Refused}
+use Rattle.monitor.specs.declared.step.Report.the-variants.{Quiet, Alarm}
 
 -- below the ceiling the total rises, at the ceiling it stays
 pub raised-rises : (n : ℕ) → n < maxTotal → raised n ≡ n + 1

@@ -1,10 +1,10 @@
 -- Refused calls stand apart from the events of a run, for any form of the call under which a refusal leaves the record.
 -- Assumes nothing.
-use mathlib.Core.Path.{_≡_, refl, sym, ap, _∙_}
+use mathlib.Core.Path.{_≡_, refl, ap, _∙_}
 use mathlib.Core.Bool.{Bool, true, false}
 use mathlib.Core.List.{List, [], _∷_}
 use Rattle.monitor.proofs.MonitorLaws.{refusal-keeps}
-use Rattle.monitor.specs.Run.{Form, isEvent, Seen, Placed, here, elsewhere, consIf, seen, run, eventsOf, seenAtEvents, RefusedStandApart, recordForm}
+use Rattle.monitor.specs.Run.{Form, isEvent, Seen, here, elsewhere, consIf, seen, run, eventsOf, seenAtEvents, RefusedStandApart, recordForm}
 
 -- a refusal leaves the record
 abbrev pub RefusalKeeps : Form → Type 0

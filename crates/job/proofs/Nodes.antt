@@ -1,0 +1,307 @@
+-- The rules node by node, for a search that has one set of pairs for each node.
+-- Forwards, the set of an event node holds the pairs before it; any other node is entered silently, and its set holds the pairs past it.
+-- Backwards, every set holds pairs past its node. The word after an exit has no set of its own.
+-- Assumes nothing.
+use mathlib.Core.Path.{_≡_, refl}
+use mathlib.Core.Logic.{_⊎_, inl, inr, ⊎-elim}
+use mathlib.Core.Bool.{true, not}
+use Prim.Native.Nat.{ℕ}
+use native.Mathlib.Omega.{arith}
+use Rattle.laws.specs.Bits.{has}
+use Rattle.automaton.specs.Automaton.{Automaton, next, final}
+use Rattle.job.specs.Job.{Kind, plain, event, call, Job, nodeAt, leads, WellFormedJob}
+use Rattle.job.specs.Walk.{Event, shadow, Place, before, past, ended, Silent, pass-plain, begin-word, take-edge, begin-after}
+use Rattle.job.specs.Walk.{Told, report, call-word, after-word}
+use Rattle.job.specs.Plan.{Enabling, stateAt, alarmAt}
+use Rattle.job.proofs.Pairs.{Pairs, Pair, begins, moves, tells, Admitted, admitted, Kept, Invariant}
+use Rattle.job.proofs.Pairs.{told-splits, ApartAt, apart-now, apart-moved, apart-told, Backwards}
+use Rattle.job.proofs.Bounds.{Within, pair-within}
+use Rattle.job.proofs.Rules.{at-admitted}
+
+-- a set of pairs for each node
+abbrev pub Table : Type 1
+Table = ℕ → ℕ → ℕ → Type 0
+
+-- ---- kinds of node
+
+-- the kind of a node that has no event of its own: such a node is entered silently
+abbrev pub NoEvent : Kind → Type 0
+NoEvent k = (a : ℕ) → k ≡ event a → ⊥
+
+-- a plain node has none
+pub plain-no-event : {k : Kind} → k ≡ plain → NoEvent k
+plain-no-event e a f = let z : _≡_ {A = ℕ} 0 1 = cc in omega arith
+
+-- nor has a call
+pub call-no-event : {k : Kind} {set : ℕ} → k ≡ call set → NoEvent k
+call-no-event e a f = let z : _≡_ {A = ℕ} 0 1 = cc in omega arith
+
+-- a node has an event of its own or none
+pub event-or-none : (k : Kind) → ((a : ℕ) × (k ≡ event a)) ⊎ NoEvent k
+event-or-none plain = inr (plain-no-event refl)
+event-or-none (event a) = inl (a, refl)
+event-or-none (call set) = inr (call-no-event refl)
+
+-- a node with none is passed silently
+pub enters : {j : Job} (n : ℕ) → NoEvent (nodeAt j n .kind) → Silent j (before n) (past n)
+enters {j} n s = go (nodeAt j n .kind) refl
+  where
+    go : (k : Kind) → nodeAt j n .kind ≡ k → Silent j (before n) (past n)
+    go plain e = pass-plain e
+    go (event a) e = absurd (s a e)
+    go (call set) e = begin-word e
+
+-- ---- forwards: what a table stands for
+
+-- the pairs past a node
+pub data PastNode (j : Job) (v w : Enabling) (H : Table) (n : ℕ) : ℕ → ℕ → Type 0 where
+  -- a node with no event of its own holds them
+  past-silent : {p q : ℕ} → NoEvent (nodeAt j n .kind) → H n p q → PastNode j v w H n p q
+  -- an event node's own event leads to them
+  past-event
+      : {a p q : ℕ} → nodeAt j n .kind ≡ event a → H n p q
+      → PastNode j v w H n (stateAt (j .rule) v p (shadow n a)) (stateAt (j .rule) w q (shadow n a))
+
+-- the pairs that a word over a set leads to from given ones
+pub data Spelt (m : Automaton) (set : ℕ) (P : ℕ → ℕ → Type 0) : ℕ → ℕ → Type 0 where
+  -- the empty word
+  no-word : {p q : ℕ} → P p q → Spelt m set P p q
+  -- a word and one symbol more
+  one-more : (a : ℕ) {p q : ℕ} → has set a ≡ true → Spelt m set P p q → Spelt m set P (next m p a) (next m q a)
+
+-- the pairs at all places
+abbrev pub placesOf : Job → Enabling → Enabling → Table → Pairs
+placesOf j v w H (before n) p q = H n p q
+placesOf j v w H (past n) p q = PastNode j v w H n p q
+placesOf j v w H (ended n) p q = Spelt (j .rule) (nodeAt j n .after) (PastNode j v w H n) p q
+
+-- what holds in the set of a node holds past it
+pub past-map
+    : {j : Job} {v w : Enabling} {H K : Table} {n p q : ℕ} → ((k l : ℕ) → H n k l → K n k l) → PastNode j v w H n p q → PastNode j v w K n p q
+past-map f (past-silent {p = p} {q = q} s h) = past-silent s (f p q h)
+past-map f (past-event {p = p} {q = q} e h) = past-event e (f p q h)
+
+-- what holds of some pairs holds of those that words lead to from them
+pub spelt-map
+    : {m : Automaton} {set p q : ℕ} {P Q : ℕ → ℕ → Type 0} → ((k l : ℕ) → P k l → Q k l) → Spelt m set P p q → Spelt m set Q p q
+spelt-map f (no-word {p = p} {q = q} h) = no-word (f p q h)
+spelt-map f (one-more a m h) = one-more a m (spelt-map f h)
+
+-- past a node with no event of its own there is what its set holds
+pub past-at-silent : {j : Job} {v w : Enabling} {H : Table} {n p q : ℕ} → NoEvent (nodeAt j n .kind) → PastNode j v w H n p q → H n p q
+past-at-silent s (past-silent t h) = h
+past-at-silent s (past-event {a = a} e h) = absurd (s a e)
+
+-- ---- forwards: reached pairs
+
+-- a pair in the set of a node that some walk reaches
+pub data PairAt (j : Job) (v w : Enabling) (n p q : ℕ) : Type 0 where
+  -- past a node with no event of its own
+  pair-silent : NoEvent (nodeAt j n .kind) → Pair j v w (Admitted j) (past n) p q → PairAt j v w n p q
+  -- before an event node
+  pair-event : {a : ℕ} → nodeAt j n .kind ≡ event a → Pair j v w (Admitted j) (before n) p q → PairAt j v w n p q
+
+module _ {j : Job} {v w : Enabling} where
+  -- a pair that is reached before a node is in its set
+  pub pair-enters : {n p q : ℕ} → Pair j v w (Admitted j) (before n) p q → PairAt j v w n p q
+  pair-enters {n} {p} {q} r =
+      ⊎-elim
+      (λ (e : (a : ℕ) × (nodeAt j n .kind ≡ event a)). pair-event (e .1) r)
+      (λ (s : NoEvent (nodeAt j n .kind)). pair-silent s (moves r (enters n s)))
+      (event-or-none (nodeAt j n .kind))
+
+  -- the set of an event node holds what is reached before it
+  pub pair-at-event : {n a p q : ℕ} → nodeAt j n .kind ≡ event a → PairAt j v w n p q → Pair j v w (Admitted j) (before n) p q
+  pair-at-event {a = a} e (pair-silent s r) = absurd (s a e)
+  pair-at-event e (pair-event f r) = r
+
+  -- that of any other node holds what is reached past it
+  pub pair-at-silent : {n p q : ℕ} → NoEvent (nodeAt j n .kind) → PairAt j v w n p q → Pair j v w (Admitted j) (past n) p q
+  pair-at-silent s (pair-silent t r) = r
+  pair-at-silent s (pair-event {a = a} e r) = absurd (s a e)
+
+  -- what is past a node is reached
+  pub past-pair : {n p q : ℕ} → PastNode j v w (PairAt j v w) n p q → Pair j v w (Admitted j) (past n) p q
+  past-pair (past-silent s h) = pair-at-silent s h
+  past-pair (past-event e h) = tells (pair-at-event e h) (report e)
+
+  -- so is what the words after an exit lead to
+  pub spelt-pair
+      : {n p q : ℕ} → nodeAt j n .exit ≡ true → Spelt (j .rule) (nodeAt j n .after) (PastNode j v w (PairAt j v w) n) p q
+      → Pair j v w (Admitted j) (ended n) p q
+  spelt-pair e (no-word h) = moves (past-pair h) (begin-after e)
+  spelt-pair e (one-more a m h) = tells (spelt-pair e h) (after-word e m)
+
+  -- a start is in the set of its node
+  pub pair-at-start : {n q : ℕ} → has (nodeAt j n .entry) q ≡ true → PairAt j v w n q q
+  pair-at-start h = pair-enters (begins (admitted h))
+
+  -- what an edge leads to is in the set there
+  pub pair-at-edge : {m n p q : ℕ} → PastNode j v w (PairAt j v w) m p q → leads j m n ≡ true → PairAt j v w n p q
+  pair-at-edge h l = pair-enters (moves (past-pair h) (take-edge l))
+
+  -- what a symbol of a call word leads to is in the set of the call
+  pub pair-at-word
+      : (a : ℕ) {n set p q : ℕ} → nodeAt j n .kind ≡ call set → has set a ≡ true → PairAt j v w n p q
+      → PairAt j v w n (next (j .rule) p a) (next (j .rule) q a)
+  pair-at-word a e m h = pair-silent (call-no-event e) (tells (pair-at-silent (call-no-event e) h) (call-word e m))
+
+  -- a reached pair is of the job
+  pub pair-at-within : {n p q : ℕ} → WellFormedJob j → PairAt j v w n p q → Within j (before n) p q
+  pair-at-within wf (pair-silent s r) = let b = pair-within wf r in record { node = b .node; one = b .one; other = b .other }
+  pair-at-within wf (pair-event e r) = pair-within wf r
+
+-- ---- forwards: invariants
+
+-- the pairs of a table that are reached
+abbrev pub ReachedIn : Job → Enabling → Enabling → Table → Table
+ReachedIn j v w H n p q = PairAt j v w n p q × H n p q
+
+-- a table that holds the starts and that edges and call words keep
+pub record NodeKept (j : Job) (v w : Enabling) (H : Table) : Type 0 where
+  pub starts : (n q : ℕ) → has (nodeAt j n .entry) q ≡ true → H n q q
+  pub edges : (m n p q : ℕ) → PastNode j v w (ReachedIn j v w H) m p q → leads j m n ≡ true → H n p q
+  pub words
+      : (n set a p q : ℕ) → nodeAt j n .kind ≡ call set → has set a ≡ true → ReachedIn j v w H n p q
+      → H n (next (j .rule) p a) (next (j .rule) q a)
+
+-- a kept table under which the two monitors alarm alike at every event that may come next
+pub record NodeInvariant (j : Job) (v w : Enabling) (H : Table) : Type 0 where
+  pub kept : NodeKept j v w H
+  pub at-point
+      : (n a p q : ℕ) → nodeAt j n .kind ≡ event a → ReachedIn j v w H n p q
+      → alarmAt (j .rule) v p (shadow n a) ≡ alarmAt (j .rule) w q (shadow n a)
+  pub at-call
+      : (n set a p q : ℕ) → nodeAt j n .kind ≡ call set → has set a ≡ true → ReachedIn j v w H n p q
+      → final (j .rule) (next (j .rule) p a) ≡ final (j .rule) (next (j .rule) q a)
+  pub at-exit
+      : (n a p q : ℕ) → nodeAt j n .exit ≡ true → has (nodeAt j n .after) a ≡ true
+      → Spelt (j .rule) (nodeAt j n .after) (PastNode j v w (ReachedIn j v w H) n) p q
+      → final (j .rule) (next (j .rule) p a) ≡ final (j .rule) (next (j .rule) q a)
+
+module _ {j : Job} {v w : Enabling} {H : Table} where
+  -- a kept table is a kept set of pairs
+  pub node-kept : NodeKept j v w H → Kept j v w (Admitted j) (placesOf j v w (ReachedIn j v w H))
+  node-kept k =
+      record {
+        starts = at-admitted (placesOf j v w (ReachedIn j v w H)) (λ n q h. (pair-at-start h, k .starts n q h));
+        moved = λ x y p q r m. moved p q m r;
+        told = λ x y e p q r t. told p q t r;
+      }
+    where
+      moved : {x y : Place} (p q : ℕ) → Silent j x y → placesOf j v w (ReachedIn j v w H) x p q → placesOf j v w (ReachedIn j v w H) y p q
+      moved p q (pass-plain e) h = past-silent (plain-no-event e) h
+      moved p q (begin-word e) h = past-silent (call-no-event e) h
+      moved p q (take-edge {m = m} {n = n} l) h = (pair-at-edge (past-map (λ a b r. r .0) h) l, k .edges m n p q h l)
+      moved p q (begin-after e) h = no-word h
+
+      told
+          : {x y : Place} {e : Event} (p q : ℕ) → Told j x e y → placesOf j v w (ReachedIn j v w H) x p q
+          → placesOf j v w (ReachedIn j v w H) y (stateAt (j .rule) v p e) (stateAt (j .rule) w q e)
+      told p q (report e) h = past-event e h
+      told p q (call-word {n = n} {set = set} {a = a} e m) h =
+          let r = past-at-silent (call-no-event e) h in past-silent (call-no-event e) (pair-at-word a e m (r .0), k .words n set a p q e m r)
+      told p q (after-word {a = a} e m) h = one-more a m h
+
+  -- an invariant table is an invariant
+  pub node-invariant : NodeInvariant j v w H → Invariant j v w (Admitted j) (placesOf j v w (ReachedIn j v w H))
+  node-invariant k = record { kept = node-kept (k .kept); alike = λ x y e p q r t. alike p q t r }
+    where
+      alike
+          : {x y : Place} {e : Event} (p q : ℕ) → Told j x e y → placesOf j v w (ReachedIn j v w H) x p q
+          → alarmAt (j .rule) v p e ≡ alarmAt (j .rule) w q e
+      alike p q (report {n = n} {a = a} e) h = k .at-point n a p q e h
+      alike p q (call-word {n = n} {set = set} {a = a} e m) h = k .at-call n set a p q e m (past-at-silent (call-no-event e) h)
+      alike p q (after-word {n = n} {a = a} e m) h = k .at-exit n a p q e m h
+
+-- ---- backwards
+
+-- some word over the set tells two states apart
+pub data WordApart (m : Automaton) (set : ℕ) : ℕ → ℕ → Type 0 where
+  -- by its first symbol
+  apart-here : (a : ℕ) {p q : ℕ} → has set a ≡ true → final m (next m p a) ≡ not (final m (next m q a)) → WordApart m set p q
+  -- by what follows its first symbol
+  apart-later : (a : ℕ) {p q : ℕ} → has set a ≡ true → WordApart m set (next m p a) (next m q a) → WordApart m set p q
+
+-- the pairs before a node that are told apart
+pub data BeforeNode (j : Job) (v w : Enabling) (T : Table) (n : ℕ) : ℕ → ℕ → Type 0 where
+  -- at a node with no event of its own, told apart past it
+  before-silent : {p q : ℕ} → NoEvent (nodeAt j n .kind) → T n p q → BeforeNode j v w T n p q
+  -- at an event node, told apart past it
+  before-event
+      : {a p q : ℕ} → nodeAt j n .kind ≡ event a → T n (stateAt (j .rule) v p (shadow n a)) (stateAt (j .rule) w q (shadow n a))
+      → BeforeNode j v w T n p q
+  -- at an event node, told apart by its own event
+  event-splits
+      : {a p q : ℕ} → nodeAt j n .kind ≡ event a → alarmAt (j .rule) v p (shadow n a) ≡ not (alarmAt (j .rule) w q (shadow n a))
+      → BeforeNode j v w T n p q
+
+-- the pairs at all places
+abbrev pub placesBack : Job → Enabling → Enabling → Table → Pairs
+placesBack j v w T (before n) p q = BeforeNode j v w T n p q
+placesBack j v w T (past n) p q = T n p q
+placesBack j v w T (ended n) p q = WordApart (j .rule) (nodeAt j n .after) p q
+
+-- a table that holds, of the pairs of the job, those that edges, call words and after words lead back to
+pub record NodeBackwards (j : Job) (v w : Enabling) (T : Table) : Type 0 where
+  pub edges : (m n p q : ℕ) → Within j (past m) p q → leads j m n ≡ true → BeforeNode j v w T n p q → T m p q
+  pub call-splits
+      : (n set a p q : ℕ) → Within j (past n) p q → nodeAt j n .kind ≡ call set → has set a ≡ true
+      → final (j .rule) (next (j .rule) p a) ≡ not (final (j .rule) (next (j .rule) q a)) → T n p q
+  pub call-words
+      : (n set a p q : ℕ) → Within j (past n) p q → nodeAt j n .kind ≡ call set → has set a ≡ true
+      → T n (next (j .rule) p a) (next (j .rule) q a) → T n p q
+  pub after-words
+      : (n p q : ℕ) → Within j (past n) p q → nodeAt j n .exit ≡ true → WordApart (j .rule) (nodeAt j n .after) p q → T n p q
+
+module _ {j : Job} {v w : Enabling} where
+  -- a table that is closed backwards is a set of pairs that is
+  pub node-backwards : {T : Table} → NodeBackwards j v w T → Backwards j v w (Within j) (placesBack j v w T)
+  node-backwards {T} b =
+      record {
+        now = λ x p q d s. now p q d (s .told) (s .differ);
+        moving = λ x y p q d m t. moving p q d m t;
+        telling = λ x y e p q d t h. telling p q d t h;
+      }
+    where
+      now
+          : {x y : Place} {e : Event} (p q : ℕ) → Within j x p q → Told j x e y
+          → alarmAt (j .rule) v p e ≡ not (alarmAt (j .rule) w q e) → placesBack j v w T x p q
+      now p q d (report k) f = event-splits k f
+      now p q d (call-word {n = n} {set = set} {a = a} k m) f = b .call-splits n set a p q d k m f
+      now p q d (after-word {a = a} k m) f = apart-here a m f
+
+      moving : {x y : Place} (p q : ℕ) → Within j x p q → Silent j x y → placesBack j v w T y p q → placesBack j v w T x p q
+      moving p q d (pass-plain k) t = before-silent (plain-no-event k) t
+      moving p q d (begin-word k) t = before-silent (call-no-event k) t
+      moving p q d (take-edge {m = m} {n = n} l) t = b .edges m n p q d l t
+      moving p q d (begin-after {n = n} k) t = b .after-words n p q d k t
+
+      telling
+          : {x y : Place} {e : Event} (p q : ℕ) → Within j x p q → Told j x e y
+          → placesBack j v w T y (stateAt (j .rule) v p e) (stateAt (j .rule) w q e) → placesBack j v w T x p q
+      telling p q d (report k) t = before-event k t
+      telling p q d (call-word {n = n} {set = set} {a = a} k m) t = b .call-words n set a p q d k m t
+      telling p q d (after-word {a = a} k m) t = apart-later a m t
+
+  -- what tells two states apart before a node
+  pub before-apart : {n p q : ℕ} → BeforeNode j v w (λ m. ApartAt j v w (past m)) n p q → ApartAt j v w (before n) p q
+  before-apart {n} (before-silent s a) = apart-moved (enters n s) a
+  before-apart (before-event k a) = apart-told (report k) a
+  before-apart (event-splits k d) = apart-now (told-splits (report k) d)
+
+  -- what tells them apart in the word after an exit
+  pub word-apart
+      : {n p q : ℕ} → nodeAt j n .exit ≡ true → WordApart (j .rule) (nodeAt j n .after) p q → ApartAt j v w (ended n) p q
+  word-apart e (apart-here a m d) = apart-now (told-splits (after-word e m) d)
+  word-apart e (apart-later a m h) = apart-told (after-word e m) (word-apart e h)
+
+  -- the pairs told apart past nodes are closed backwards
+  pub apart-nodes : NodeBackwards j v w (λ n. ApartAt j v w (past n))
+  apart-nodes =
+      record {
+        edges = λ m n p q r l h. apart-moved (take-edge l) (before-apart h);
+        call-splits = λ n set a p q r k m d. apart-now (told-splits (call-word k m) d);
+        call-words = λ n set a p q r k m h. apart-told (call-word k m) h;
+        after-words = λ n p q r k h. apart-moved (begin-after k) (word-apart k h);
+      }

@@ -1,0 +1,64 @@
+-- The job: a rule and a flow graph (document 01, "Nodes and walks").
+-- Assumes nothing.
+use mathlib.Core.Path.{_≡_}
+use mathlib.Core.Bool.{Bool, true, false, _&&_, _||_}
+use mathlib.Core.List.{List, [], _∷_}
+use Prim.Native.Nat.{ℕ, _<_}
+use lib.Dec.{eqb}
+use lib.ListN.{getD, length}
+use Rattle.laws.specs.Bits.{has}
+use Rattle.automaton.specs.Automaton.{Automaton, WellFormed}
+
+-- "kinds of node": plain; event, with a symbol; call, with a set of symbols
+pub data Kind : Type 0 where
+  plain : Kind
+  event : ℕ → Kind
+  call : ℕ → Kind
+
+-- a node: its kind, its entry set (nonzero at an entry), whether it is an exit, and its after set
+pub record Node : Type 0 where
+  pub kind : Kind
+  pub entry : ℕ
+  pub exit : Bool
+  pub after : ℕ
+
+-- an edge of the flow graph
+pub record Edge : Type 0 where
+  pub from : ℕ
+  pub to : ℕ
+
+-- a job: the rule, the nodes in number order, and the edges
+pub record Job : Type 0 where
+  pub rule : Automaton
+  pub nodes : List Node
+  pub edges : List Edge
+
+-- past the last node there is nothing: a plain node, neither entry nor exit
+abbrev pub noNode : Node
+noNode = record { kind = plain; entry = 0; exit = false; after = 0 }
+
+-- the node of a number
+abbrev pub nodeAt : Job → ℕ → Node
+nodeAt j n = getD (j .nodes) n noNode
+
+-- the edges hold one from m to n
+unfoldable pub holds : List Edge → ℕ → ℕ → Bool
+holds [] m n = false
+holds (e ∷ es) m n = (eqb (e .from) m && eqb (e .to) n) || holds es m n
+
+abbrev pub leads : Job → ℕ → ℕ → Bool
+leads j m n = holds (j .edges) m n
+
+-- the symbols that a node of this kind may report are below a
+pub data KindBelow (a : ℕ) : Kind → Type 0 where
+  plain-below : KindBelow a plain
+  event-below : {s : ℕ} → s < a → KindBelow a (event s)
+  call-below : {set : ℕ} → ((s : ℕ) → has set s ≡ true → s < a) → KindBelow a (call set)
+
+-- every state, symbol and node that the job names exists; the job file's refusals leave no other job
+pub record WellFormedJob (j : Job) : Type 0 where
+  pub rule : WellFormed (j .rule)
+  pub kinds : (n : ℕ) → KindBelow (j .rule .symbols) (nodeAt j n .kind)
+  pub entries : (n q : ℕ) → has (nodeAt j n .entry) q ≡ true → q < j .rule .states
+  pub afters : (n s : ℕ) → has (nodeAt j n .after) s ≡ true → s < j .rule .symbols
+  pub edges : (m n : ℕ) → leads j m n ≡ true → (m < length (j .nodes)) × (n < length (j .nodes))

@@ -1,0 +1,11 @@
+-- The job as a value, in the order of document 01.
+-- Assumes nothing.
+pub mod Job
+pub mod Walk
+pub mod Plan
+pub mod Search
+pub mod Found
+pub mod Planning
+pub mod Listing
+pub mod Monitors
+pub mod Trials

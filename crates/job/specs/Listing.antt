@@ -1,0 +1,63 @@
+-- The listing as values (document 01, "One listing in full").
+-- Assumes nothing.
+use mathlib.Core.Bool.{cond}
+use mathlib.Core.List.{List, [], _∷_}
+use Prim.Native.Nat.{ℕ, suc}
+use lib.ListN.{getD}
+use Rattle.job.specs.Job.{Kind, plain, event, call, Node, Job}
+use Rattle.job.specs.Found.{statesBefore, classCount, nopShadow}
+use Rattle.job.specs.Planning.{Planned, planned, allEnabled, enabledCount}
+use Rattle.job.specs.Search.{faithful}
+
+-- "W: node, symbol, before set, class count, nop mark, watched"
+pub record ShadowLine : Type 0 where
+  pub node : ℕ
+  pub symbol : ℕ
+  pub before : ℕ
+  pub classes : ℕ
+  pub nop : ℕ
+  pub enabled : ℕ
+
+-- "T: event nodes, watched, passes"
+pub record TotalLine : Type 0 where
+  pub shadows : ℕ
+  pub enabled : ℕ
+  pub passes : ℕ
+
+-- a listing: a line for each event node in number order, and the totals
+pub record Listing : Type 0 where
+  pub shadows : List ShadowLine
+  pub total : TotalLine
+
+-- the plan that planning makes, at the test that says `Faithful`
+abbrev pub planOf : Job → Planned
+planOf j = planned (faithful j) j
+
+abbrev pub shadowLine : Job → List ℕ → ℕ → ℕ → ShadowLine
+shadowLine j plan n a =
+    record {
+      node = n;
+      symbol = a;
+      before = statesBefore j n;
+      classes = classCount j n;
+      nop = cond (nopShadow j n a) 1 0;
+      enabled = getD plan n 0;
+    }
+
+-- the line of a node of this kind, if it has one, before the lines of those after it
+abbrev pub lineOf : Job → List ℕ → ℕ → Kind → List ShadowLine → List ShadowLine
+lineOf j plan n plain rest = rest
+lineOf j plan n (event a) rest = shadowLine j plan n a ∷ rest
+lineOf j plan n (call s) rest = rest
+
+unfoldable pub linesFrom : Job → List ℕ → ℕ → List Node → List ShadowLine
+linesFrom j plan n [] = []
+linesFrom j plan n (x ∷ xs) = lineOf j plan n (x .kind) (linesFrom j plan (suc n) xs)
+
+unfoldable pub listingOf : Job → Listing
+listingOf j =
+    let r = planOf j in
+    record {
+      shadows = linesFrom j (r .plan) 0 (j .nodes);
+      total = record { shadows = enabledCount (allEnabled j); enabled = enabledCount (r .plan); passes = r .passes };
+    }

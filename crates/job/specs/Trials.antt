@@ -1,0 +1,224 @@
+-- Trial jobs with the right answer to each: those of document 01 ("One listing in full", "Trial jobs"), then our own.
+-- That they all pass, `AllPass trials`, is a theorem of `proofs/`.
+-- Assumes nothing.
+use mathlib.Core.Path.{_≡_}
+use mathlib.Core.Bool.{Bool, true, false}
+use mathlib.Core.List.{List, [], _∷_}
+use Prim.Native.Nat.{ℕ}
+use Rattle.automaton.specs.Automaton.{Automaton, automatonOf}
+use Rattle.job.specs.Job.{Kind, plain, event, call, Node, Edge, Job, WellFormedJob}
+use Rattle.job.specs.Listing.{ShadowLine, TotalLine, planOf, listingOf}
+use Rattle.job.specs.Search.{faithful}
+
+-- ---- how a trial is written
+
+-- as a P line: kind with value, entry set, exit, after set
+abbrev pub node : Kind → ℕ → Bool → ℕ → Node
+node kind entry exit after = record { kind = kind; entry = entry; exit = exit; after = after }
+
+-- as an F line: from, to
+abbrev pub edge : ℕ → ℕ → Edge
+edge m n = record { from = m; to = n }
+
+-- a rule, its nodes and its edges
+abbrev pub jobOf : Automaton → List Node → List Edge → Job
+jobOf rule nodes edges = record { rule = rule; nodes = nodes; edges = edges }
+
+-- as a W line: node, symbol, before set, class count, nop mark, watched
+abbrev pub line : ℕ → ℕ → ℕ → ℕ → ℕ → ℕ → ShadowLine
+line n symbol before classes nop enabled =
+    record { node = n; symbol = symbol; before = before; classes = classes; nop = nop; enabled = enabled }
+
+-- as a T line: event nodes, watched, passes
+abbrev pub total : ℕ → ℕ → ℕ → TotalLine
+total shadows enabled passes = record { shadows = shadows; enabled = enabled; passes = passes }
+
+-- what is asked of a job, with the right answer: its listing; its plan and the passes; of a plan, whether it is faithful
+pub data Asked : Type 0 where
+  lists : List ShadowLine → TotalLine → Asked
+  plans : List ℕ → ℕ → Asked
+  checks : List ℕ → Bool → Asked
+
+-- a job and what is asked of it
+pub record Trial : Type 0 where
+  pub job : Job
+  pub asked : Asked
+
+-- a row of the table
+abbrev pub trial : Job → Asked → Trial
+trial job asked = record { job = job; asked = asked }
+
+-- the answer of the definitions is the right one
+abbrev pub Answers : Job → Asked → Type 0
+Answers j (lists shadows t) = listingOf j ≡ record { shadows = shadows; total = t }
+Answers j (plans plan passes) = planOf j ≡ record { plan = plan; passes = passes }
+Answers j (checks plan answer) = faithful j plan ≡ answer
+
+-- a trial passes: its job is well formed, and the answer is right
+pub record TrialPasses (t : Trial) : Type 0 where
+  pub well-formed : WellFormedJob (t .job)
+  pub answer : Answers (t .job) (t .asked)
+
+infixr 5 _and_
+-- every trial of a table passes
+pub data AllPass : List Trial → Type 0 where
+  done : AllPass []
+  _and_ : {t : Trial} {ts : List Trial} → TrialPasses t → AllPass ts → AllPass (t ∷ ts)
+
+-- ---- the jobs of document 01
+
+-- PAIR's rule: symbols seal, reopen, write; state 0 open, 1 sealed, 2 (final) written while sealed
+abbrev pub pairRule : Automaton
+pairRule = automatonOf ((1 ∷ 0 ∷ 0 ∷ []) ∷ (1 ∷ 0 ∷ 2 ∷ []) ∷ (1 ∷ 0 ∷ 2 ∷ []) ∷ []) 3 3 4
+
+-- LOOP's rule: state 4 is final
+abbrev pub loopRule : Automaton
+loopRule = automatonOf ((1 ∷ 3 ∷ []) ∷ (1 ∷ 2 ∷ []) ∷ (2 ∷ 2 ∷ []) ∷ (2 ∷ 4 ∷ []) ∷ (4 ∷ 4 ∷ []) ∷ []) 5 2 16
+
+-- TURN's rule: state 2 is final
+abbrev pub turnRule : Automaton
+turnRule = automatonOf ((1 ∷ 0 ∷ []) ∷ (0 ∷ 2 ∷ []) ∷ (0 ∷ 2 ∷ []) ∷ []) 3 2 4
+
+-- PAIR: seal, seal, write in a row
+abbrev pub pair : Job
+pair =
+    jobOf pairRule
+    (node (event 0) 1 false 0 ∷ node (event 0) 0 false 0 ∷ node (event 2) 0 true 0 ∷ [])
+    (edge 0 1 ∷ edge 1 2 ∷ [])
+
+-- LOOP: two events in a ring
+abbrev pub loop : Job
+loop = jobOf loopRule (node (event 0) 1 false 0 ∷ node (event 1) 0 false 0 ∷ []) (edge 0 1 ∷ edge 1 0 ∷ [])
+
+-- TURN: three events in a row
+abbrev pub turn : Job
+turn =
+    jobOf turnRule
+    (node (event 0) 3 false 0 ∷ node (event 0) 0 false 0 ∷ node (event 1) 0 false 0 ∷ [])
+    (edge 0 1 ∷ edge 1 2 ∷ [])
+
+-- one exit node seal, with an after set
+abbrev pub lastSeal : ℕ → Job
+lastSeal after = jobOf pairRule (node (event 0) 1 true after ∷ []) []
+
+-- seal, write, write in a row
+abbrev pub writeTwice : Job
+writeTwice =
+    jobOf pairRule
+    (node (event 0) 1 false 0 ∷ node (event 2) 0 false 0 ∷ node (event 2) 0 false 0 ∷ [])
+    (edge 0 1 ∷ edge 1 2 ∷ [])
+
+-- ---- jobs of our own, all but two with PAIR's rule: a write while sealed alarms, and seal and reopen forget what was before
+
+-- LOOP's event 0, then a call with words of event 1. Two of these lead from state 1 to 2 and 2; from 0, with the point unwatched,
+-- to 3 and 4, an alarm at the second. With words of at most one event the point would go
+abbrev pub longWord : Job
+longWord = jobOf loopRule (node (event 0) 1 false 0 ∷ node (call 2) 0 false 0 ∷ []) (edge 0 1 ∷ [])
+
+-- seal, a call that may reopen, write: by the empty word the write is sealed and alarms.
+-- A call that had to report would always reopen, and both points would go
+abbrev pub emptyWord : Job
+emptyWord =
+    jobOf pairRule
+    (node (event 0) 1 false 0 ∷ node (call 2) 0 false 0 ∷ node (event 2) 0 false 0 ∷ [])
+    (edge 0 1 ∷ edge 1 2 ∷ [])
+
+-- a seal at an exit with after words of write, and an edge to a reopen: only an after word shows the seal, and only the edge leads to
+-- the reopen, where it is sealed and not yet written: before set 2, which an edge after an after word would make 6
+abbrev pub afterShows : Job
+afterShows = jobOf pairRule (node (event 0) 1 true 4 ∷ node (event 1) 0 false 0 ∷ []) (edge 0 1 ∷ [])
+
+-- a seal at an exit with after words of reopen, and an edge to a write: only by the edge there is an alarm, and else both points
+-- would go
+abbrev pub edgeShows : Job
+edgeShows = jobOf pairRule (node (event 0) 1 true 2 ∷ node (event 2) 0 false 0 ∷ []) (edge 0 1 ∷ [])
+
+-- a plain exit with after words of seal, and an edge to a write: no edge follows an after word, so the write is never sealed
+abbrev pub wordLast : Job
+wordLast = jobOf pairRule (node plain 1 true 1 ∷ node (event 2) 0 false 0 ∷ []) (edge 0 1 ∷ [])
+
+-- a rule that alarms at 0 and then 1: from state 0 to 1 to 2; a 1 at once leads to 3 for good. The point reports 1, and after it is a
+-- call of 0 that is an exit with after words of 1. With the point unwatched 0, 1 alarms: it takes both words, the call's first
+abbrev pub wordThenAfter : Job
+wordThenAfter =
+    jobOf (automatonOf ((1 ∷ 3 ∷ []) ∷ (1 ∷ 2 ∷ []) ∷ (3 ∷ 3 ∷ []) ∷ (3 ∷ 3 ∷ []) ∷ []) 4 2 4)
+    (node (event 1) 1 false 0 ∷ node (call 1) 0 true 2 ∷ []) (edge 0 1 ∷ [])
+
+-- a seal where it is sealed already, then words of write, after an exit and in a call: their events are taken under every plan, so
+-- that both monitors alarm at them and the seal goes
+abbrev pub wordsTaken : Job
+wordsTaken = jobOf pairRule (node (event 0) 2 true 4 ∷ node (call 4) 0 false 0 ∷ []) (edge 0 1 ∷ [])
+
+-- write, seal, a call with nothing to report: it does not come back to the write, which is never sealed
+abbrev pub noWayBack : Job
+noWayBack =
+    jobOf pairRule
+    (node (event 2) 1 false 0 ∷ node (event 0) 0 false 0 ∷ node (call 0) 0 false 0 ∷ [])
+    (edge 0 1 ∷ edge 1 2 ∷ [])
+
+-- a write with an edge to itself, entered sealed: the before set has the admitted state 1 and state 2, carried along the edge
+abbrev pub enteredAgain : Job
+enteredAgain = jobOf pairRule (node (event 2) 2 false 0 ∷ []) (edge 0 0 ∷ [])
+
+-- seal, then reopen or write: the second edge alone shows the seal, and the first alone leads to the reopen
+abbrev pub eitherEdge : Job
+eitherEdge =
+    jobOf pairRule
+    (node (event 0) 1 false 0 ∷ node (event 1) 0 false 0 ∷ node (event 2) 0 false 0 ∷ [])
+    (edge 0 1 ∷ edge 0 2 ∷ [])
+
+-- a write entered sealed, and a seal with an edge to it that no walk reaches: before set 0, nop mark 1, and it goes in pass one, so
+-- that there are two. Its classes go by the write that follows: state 0, and the two that alarm
+abbrev pub notReached : Job
+notReached = jobOf pairRule (node (event 2) 2 false 0 ∷ node (event 0) 0 false 0 ∷ []) (edge 1 0 ∷ [])
+
+-- a plain node and a call: no point, so no W line and one pass
+abbrev pub noPoint : Job
+noPoint = jobOf pairRule (node plain 1 false 0 ∷ node (call 5) 0 false 0 ∷ []) (edge 0 1 ∷ [])
+
+-- a write entered in state 2: the state stays, but to move to a final state alarms, from a final one too
+abbrev pub finalAgain : Job
+finalAgain = jobOf pairRule (node (event 2) 4 false 0 ∷ []) []
+
+-- reopen, write, both of them entered sealed: a write entered at once alarms, one after the reopen does not. With the reopen unwatched
+-- no alarm is missed, and one is added
+abbrev pub reopened : Job
+reopened = jobOf pairRule (node (event 1) 2 false 0 ∷ node (event 2) 2 false 0 ∷ []) (edge 0 1 ∷ [])
+
+-- all trial jobs: those that document 01 marks with a star, then our own
+abbrev pub trials : List Trial
+trials =
+    -- PAIR: either seal may go, not both
+    trial pair (lists (line 0 0 1 1 1 0 ∷ line 1 0 2 2 1 1 ∷ line 2 2 2 1 0 1 ∷ []) (total 3 2 2))
+    ∷ trial pair (checks (0 ∷ 1 ∷ 1 ∷ []) true)
+    ∷ trial pair (checks (1 ∷ 0 ∷ 1 ∷ []) true)
+    ∷ trial pair (checks (0 ∷ 0 ∷ 1 ∷ []) false)
+    -- LOOP
+    ∷ trial loop (lists (line 0 0 5 2 1 0 ∷ line 1 1 6 2 1 0 ∷ []) (total 2 0 3))
+    ∷ trial loop (checks (0 ∷ 1 ∷ []) false)
+    -- TURN
+    ∷ trial turn (plans (1 ∷ 1 ∷ 1 ∷ []) 1)
+    ∷ trial turn (checks (0 ∷ 0 ∷ 1 ∷ []) true)
+    ∷ trial turn (checks (0 ∷ 1 ∷ 1 ∷ []) false)
+    -- PAIR's rule, one exit node seal: after set 4 gives plan 1, after set 0 gives 0
+    ∷ trial (lastSeal 4) (plans (1 ∷ []) 1)
+    ∷ trial (lastSeal 0) (plans (0 ∷ []) 2)
+    -- PAIR's rule, seal, write, write: the second write stays watched
+    ∷ trial writeTwice (plans (1 ∷ 1 ∷ 1 ∷ []) 1)
+    -- words of calls and exits, and edges
+    ∷ trial longWord (lists (line 0 0 1 3 0 1 ∷ []) (total 1 1 1))
+    ∷ trial emptyWord (lists (line 0 0 1 2 0 1 ∷ line 2 2 3 1 0 1 ∷ []) (total 2 2 1))
+    ∷ trial afterShows (lists (line 0 0 1 2 0 1 ∷ line 1 1 2 1 1 0 ∷ []) (total 2 1 2))
+    ∷ trial edgeShows (lists (line 0 0 1 2 0 1 ∷ line 1 2 2 1 0 1 ∷ []) (total 2 2 1))
+    ∷ trial wordLast (lists (line 1 2 1 1 1 0 ∷ []) (total 1 0 2))
+    ∷ trial wordThenAfter (lists (line 0 1 1 3 0 1 ∷ []) (total 1 1 1))
+    ∷ trial wordsTaken (lists (line 0 0 2 2 1 0 ∷ []) (total 1 0 2))
+    ∷ trial noWayBack (lists (line 0 2 1 1 1 0 ∷ line 1 0 1 1 1 0 ∷ []) (total 2 0 2))
+    -- entries and points
+    ∷ trial enteredAgain (lists (line 0 2 6 2 0 1 ∷ []) (total 1 1 1))
+    ∷ trial eitherEdge (lists (line 0 0 1 2 0 1 ∷ line 1 1 2 1 1 0 ∷ line 2 2 2 1 0 1 ∷ []) (total 3 2 2))
+    ∷ trial notReached (lists (line 0 2 2 1 0 1 ∷ line 1 0 0 2 1 0 ∷ []) (total 2 1 2))
+    ∷ trial noPoint (lists [] (total 0 0 1))
+    ∷ trial finalAgain (lists (line 0 2 4 1 0 1 ∷ []) (total 1 1 1))
+    ∷ trial reopened (lists (line 0 1 2 2 0 1 ∷ line 1 2 3 1 0 1 ∷ []) (total 2 2 1))
+    ∷ []
