@@ -11,7 +11,7 @@ use Rattle.laws.specs.Bits.{has}
 use Rattle.laws.proofs.Bounded.{all-at, all-of, all-fails}
 use Rattle.laws.proofs.Bits.{below-says}
 use Rattle.laws.proofs.Tests.{fails-of, test-ext}
-use Rattle.automaton.specs.Automaton.{Automaton, automatonOf, cell, cellBelow, cellsBelow, wellFormed, WellFormed, SameRule}
+use Rattle.automaton.specs.Automaton.{Automaton, automatonOf, cell, cellBelow, cellsBelow, wellFormed, WellFormed, WellFormedSays, SameRule, TestsNoOtherCell}
 
 -- one next state of s or more in the part is enough
 pub cell-fails : (t : List (List ℕ)) (s a q c : ℕ) → q < s → c < a → cellBelow t s q c ≡ false → cellsBelow t s a ≡ false
@@ -34,7 +34,7 @@ cells-says t s a = (
 )
 
 -- `wellFormed` says `WellFormed`
-pub well-formed-says : (m : Automaton) → (wellFormed m ≡ true) ↔ WellFormed m
+pub well-formed-says : WellFormedSays
 unfolding wellFormed
 well-formed-says m = (
   λ h.
@@ -100,7 +100,7 @@ same-rule-carries {m} {n} e w =
     }
 
 -- the test looks at no cell past S or A
-pub well-formed-same : (m n : Automaton) → SameRule m n → wellFormed m ≡ wellFormed n
+pub well-formed-same : TestsNoOtherCell
 well-formed-same m n e =
     test-ext _ _ (λ h. well-formed-says n .1 (same-rule-carries e (well-formed-says m .0 h)))
     (λ h. well-formed-says m .1 (same-rule-carries (same-rule-sym e) (well-formed-says n .0 h)))

@@ -1,6 +1,7 @@
 -- The rule (document 01, "The rule and the monitor"; refusal 13).
 -- Assumes nothing.
 use mathlib.Core.Path.{_≡_}
+use mathlib.Core.Logic.{_↔_}
 use mathlib.Core.Bool.{Bool, true, _&&_}
 use mathlib.Core.List.{List, []}
 use Prim.Native.Nat.{ℕ, _^_, _<_, _≤_}
@@ -59,9 +60,17 @@ pub record WellFormed (m : Automaton) : Type 0 where
   pub next-below : (q a : ℕ) → q < m .states → a < m .symbols → next m q a < m .states
   pub finals-below : (q : ℕ) → final m q ≡ true → q < m .states
 
+-- the statement of that
+abbrev pub WellFormedSays : Type 0
+WellFormedSays = (m : Automaton) → (wellFormed m ≡ true) ↔ WellFormed m
+
 -- "cells past S or A have no meaning": two rules that differ in no more than those
 pub record SameRule (m n : Automaton) : Type 0 where
   pub states : m .states ≡ n .states
   pub symbols : m .symbols ≡ n .symbols
   pub finals : m .finals ≡ n .finals
   pub cells : (q a : ℕ) → q < m .states → a < m .symbols → next m q a ≡ next n q a
+
+-- the statement: the test of a rule looks at no such cell
+abbrev pub TestsNoOtherCell : Type 0
+TestsNoOtherCell = (m n : Automaton) → SameRule m n → wellFormed m ≡ wellFormed n

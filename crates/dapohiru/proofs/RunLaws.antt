@@ -18,6 +18,7 @@ left-refused Quiet old new e = absurd (true≢false e)
 left-refused Alarm old new e = absurd (true≢false e)
 left-refused (Refused k) old new e = refl
 
+-- the event step across the C call
 pub bytes-refused-stand-apart : RefusedStandApart byteForm
 bytes-refused-stand-apart =
     refused-stand-apart byteForm

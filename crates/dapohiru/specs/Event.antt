@@ -49,6 +49,7 @@ leftBy Quiet old new = new
 leftBy Alarm old new = new
 leftBy (Refused k) old new = old
 
+-- the same of what a call reports and leaves
 abbrev pub recordLeft : List ℕ → Taken → List ℕ
 recordLeft old t = leftBy (t .report) old (recordBytes (t .state) (t .alarms))
 

@@ -5,7 +5,7 @@ use Prim.Native.Nat.{ℕ}
 use lib.ListN.{take, drop}
 use Rattle.monitor.specs.Run.{Form}
 use Rattle.monitor.specs.declared.step.Taken.{Taken}
-use Rattle.dapohiru.specs.Event.{eventTaken, recordLeft}
+use Rattle.dapohiru.specs.Event.{eventTaken, numberOf, recordLeft}
 
 -- what a call is given: the rule's bytes, S, A, the final set, the symbol, and which of the bytes held are lent as its record:
 -- `count` of them from `start` on, a wrong number of them too
@@ -18,13 +18,15 @@ pub record ByteCall : Type 0 where
   pub start : ℕ
   pub count : ℕ
 
+-- the bytes that a call is lent
 abbrev pub lent : ByteCall → List ℕ → List ℕ
 lent c held = take (c .count) (drop (c .start) held)
 
+-- what the call reports and leaves of them
 abbrev pub takenOn : ByteCall → List ℕ → Taken
 takenOn c held = eventTaken (c .rule) (c .states) (c .symbols) (c .finals) (c .symbol) (lent c held)
 
--- the form across the C call: the bytes that are not lent stay
+-- the form across the C call: the answer is the number returned, and the bytes that are not lent stay
 abbrev pub byteForm : Form
 byteForm =
     record {
@@ -32,4 +34,6 @@ byteForm =
       Held = List ℕ;
       report = λ c held. takenOn c held .report;
       left = λ c held. take (c .start) held ++ (recordLeft (lent c held) (takenOn c held) ++ drop (c .count) (drop (c .start) held));
+      Answer = ℕ;
+      answerOf = numberOf;
     }

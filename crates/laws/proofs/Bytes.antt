@@ -11,7 +11,7 @@ use native.Mathlib.Omega.{arith}
 use lib.Dec.{lit<}
 use lib.ListN.{length, getD, set, length-set, List·getD-eq-default}
 use lib.Seq.{length-sets, getD-set-same, getD-set-other, set-getD, set-set, set-comm}
-use Rattle.laws.specs.Bytes.{AreBytes, numberAt, bytesOf, putNumber}
+use Rattle.laws.specs.Bytes.{ReadsBack, AreBytes, numberAt, bytesOf, putNumber}
 
 -- ---- bytes
 
@@ -112,8 +112,7 @@ number-put-other n m l i j v h =
     apart k p (inr q) = inr (omega arith)
 
 -- what was written is read
-pub number-put
-    : (n : ℕ) (l : List ℕ) (i v : ℕ) → v < 256 ^ n → i + n ≤ length l → numberAt n (putNumber n l i v) i ≡ v
+pub number-put : (n : ℕ) → ReadsBack n
 unfolding numberAt
 number-put zero l i v h f = omega arith
 number-put (suc n) l i v h f =

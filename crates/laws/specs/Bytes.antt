@@ -1,6 +1,7 @@
 -- Numbers in lists of bytes, lowest byte first, of any width.
 -- Assumes nothing.
-use Prim.Native.Nat.{ℕ, zero, suc, _+_, _*_, _/_, _%_, _<_}
+use mathlib.Core.Path.{_≡_}
+use Prim.Native.Nat.{ℕ, zero, suc, _+_, _*_, _/_, _%_, _^_, _<_, _≤_}
 use mathlib.Core.List.{List, [], _∷_}
 use lib.ListN.{getD, length}
 use lib.Seq.{sets}
@@ -23,3 +24,7 @@ bytesOf (suc n) v = v % 256 ∷ bytesOf n (v / 256)
 unfoldable pub putNumber : ℕ → List ℕ → ℕ → ℕ → List ℕ
 unfolding bytesOf
 putNumber n l i v = sets l i (bytesOf n v)
+
+-- the statement: a number of n bytes that was written is read back
+abbrev pub ReadsBack : ℕ → Type 0
+ReadsBack n = (l : List ℕ) (i v : ℕ) → v < 256 ^ n → i + n ≤ length l → numberAt n (putNumber n l i v) i ≡ v

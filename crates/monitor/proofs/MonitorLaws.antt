@@ -12,7 +12,7 @@ use Rattle.laws.specs.Bits.{has}
 use Rattle.laws.proofs.Tests.{passes-or-fails}
 use Rattle.automaton.specs.Automaton.{Automaton, next, final, wellFormed, SameRule}
 use Rattle.automaton.proofs.AutomatonLaws.{well-formed-same}
-use Rattle.monitor.specs.Monitor.{recordOf, reported, maxTotal, raised, refusedWith, movedTo, taken}
+use Rattle.monitor.specs.Monitor.{recordOf, reported, maxTotal, raised, refusedWith, movedTo, taken, LooksAtNoOtherCell}
 use Rattle.monitor.specs.declared.step.Record.{Record}
 use Rattle.monitor.specs.Run.{isEvent}
 use Rattle.monitor.specs.declared.step.Taken.{Taken}
@@ -103,7 +103,7 @@ unfolding movedTo
 moved-same m n q k e = ap (λ (f : ℕ). cond (has f q) (reported (recordOf q (raised k)) Alarm) (reported (recordOf q k) Quiet)) e
 
 -- the event step looks at no cell past S or A
-pub taken-same : (m n : Automaton) (a : ℕ) (r : Record) → SameRule m n → taken m a r ≡ taken n a r
+pub taken-same : LooksAtNoOtherCell
 taken-same m n a r e = go (taken-case m a r)
   where
     w′ : {b : Bool} → wellFormed m ≡ b → wellFormed n ≡ b

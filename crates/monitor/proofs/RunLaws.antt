@@ -10,6 +10,7 @@ use Rattle.monitor.specs.Run.{Form, isEvent, Seen, here, elsewhere, cons
 abbrev pub RefusalKeeps : Form → Type 0
 RefusalKeeps f = (c : f .Call) (h : f .Held) → isEvent (f .report c h) ≡ false → f .left c h ≡ h
 
+-- then events answer and leave what they do in the run without the refused calls
 pub refused-stand-apart : (f : Form) → RefusalKeeps f → RefusedStandApart f
 unfolding run eventsOf seenAtEvents
 refused-stand-apart f keeps h [] = refl

@@ -1,9 +1,10 @@
 -- The event step (document 01, "The rule and the monitor"; refusals 13, 14 and 15 in that order).
 -- Assumes nothing.
+use mathlib.Core.Path.{_≡_}
 use mathlib.Core.Bool.{cond}
 use Prim.Native.Nat.{ℕ, _+_, _-_, _^_}
 use lib.Dec.{ltb}
-use Rattle.automaton.specs.Automaton.{Automaton, next, final, wellFormed}
+use Rattle.automaton.specs.Automaton.{Automaton, next, final, wellFormed, SameRule}
 use Rattle.monitor.specs.declared.step.Record.{Record}
 use Rattle.monitor.specs.declared.step.Taken.{Taken}
 use Rattle.monitor.specs.declared.step.Report.{Report}
@@ -42,3 +43,7 @@ taken m a r =
     (cond (ltb (r .state) (m .states)) (movedTo m (next m (r .state) a) (r .alarms)) (refusedWith 15 r))
     (refusedWith 14 r))
     (refusedWith 13 r)
+
+-- the statement: the event step looks at no cell past S or A
+abbrev pub LooksAtNoOtherCell : Type 0
+LooksAtNoOtherCell = (m n : Automaton) (a : ℕ) (r : Record) → SameRule m n → taken m a r ≡ taken n a r

@@ -10,12 +10,15 @@ use Rattle.monitor.specs.declared.step.Record.{Record}
 use Rattle.monitor.specs.declared.step.Report.{Report}
 use Rattle.monitor.specs.declared.step.Report.the-variants.{Quiet, Alarm, Refused}
 
--- a form of the event call: what a call is given beside its record, the record, and what the call reports and leaves of it
+-- a form of the event call: what a call is given beside its record, the record, what the call reports and leaves of it, and the
+-- report as the caller sees it
 pub record Form : Type 1 where
   pub Call : Type 0
   pub Held : Type 0
   pub report : Call → Held → Report
   pub left : Call → Held → Held
+  pub Answer : Type 0
+  pub answerOf : Report → Answer
 
 -- a call that is not refused is an event
 abbrev pub isEvent : Report → Bool
@@ -23,9 +26,9 @@ isEvent Quiet = true
 isEvent Alarm = true
 isEvent (Refused k) = false
 
--- what an event shows: its report and the record after it
+-- what an event shows: its answer and the record after it
 pub record Seen (f : Form) : Type 0 where
-  pub report : Report
+  pub answer : f .Answer
   pub after : f .Held
 
 -- a call on the record of the run, or on another, which may be any
@@ -40,7 +43,7 @@ consIf false x xs = xs
 
 -- what the call shows
 abbrev pub seen : (f : Form) → f .Call → f .Held → Seen f
-seen f c h = record { report = f .report c h; after = f .left c h }
+seen f c h = record { answer = f .answerOf (f .report c h); after = f .left c h }
 
 -- a run of calls, none between: what each shows
 unfoldable pub run : (f : Form) → f .Held → List (f .Call) → List (Seen f)
@@ -59,7 +62,7 @@ seenAtEvents f h [] = []
 seenAtEvents f h (here c ∷ cs) = consIf (isEvent (f .report c h)) (seen f c h) (seenAtEvents f (f .left c h) cs)
 seenAtEvents f h (elsewhere c o ∷ cs) = seenAtEvents f h cs
 
--- the statement: events report and leave what they do in the run without the calls between
+-- the statement: events answer and leave what they do in the run without the calls between
 abbrev pub RefusedStandApart : Form → Type 0
 RefusedStandApart f = (h : f .Held) (cs : List (Placed f)) → seenAtEvents f h cs ≡ run f h (eventsOf f h cs)
 
@@ -76,4 +79,6 @@ recordForm =
       Held = Record;
       report = λ c r. taken (c .rule) (c .symbol) r .report;
       left = λ c r. recordOf (taken (c .rule) (c .symbol) r .state) (taken (c .rule) (c .symbol) r .alarms);
+      Answer = Report;
+      answerOf = λ x. x;
     }
