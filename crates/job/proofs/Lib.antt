@@ -5,6 +5,7 @@ pub mod Pairs
 pub mod Bounds
 pub mod ConfigLaws
 pub mod Decide
+pub mod FoundLaws
 pub mod Rules
 pub mod Nodes
 pub mod PlanBytes

@@ -1,13 +1,23 @@
 -- The third promise at the level of jobs as values: the plan that planning makes has the alarms of the full monitor, and each watched point is needed.
 -- Assumes nothing.
-use Rattle.job.specs.Job.{Job}
+use mathlib.Core.Path.{_≡_}
+use mathlib.Core.Bool.{true}
+use Prim.Native.Nat.{ℕ}
+use lib.ListN.{set}
+use Rattle.job.specs.Job.{Job, WellFormedJob}
+use Rattle.job.specs.Plan.{enables, Different}
 use Rattle.job.specs.Search.{faithful}
+use Rattle.job.specs.Listing.{planOf}
 use Rattle.job.specs.Monitors.{TwoMonitors}
 use Rattle.job.proofs.Decide.{faithful-says, different-says}
 use Rattle.job.proofs.PlanningResult.{plan-faithful, planned-needs}
 use Rattle.job.proofs.MonitorsLaws.{two-monitors}
 
+-- each point that planning leaves watched is needed, with the walk that shows it
+pub needed-with-walk
+    : (j : Job) → WellFormedJob j → (n : ℕ) → enables (planOf j .plan) n ≡ true → Different j (enables (set (planOf j .plan) n 0))
+needed-with-walk j wf n e = different-says wf _ .0 (planned-needs (faithful j) j n e)
+
+-- both halves
 pub plan-keeps-alarms : (j : Job) → TwoMonitors j
-plan-keeps-alarms j =
-    two-monitors j (λ wf. plan-faithful (faithful j) j (faithful-says wf))
-    (λ wf n e. different-says wf _ .0 (planned-needs (faithful j) j n e))
+plan-keeps-alarms j = two-monitors j (λ wf. plan-faithful (faithful j) j (faithful-says wf)) (needed-with-walk j)

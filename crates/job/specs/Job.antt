@@ -46,6 +46,7 @@ unfoldable pub holds : List Edge → ℕ → ℕ → Bool
 holds [] m n = false
 holds (e ∷ es) m n = (eqb (e .from) m && eqb (e .to) n) || holds es m n
 
+-- an edge leads from m to n
 abbrev pub leads : Job → ℕ → ℕ → Bool
 leads j m n = holds (j .edges) m n
 

@@ -5,6 +5,7 @@ pub mod Walk
 pub mod Plan
 pub mod Search
 pub mod Found
+pub mod FoundSays
 pub mod Planning
 pub mod Listing
 pub mod Monitors

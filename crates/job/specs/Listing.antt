@@ -33,6 +33,7 @@ pub record Listing : Type 0 where
 abbrev pub planOf : Job → Planned
 planOf j = planned (faithful j) j
 
+-- the line of the point at node n with symbol a, under a plan
 abbrev pub shadowLine : Job → List ℕ → ℕ → ℕ → ShadowLine
 shadowLine j plan n a =
     record {
@@ -50,10 +51,12 @@ lineOf j plan n plain rest = rest
 lineOf j plan n (event a) rest = shadowLine j plan n a ∷ rest
 lineOf j plan n (call s) rest = rest
 
+-- the lines of the nodes from number n on
 unfoldable pub linesFrom : Job → List ℕ → ℕ → List Node → List ShadowLine
 linesFrom j plan n [] = []
 linesFrom j plan n (x ∷ xs) = lineOf j plan n (x .kind) (linesFrom j plan (suc n) xs)
 
+-- the listing of a job
 unfoldable pub listingOf : Job → Listing
 listingOf j =
     let r = planOf j in

@@ -38,15 +38,17 @@ pub record Two : Type 0 where
   pub full : Record
   pub planned : Record
 
--- what a call leaves of its record, and whether it reports an alarm
+-- what a call leaves of its record
 abbrev pub leftOf : Automaton → ℕ → Record → Record
 leftOf m a r = recordOf (taken m a r .state) (taken m a r .alarms)
 
+-- a report of an alarm
 abbrev pub isAlarm : Report → Bool
 isAlarm Quiet = false
 isAlarm Alarm = true
 isAlarm (Refused k) = false
 
+-- whether a call reports one
 abbrev pub alarmsOn : Automaton → ℕ → Record → Bool
 alarmsOn m a r = isAlarm (taken m a r .report)
 

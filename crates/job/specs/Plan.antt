@@ -10,7 +10,7 @@ use Rattle.automaton.specs.Automaton.{Automaton, next, final}
 use Rattle.job.specs.Job.{Job}
 use Rattle.job.specs.Walk.{Event, shadow, word, symbolOf, Start, WalkFrom}
 
--- which nodes are watched ("enabled")
+-- which nodes are enabled ("watched")
 abbrev pub Enabling : Type 0
 Enabling = ℕ → Bool
 
@@ -40,7 +40,7 @@ unfoldable pub stateAfter : Automaton → Enabling → ℕ → List Event → �
 stateAfter m w q [] = q
 stateAfter m w q (e ∷ es) = stateAfter m w (stateAt m w q e) es
 
--- the alarms of the monitor under a watch, one for each event (the residual monitor; the full one under `full`)
+-- the alarms, one for each event: of the residual monitor ("under a plan"), and of the full one under `full`
 unfoldable pub alarms : Automaton → Enabling → ℕ → List Event → List Bool
 alarms m w q [] = []
 alarms m w q (e ∷ es) = alarmAt m w q e ∷ alarms m w (stateAt m w q e) es

@@ -1,4 +1,5 @@
--- The tests that planning and the listing use. What each says is one law of `proofs/`: `faithful-says`, `arrives-says`, `apart-says`.
+-- The tests that planning and the listing use; a first reading may leave this file out. What each says in walks is a law of `proofs/Decide.antt`:
+-- `faithful-says` and `different-says`, `arrives-says`, `apart-says` and `apart-not-says`.
 -- Assumes nothing.
 use mathlib.Core.Bool.{Bool, true, false, cond, not, _&&_, _||_}
 use mathlib.Core.List.{List, [], _∷_, _++_, map}
@@ -21,6 +22,7 @@ pub record Queue (A : Type 0) : Type 0 where
 abbrev pub pushed : {A : Type 0} → (A → ℕ) → A → Queue A → Queue A
 pushed code x q = cond (has (q .met) (code x)) q (record { met = q .met + 2 ^ code x; todo = x ∷ q .todo })
 
+-- several things more
 unfoldable pub pushAll : {A : Type 0} → (A → ℕ) → List A → Queue A → Queue A
 pushAll code [] q = q
 pushAll code (x ∷ xs) q = pushAll code xs (pushed code x q)
@@ -53,24 +55,27 @@ numbersOf (suc k) f = cond (f k) (k ∷ numbersOf k f) (numbersOf k f)
 
 -- ---- two monitors on a job
 
--- a place, the state under one watch and the state under the other
+-- a place, the state under one monitor and the state under the other
 pub record Config : Type 0 where
   pub place : Place
   pub one : ℕ
   pub other : ℕ
 
+-- a configuration of these
 abbrev pub configOf : Place → ℕ → ℕ → Config
 configOf x p q = record { place = x; one = p; other = q }
 
--- a code for each: below three places for each node, S states and S states
+-- a code for each place, three to a node
 abbrev pub placeCode : Place → ℕ
 placeCode (before n) = n * 3
 placeCode (past n) = n * 3 + 1
 placeCode (ended n) = n * 3 + 2
 
+-- a code for each configuration: the place and two digits to base S
 abbrev pub configCode : Job → Config → ℕ
 configCode j c = (placeCode (c .place) * j .rule .states + c .one) * j .rule .states + c .other
 
+-- codes are below this
 abbrev pub configCount : Job → ℕ
 configCount j = length (j .nodes) * 3 * j .rule .states * j .rule .states
 
@@ -79,23 +84,25 @@ unfoldable pub targets : List Edge → ℕ → List ℕ
 targets [] m = []
 targets (e ∷ es) m = cond (eqb (e .from) m) (e .to ∷ targets es m) (targets es m)
 
--- the silent moves from a place
+-- the places past a node that is entered silently
 abbrev pub entered : ℕ → Kind → List Place
 entered n plain = past n ∷ []
 entered n (event a) = []
 entered n (call s) = past n ∷ []
 
+-- the silent moves from a place
 unfoldable pub silentMoves : Job → Place → List Place
 unfolding targets
 silentMoves j (before n) = entered n (nodeAt j n .kind)
 silentMoves j (past n) = map before (targets (j .edges) n) ++ cond (nodeAt j n .exit) (ended n ∷ []) []
 silentMoves j (ended n) = []
 
--- an event and the place after it
+-- a move that reports: the event, and the place after it
 pub record Telling : Type 0 where
   pub event : Event
   pub to : Place
 
+-- an event with the place after it
 abbrev pub telling : Event → Place → Telling
 telling e y = record { event = e; to = y }
 
@@ -103,11 +110,13 @@ telling e y = record { event = e; to = y }
 abbrev pub words : ℕ → ℕ → Place → List Telling
 words a set x = map (λ s. telling (word s) x) (numbersOf a (has set))
 
+-- what is reported before a node of this kind
 abbrev pub reports : ℕ → Kind → List Telling
 reports n plain = []
 reports n (event a) = telling (shadow n a) (past n) ∷ []
 reports n (call s) = []
 
+-- what is reported past a node of this kind
 abbrev pub callWords : ℕ → ℕ → Kind → List Telling
 callWords a n plain = []
 callWords a n (event s) = []

@@ -7,7 +7,7 @@ use Prim.Native.Nat.{ℕ}
 use Rattle.laws.specs.Bits.{has}
 use Rattle.job.specs.Job.{plain, event, call, Job, nodeAt, leads}
 
--- an event of a walk: a symbol, reported by the point at a node or standing in a call word or after word
+-- an event of a walk: a symbol, reported by the shadow ("point") at a node or standing in a call word or after word
 pub data Event : Type 0 where
   shadow : ℕ → ℕ → Event
   word : ℕ → Event
