@@ -13,6 +13,7 @@ pub mod PassLaws
 pub mod PlanningLaws
 pub mod PlanningResult
 pub mod MonitorsLaws
+pub mod MonitorsMore
 pub mod TwoMonitors
 pub mod WellFormedTest
 pub mod TrialsPass

@@ -3,9 +3,9 @@
 -- two records are `alarms` under `full` and under the plan: the promise's first half is `Faithful`, what breaks it is `Different`.
 -- Assumes nothing.
 use mathlib.Core.Path.{_≡_, refl, sym, ap, ap₂, _∙_, subst}
-use mathlib.Core.Logic.{inl, inr}
+use mathlib.Core.Logic.{inl, inr, _↔_}
 use mathlib.Core.Bool.{Bool, true, false, cond, _&&_}
-use mathlib.Core.List.{List, [], _∷_, head-eq-of-cons-eq, tail-eq-of-cons-eq}
+use mathlib.Core.List.{List, [], _∷_, _++_, head-eq-of-cons-eq, tail-eq-of-cons-eq}
 use Prim.Native.Nat.{ℕ, zero, suc, _<_}
 use native.Mathlib.Omega.{arith}
 use lib.ListN.{set}
@@ -320,6 +320,49 @@ totals-equal rule w t cs k q e =
     ∙ sym (ap (λ (r : Record). r .alarms) (k .planned-follows .left))
 
 -- ---- what the reports say
+
+-- full reports alarm exactly when planned does at an event where the records stand so, and after it the two totals are equal
+pub record AgreesAt (w : Enabling) (t : Two) (e : Event) (m n : Automaton) : Type 0 where
+  pub reports : alarmsOn m (symbolOf e) (t .full) ≡ plannedAlarm w e n (t .planned)
+  pub totals : afterCall w t (walked e m n) .full .alarms ≡ afterCall w t (walked e m n) .planned .alarms
+
+-- so at every event of a list, as the records stand there
+abbrev pub AgreesAtEvery : Enabling → Two → List Call → Type 0
+AgreesAtEvery w t cs =
+    (before after : List Call) (e : Event) (m n : Automaton) → cs ≡ before ++ walked e m n ∷ after
+    → AgreesAt w (afterCalls w t before) e m n
+
+-- at every event after the first call too
+agrees-later : (w : Enabling) (t : Two) (c : Call) (cs : List Call) → AgreesAtEvery w t (c ∷ cs) → AgreesAtEvery w (afterCall w t c) cs
+unfolding afterCalls
+agrees-later w t c cs h before after e m n q = h (c ∷ before) after e m n (ap (λ (x : List Call). c ∷ x) q)
+
+-- what `Agree` says of one event of a list
+agree-at
+    : (w : Enabling) (t : Two) (before after : List Call) (e : Event) (m n : Automaton) → Agree w t (before ++ walked e m n ∷ after)
+    → AgreesAt w (afterCalls w t before) e m n
+unfolding afterCall afterCalls Agree
+agree-at w t [] after e m n g = record { reports = g .0; totals = g .1 }
+agree-at w t (walked d k l ∷ cs) after e m n g = agree-at w (afterCall w t (walked d k l)) cs after e m n (g .2)
+agree-at w t (on-full k a ∷ cs) after e m n g = agree-at w (afterCall w t (on-full k a)) cs after e m n g
+agree-at w t (on-planned k a ∷ cs) after e m n g = agree-at w (afterCall w t (on-planned k a)) cs after e m n g
+agree-at w t (elsewhere k a r ∷ cs) after e m n g = agree-at w t cs after e m n g
+
+-- what is so at every event makes `Agree`
+agree-of : (w : Enabling) (t : Two) (cs : List Call) → AgreesAtEvery w t cs → Agree w t cs
+unfolding afterCall afterCalls Agree
+agree-of w t [] h = tt
+agree-of w t (walked e m n ∷ cs) h =
+    let here = h [] cs e m n refl in
+    let rest = agrees-later w t (walked e m n) cs h in
+    (here .reports, here .totals, agree-of w (afterCall w t (walked e m n)) cs rest)
+agree-of w t (on-full n a ∷ cs) h = agree-of w (afterCall w t (on-full n a)) cs (agrees-later w t (on-full n a) cs h)
+agree-of w t (on-planned n a ∷ cs) h = agree-of w (afterCall w t (on-planned n a)) cs (agrees-later w t (on-planned n a) cs h)
+agree-of w t (elsewhere n a r ∷ cs) h = agree-of w t cs (agrees-later w t (elsewhere n a r) cs h)
+
+-- `Agree` is about every event of the list, whatever calls stand between
+pub agree-says : (w : Enabling) (t : Two) (cs : List Call) → Agree w t cs ↔ AgreesAtEvery w t cs
+agree-says w t cs = (λ g before after e m n q. agree-at w t before after e m n (subst (Agree w t) q g), agree-of w t cs)
 
 -- the total after an event under a watch
 given-total

@@ -136,7 +136,7 @@ differ-says xs ys l = (
 pub length-alarms : (m : Automaton) (w : Enabling) (q : ℕ) (es : List Event) → length (alarms m w q es) ≡ length es
 unfolding alarms
 length-alarms m w q [] = refl
-length-alarms m w q (e ∷ es) = ap suc (length-alarms m w (stateAt m w q e) es)
+length-alarms m w q (e ∷ es) = ap suc (length-alarms m w _ es)
 
 -- ---- pairs that are told apart
 

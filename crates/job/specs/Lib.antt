@@ -10,3 +10,4 @@ pub mod Planning
 pub mod Listing
 pub mod Monitors
 pub mod Trials
+pub mod Slips

@@ -7,8 +7,8 @@ use mathlib.Core.List.{List, [], _∷_}
 use Prim.Native.Nat.{ℕ}
 use Rattle.automaton.specs.Automaton.{Automaton, automatonOf}
 use Rattle.job.specs.Job.{Kind, plain, event, call, Node, Edge, Job, WellFormedJob}
+use Rattle.job.specs.Plan.{enables, Faithful, Different}
 use Rattle.job.specs.Listing.{ShadowLine, TotalLine, planOf, listingOf}
-use Rattle.job.specs.Search.{faithful}
 
 -- ---- how a trial is written
 
@@ -33,7 +33,8 @@ line n symbol before classes nop enabled =
 abbrev pub total : ℕ → ℕ → ℕ → TotalLine
 total shadows enabled passes = record { shadows = shadows; enabled = enabled; passes = passes }
 
--- what is asked of a job, with the right answer: its listing; its plan and the passes; of a plan, whether it is faithful
+-- what is asked of a job, with the right answer: its listing; its plan and the passes; of a plan, whether it is faithful (true) or
+-- different
 pub data Asked : Type 0 where
   lists : List ShadowLine → TotalLine → Asked
   plans : List ℕ → ℕ → Asked
@@ -48,11 +49,12 @@ pub record Trial : Type 0 where
 abbrev pub trial : Job → Asked → Trial
 trial job asked = record { job = job; asked = asked }
 
--- the answer of the definitions is the right one
+-- the right answer is that of the definitions: an equation, or on a plan what all walks say
 abbrev pub Answers : Job → Asked → Type 0
 Answers j (lists shadows t) = listingOf j ≡ record { shadows = shadows; total = t }
 Answers j (plans plan passes) = planOf j ≡ record { plan = plan; passes = passes }
-Answers j (checks plan answer) = faithful j plan ≡ answer
+Answers j (checks plan true) = Faithful j (enables plan)
+Answers j (checks plan false) = Different j (enables plan)
 
 -- a trial passes: its job is well formed, and the answer is right
 pub record TrialPasses (t : Trial) : Type 0 where
@@ -108,7 +110,7 @@ writeTwice =
     (node (event 0) 1 false 0 ∷ node (event 2) 0 false 0 ∷ node (event 2) 0 false 0 ∷ [])
     (edge 0 1 ∷ edge 1 2 ∷ [])
 
--- ---- jobs of our own, all but two with PAIR's rule: a write while sealed alarms, and seal and reopen forget what was before
+-- ---- jobs of our own, most with PAIR's rule: a write while sealed alarms, and seal and reopen forget what was before
 
 -- LOOP's event 0, then a call with words of event 1. Two of these lead from state 1 to 2 and 2; from 0, with the point unwatched,
 -- to 3 and 4, an alarm at the second. With words of at most one event the point would go
@@ -137,12 +139,26 @@ edgeShows = jobOf pairRule (node (event 0) 1 true 2 ∷ node (event 2) 0 false 0
 abbrev pub wordLast : Job
 wordLast = jobOf pairRule (node plain 1 true 1 ∷ node (event 2) 0 false 0 ∷ []) (edge 0 1 ∷ [])
 
--- a rule that alarms at 0 and then 1: from state 0 to 1 to 2; a 1 at once leads to 3 for good. The point reports 1, and after it is a
--- call of 0 that is an exit with after words of 1. With the point unwatched 0, 1 alarms: it takes both words, the call's first
+-- a rule that alarms at 0 and then 1: from state 0 to 1 to 2; a 1 at once leads to 3 for good
+abbrev pub wordRule : Automaton
+wordRule = automatonOf ((1 ∷ 3 ∷ []) ∷ (1 ∷ 2 ∷ []) ∷ (3 ∷ 3 ∷ []) ∷ (3 ∷ 3 ∷ []) ∷ []) 4 2 4
+
+-- the point reports 1, and after it is a call of 0 that is an exit with after words of 1. With the point unwatched 0, 1 alarms: it
+-- takes both words, the call's first
 abbrev pub wordThenAfter : Job
-wordThenAfter =
-    jobOf (automatonOf ((1 ∷ 3 ∷ []) ∷ (1 ∷ 2 ∷ []) ∷ (3 ∷ 3 ∷ []) ∷ (3 ∷ 3 ∷ []) ∷ []) 4 2 4)
-    (node (event 1) 1 false 0 ∷ node (call 1) 0 true 2 ∷ []) (edge 0 1 ∷ [])
+wordThenAfter = jobOf wordRule (node (event 1) 1 false 0 ∷ node (call 1) 0 true 2 ∷ []) (edge 0 1 ∷ [])
+
+-- the same point, at an exit with after words of both symbols: 0, 1 is one of them, of two events and over both
+abbrev pub afterOfTwo : Job
+afterOfTwo = jobOf wordRule (node (event 1) 1 true 3 ∷ []) []
+
+-- the same point, then a call with words of both symbols
+abbrev pub callOfTwo : Job
+callOfTwo = jobOf wordRule (node (event 1) 1 false 0 ∷ node (call 3) 0 false 0 ∷ []) (edge 0 1 ∷ [])
+
+-- seal, then a reopen at an exit with after words of write: they begin after the reopen, never sealed, so that both points go
+abbrev pub reopenLast : Job
+reopenLast = jobOf pairRule (node (event 0) 1 false 0 ∷ node (event 1) 0 true 4 ∷ []) (edge 0 1 ∷ [])
 
 -- a seal where it is sealed already, then words of write, after an exit and in a call: their events are taken under every plan, so
 -- that both monitors alarm at them and the seal goes
@@ -185,6 +201,27 @@ finalAgain = jobOf pairRule (node (event 2) 4 false 0 ∷ []) []
 abbrev pub reopened : Job
 reopened = jobOf pairRule (node (event 1) 2 false 0 ∷ node (event 2) 2 false 0 ∷ []) (edge 0 1 ∷ [])
 
+-- a write entered open or sealed: every admitted state is a start, and from the second it alarms
+abbrev pub openOrSealed : Job
+openOrSealed = jobOf pairRule (node (event 2) 3 false 0 ∷ []) []
+
+-- a rule of sixteen states in a ring, with the final states of a set
+abbrev pub ringRule : ℕ → Automaton
+ringRule finals =
+    automatonOf
+    ((1 ∷ []) ∷ (2 ∷ []) ∷ (3 ∷ []) ∷ (4 ∷ []) ∷ (5 ∷ []) ∷ (6 ∷ []) ∷ (7 ∷ []) ∷ (8 ∷ [])
+    ∷ (9 ∷ []) ∷ (10 ∷ []) ∷ (11 ∷ []) ∷ (12 ∷ []) ∷ (13 ∷ []) ∷ (14 ∷ []) ∷ (15 ∷ []) ∷ (0 ∷ []) ∷ [])
+    16 1 finals
+
+-- an event in a loop, entered in state 15, with the odd states final: all sixteen states arrive, and the classes are the even states
+-- and the odd, no two neighbours in one
+abbrev pub aroundTheRing : Job
+aroundTheRing = jobOf (ringRule 43690) (node (event 0) 32768 false 0 ∷ []) (edge 0 0 ∷ [])
+
+-- an event entered in state 15, the highest, and then in state 0, the one final state
+abbrev pub highestState : Job
+highestState = jobOf (ringRule 1) (node (event 0) 32768 false 0 ∷ []) []
+
 -- all trial jobs: those that document 01 marks with a star, then our own
 abbrev pub trials : List Trial
 trials =
@@ -212,6 +249,9 @@ trials =
     ∷ trial edgeShows (lists (line 0 0 1 2 0 1 ∷ line 1 2 2 1 0 1 ∷ []) (total 2 2 1))
     ∷ trial wordLast (lists (line 1 2 1 1 1 0 ∷ []) (total 1 0 2))
     ∷ trial wordThenAfter (lists (line 0 1 1 3 0 1 ∷ []) (total 1 1 1))
+    ∷ trial afterOfTwo (lists (line 0 1 1 3 0 1 ∷ []) (total 1 1 1))
+    ∷ trial callOfTwo (lists (line 0 1 1 3 0 1 ∷ []) (total 1 1 1))
+    ∷ trial reopenLast (lists (line 0 0 1 1 1 0 ∷ line 1 1 2 2 0 0 ∷ []) (total 2 0 2))
     ∷ trial wordsTaken (lists (line 0 0 2 2 1 0 ∷ []) (total 1 0 2))
     ∷ trial noWayBack (lists (line 0 2 1 1 1 0 ∷ line 1 0 1 1 1 0 ∷ []) (total 2 0 2))
     -- entries and points
@@ -221,4 +261,8 @@ trials =
     ∷ trial noPoint (lists [] (total 0 0 1))
     ∷ trial finalAgain (lists (line 0 2 4 1 0 1 ∷ []) (total 1 1 1))
     ∷ trial reopened (lists (line 0 1 2 2 0 1 ∷ line 1 2 3 1 0 1 ∷ []) (total 2 2 1))
+    ∷ trial openOrSealed (lists (line 0 2 3 1 0 1 ∷ []) (total 1 1 1))
+    -- sixteen states
+    ∷ trial aroundTheRing (lists (line 0 0 65535 2 0 1 ∷ []) (total 1 1 1))
+    ∷ trial highestState (lists (line 0 0 32768 1 0 1 ∷ []) (total 1 1 1))
     ∷ []
