@@ -1,0 +1,31 @@
+-- The table of files is read as it should be, and PAIR is written as its file: the definitions are computed, row by row.
+-- Assumes nothing.
+use mathlib.Core.Path.{_≡_, refl}
+use Rattle.laws.specs.Bounded.{allBelow}
+use Rattle.laws.specs.Bits.{has}
+use Rattle.jobfile.specs.Line.{decimal, field, fields, digitsOf, fieldOf, fieldsOf, lineOf}
+use Rattle.jobfile.specs.Lines.{linesOf}
+use Rattle.jobfile.specs.File.{finalsOf, someEntry, readRest, readJob, writeJob}
+use Rattle.jobfile.specs.FileTrials.{AllRead, done, _and_, pairJob, pairFile, fileTrials}
+
+-- all files, in the order of the table
+pub file-trials-pass : AllRead fileTrials
+unfolding fileTrials allBelow has digitsOf fieldOf fieldsOf lineOf linesOf finalsOf someEntry readRest readJob
+file-trials-pass =
+    refl
+    and refl
+    and refl and refl
+    and refl and refl
+    and refl and refl and refl and refl and refl and refl and refl and refl and refl
+    and refl and refl and refl and refl and refl and refl
+    and refl and refl and refl and refl and refl
+    and refl and refl and refl and refl and refl and refl and refl and refl and refl and refl
+    and refl and refl and refl and refl
+    and refl and refl
+    and refl
+    and done
+
+-- PAIR's file is written from its job
+pub pair-written : writeJob pairJob ≡ pairFile
+unfolding pairFile has decimal field fields writeJob
+pair-written = refl

@@ -1,0 +1,256 @@
+-- A file is accepted with a job exactly where it is the file written from that job and the job is spellable; so reading and writing
+-- are inverse, and no accepted file has more than 49,914 bytes. Each part by the laws of its lines.
+-- Assumes nothing.
+use Prim.Native.Nat.{ℕ, _+_, _*_, _≤_, _<_}
+use mathlib.Core.Path.{_≡_, refl, sym, ap, _∙_}
+use mathlib.Core.Logic.{by-cases}
+use mathlib.Core.Bool.{true, true≢false}
+use mathlib.Core.List.{List, [], _∷_, _++_, map, append-nil}
+use native.Mathlib.Decide.{decLt}
+use native.Mathlib.Omega.{arith}
+use lib.ListN.{length, drop, getD, length-map}
+use Rattle.automaton.specs.Automaton.{WellFormed, cell}
+use Rattle.job.specs.Job.{Job, noNode, WellFormedJob}
+use Rattle.jobfile.specs.File.{at, ruleLine, nodeLine, edgeLine, finalsOf, ruleOf, nodeOf, edgeOf, someEntry, accepted, readJob, writeJob}
+use Rattle.jobfile.specs.Refusal.{HeadWithin, writeLines, GoodLines, PastHead, PastRules, PastNodes, PastEdges, jobOf}
+use Rattle.jobfile.specs.Spellable.{Spellable, ReadsWhatIsWritten}
+use Rattle.jobfile.proofs.SpelledRules.{ruleLines, rules-count, rules-table, finals-high, finals-same, RowsFit, rules-exact, rules-good, rows-fit}
+use Rattle.jobfile.proofs.SpelledNodes.{nodeLines, nodes-count, nodes-read, NodeFits, nodes-exact, nodes-fit, nodes-good}
+use Rattle.jobfile.proofs.SpelledEdges.{edgeNumbers, edges-read, edges-exact, edges-ascend, edges-below, edges-good}
+use Rattle.jobfile.proofs.SpelledFile.{head-good, head-exact, fileOf, write-one, written-form, past-form, file-length, length-limit}
+use Rattle.jobfile.proofs.RefusalLaws.{Whole, some-entry-says, accepted-says}
+
+-- ---- from a job to its lines
+
+module _ (j : Job) (spell : Spellable j) where
+  -- the limits of its J line
+  head-fits : HeadWithin (j .rule .states) (j .rule .symbols) (length (j .nodes)) (length (j .edges))
+  head-fits =
+      let w = spell .well-formed .rule in
+      record {
+        some-state = w .some-state;
+        few-states = w .few-states;
+        some-symbol = w .some-symbol;
+        few-symbols = w .few-symbols;
+        some-node = spell .some-node;
+        few-nodes = spell .few-nodes;
+        few-edges = spell .few-edges;
+      }
+
+  -- its table
+  table-fits : RowsFit (j .rule .states) (j .rule .symbols) (j .rule .table)
+  unfolding cell
+  table-fits q h =
+      let within : q < j .rule .states = omega (arith, spell .rows) in
+      (spell .columns q within, λ c l. spell .well-formed .rule .next-below q c within l)
+
+  -- its nodes
+  node-fits : (m : ℕ) → NodeFits (j .rule .states) (j .rule .symbols) (getD (j .nodes) m noNode)
+  node-fits m =
+      let w = spell .well-formed in
+      record {
+        kind = w .kinds m;
+        entry = w .entries m;
+        after = w .afters m;
+        none = spell .afters m;
+      }
+
+  -- its R lines are good
+  rules-fine : GoodLines (ruleLine (j .rule .states) (j .rule .symbols)) 0 [] (ruleLines (j .rule .finals) 0 (j .rule .table))
+  rules-fine =
+      let few = spell .well-formed .rule .few-states in
+      rules-good (j .rule .states) (j .rule .symbols) (j .rule .finals) 0 [] (j .rule .table) (omega arith)
+      (omega (arith, spell .rows)) table-fits
+
+  -- its P lines are good
+  nodes-fine : GoodLines (nodeLine (j .rule .states) (j .rule .symbols)) 0 [] (nodeLines 0 (j .nodes))
+  nodes-fine =
+      let w = spell .well-formed .rule in
+      nodes-good (j .rule .states) (j .rule .symbols) 0 [] (j .nodes) (w .few-states) (w .few-symbols)
+      (omega (arith, spell .few-nodes)) node-fits
+
+  -- its F lines are good
+  edges-fine : GoodLines (edgeLine (length (j .nodes))) 0 [] (map edgeNumbers (j .edges))
+  edges-fine =
+      edges-good (length (j .nodes)) (j .edges) (omega (arith, spell .few-nodes)) (spell .well-formed .edges) (spell .ascending)
+
+  -- one for each state
+  rules-all : length (ruleLines (j .rule .finals) 0 (j .rule .table)) ≡ j .rule .states
+  rules-all = rules-count (j .rule .finals) 0 (j .rule .table) ∙ spell .rows
+
+  -- how long the file of a job is
+  pub written-length
+      : length (writeJob j)
+      ≡ 26 + j .rule .states * (j .rule .symbols * 6 + 14) + length (j .nodes) * 38 + length (j .edges) * 14
+  written-length =
+      ap length (written-form j)
+      ∙ file-length (j .rule .states) (j .rule .symbols) (length (j .nodes)) (length (j .edges))
+      (j .rule .states ∷ j .rule .symbols ∷ length (j .nodes) ∷ length (j .edges) ∷ [])
+      (ruleLines (j .rule .finals) 0 (j .rule .table)) (nodeLines 0 (j .nodes)) (map edgeNumbers (j .edges)) refl
+      rules-fine rules-all nodes-fine (nodes-count 0 (j .nodes)) edges-fine (length-map (j .edges) edgeNumbers)
+
+  -- "longer than 49,914 bytes" is no file of a job
+  pub longest : length (writeJob j) ≤ 49914
+  longest =
+      rw written-length
+      (length-limit (j .rule .states) (j .rule .symbols) (length (j .nodes)) (length (j .edges)) head-fits)
+
+  -- the job of its lines
+  lines-job
+      : j
+      ≡ jobOf (j .rule .states ∷ j .rule .symbols ∷ length (j .nodes) ∷ length (j .edges) ∷ [])
+      (ruleLines (j .rule .finals) 0 (j .rule .table)) (nodeLines 0 (j .nodes)) (map edgeNumbers (j .edges))
+  lines-job =
+      rw (
+        finals-same (j .rule .finals) (j .rule .table) (λ q h. rw (spell .rows) (spell .well-formed .rule .finals-below q h)),
+        rules-table (j .rule .finals) 0 (j .rule .table),
+        nodes-read 0 (j .nodes),
+        edges-read (j .edges),
+      )
+
+  -- its file consists of those lines
+  written-whole : Whole (writeJob j) j
+  written-whole =
+      let head : List ℕ = j .rule .states ∷ j .rule .symbols ∷ length (j .nodes) ∷ length (j .edges) ∷ [] in
+      let rules : List (List ℕ) = ruleLines (j .rule .finals) 0 (j .rule .table) in
+      let nodes : List (List ℕ) = nodeLines 0 (j .nodes) in
+      let edges : List (List ℕ) = map edgeNumbers (j .edges) in
+      let from-edges : List ℕ = writeLines 70 edges in
+      let from-nodes : List ℕ = writeLines 80 nodes ++ from-edges in
+      let from-rules : List ℕ = writeLines 82 rules ++ from-nodes in
+      let past-head : PastHead (writeJob j) head from-rules =
+      record {
+        short = longest;
+        lines =
+            record {
+              count = refl;
+              good = head-good (j .rule .states) (j .rule .symbols) (length (j .nodes)) (length (j .edges)) head-fits;
+              spelled = written-form j ∙ sym (write-one 74 head from-rules);
+            };
+      } in
+      let past-rules : PastRules (writeJob j) head rules from-nodes =
+      record { from = from-rules; past = past-head; lines = record { count = rules-all; good = rules-fine; spelled = refl } } in
+      let past-nodes : PastNodes (writeJob j) head rules nodes from-edges =
+      record {
+        from = from-nodes;
+        past = past-rules;
+        lines = record { count = nodes-count 0 (j .nodes); good = nodes-fine; spelled = refl };
+      } in
+      record {
+        head = head;
+        rules = rules;
+        nodes = nodes;
+        edges = edges;
+        past =
+            record {
+              from = from-edges;
+              past = past-nodes;
+              lines =
+                  record { count = length-map (j .edges) edgeNumbers; good = edges-fine; spelled = sym (append-nil from-edges) };
+            };
+        entry = rw (nodes-read 0 (j .nodes)) (some-entry-says (j .nodes) .1 (spell .some-entry));
+        job = lines-job;
+      }
+
+  -- the file written from a job is read as that job
+  pub written-read : readJob (writeJob j) ≡ accepted j
+  written-read = accepted-says (writeJob j) j .1 written-whole
+
+-- ---- from the lines to a job
+
+module _
+    (file head : List ℕ) (rules nodes edges : List (List ℕ)) (p : PastEdges file head rules nodes edges [])
+    (some : someEntry (map nodeOf nodes) ≡ true)
+  where
+    -- there are N nodes
+    nodes-all : length (map nodeOf nodes) ≡ at head 2
+    nodes-all = length-map nodes nodeOf ∙ p .past .lines .count
+
+    -- there are E edges
+    edges-all : length (map edgeOf edges) ≡ at head 3
+    edges-all = length-map edges edgeOf ∙ p .lines .count
+
+    -- the job's file is that of the lines
+    lines-written : writeJob (jobOf head rules nodes edges) ≡ fileOf head rules nodes edges
+    lines-written =
+        let whole = head-exact head (p .past .past .past .lines .good) .0 in
+        let same : at head 0 ∷ at head 1 ∷ length (map nodeOf nodes) ∷ length (map edgeOf edges) ∷ [] ≡ head =
+        rw (nodes-all, edges-all) (sym whole) in
+        written-form (jobOf head rules nodes edges)
+        ∙ rw (
+          same,
+          rules-exact (at head 0) (at head 1) (finalsOf 0 rules) (p .past .past .lines .good) (λ q l. refl),
+          nodes-exact (at head 0) (at head 1) (p .past .lines .good),
+          edges-exact (at head 2) (p .lines .good),
+        )
+
+    -- the rule is well formed
+    rule-fine : WellFormed (ruleOf (at head 0) (at head 1) rules)
+    unfolding cell
+    rule-fine =
+        let f = head-exact head (p .past .past .past .lines .good) .1 in
+        let lines = p .past .past .lines in
+        record {
+          some-state = f .some-state;
+          few-states = f .few-states;
+          some-symbol = f .some-symbol;
+          few-symbols = f .few-symbols;
+          next-below = λ q c hq hc.
+              rows-fit (at head 0) (at head 1) (lines .good) q (rw (length-map rules (drop 2), lines .count) hq) .1 c hc;
+          finals-below = λ q h.
+              by-cases (decLt q (at head 0)) (λ l. l)
+              (λ g. absurd (true≢false (sym h ∙ finals-high 0 q rules (omega (arith, lines .count)))));
+        }
+
+    -- every node, state and symbol that is named exists
+    job-fine : WellFormedJob (jobOf head rules nodes edges)
+    job-fine =
+        let fit = nodes-fit (at head 0) (at head 1) (p .past .lines .good) in
+        record {
+          rule = rule-fine;
+          kinds = λ n. fit n .kind;
+          entries = λ n. fit n .entry;
+          afters = λ n. fit n .after;
+          edges = λ m n h. rw nodes-all (edges-below (at head 2) (p .lines .good) m n h);
+        }
+
+    -- the job of good lines is spellable
+    lines-spellable : Spellable (jobOf head rules nodes edges)
+    lines-spellable =
+        let f = head-exact head (p .past .past .past .lines .good) .1 in
+        let rows-all : length (map (drop 2) rules) ≡ at head 0 = length-map rules (drop 2) ∙ p .past .past .lines .count in
+        record {
+          well-formed = job-fine;
+          rows = rows-all;
+          columns = λ q h. rows-fit (at head 0) (at head 1) (p .past .past .lines .good) q (rw rows-all h) .0;
+          some-node = rw nodes-all (f .some-node);
+          few-nodes = rw nodes-all (f .few-nodes);
+          few-edges = rw edges-all (f .few-edges);
+          ascending = edges-ascend (at head 2) (p .lines .good);
+          afters = λ n. nodes-fit (at head 0) (at head 1) (p .past .lines .good) n .none;
+          some-entry = some-entry-says (map nodeOf nodes) .0 some;
+        }
+
+-- ---- both ways
+
+-- an accepted file is the file written from its job, which is spellable
+pub read-written : (file : List ℕ) (j : Job) → readJob file ≡ accepted j → (file ≡ writeJob j) × Spellable j
+read-written file j e =
+    let w = accepted-says file j .0 e in
+    rw (w .job) (
+      past-form file (w .head) (w .rules) (w .nodes) (w .edges) (w .past)
+          ∙ sym (lines-written file (w .head) (w .rules) (w .nodes) (w .edges) (w .past) (w .entry)),
+      lines-spellable file (w .head) (w .rules) (w .nodes) (w .edges) (w .past) (w .entry),
+    )
+
+-- a file is accepted with a job exactly where it spells that job
+pub accepted-written : ReadsWhatIsWritten
+accepted-written file j = (read-written file j, λ s. rw (s .0) (written-read j (s .1)))
+
+-- two accepted files with one job are equal
+pub accepted-once : (f g : List ℕ) (j : Job) → readJob f ≡ accepted j → readJob g ≡ accepted j → f ≡ g
+accepted-once f g j d e = read-written f j d .0 ∙ sym (read-written g j e .0)
+
+-- an accepted job is well formed
+pub accepted-well-formed : (file : List ℕ) (j : Job) → readJob file ≡ accepted j → WellFormedJob j
+accepted-well-formed file j e = read-written file j e .1 .well-formed

@@ -1,0 +1,175 @@
+-- What a job file is turned back for (document 01, "Turned back, by number", 1 and 3 to 10), said of the lines that are written in
+-- it and not of how they are read.
+-- Assumes nothing.
+use mathlib.Core.Path.{_≡_}
+use mathlib.Core.Logic.{_≢_, _⊎_, _↔_}
+use mathlib.Core.Bool.{true, false}
+use mathlib.Core.List.{List, [], _∷_, _++_, map}
+use Prim.Native.Nat.{ℕ, suc, _+_, _≤_, _<_}
+use lib.ListN.{length, getD}
+use Rattle.laws.specs.Bits.{has}
+use Rattle.job.specs.Job.{Job, noNode}
+use Rattle.jobfile.specs.Line.{line}
+use Rattle.jobfile.specs.Lines.{Kind}
+use Rattle.jobfile.specs.File.{maxFile, at, headLine, ruleLine, nodeLine, edgeLine, ruleOf, nodeOf, edgeOf, accepted, turned, readJob}
+
+-- ---- lines of one kind
+
+-- numbers of at most six digits; past the last one `at` is 0
+abbrev pub Fits : List ℕ → Type 0
+Fits ns = (i : ℕ) → at ns i < 1000000
+
+-- the bytes begin with a line of the kind, "its letter, its fields and its end byte", and the rest follows it
+pub record LineAt (k : Kind) (bytes ns rest : List ℕ) : Type 0 where
+  pub count : length ns ≡ k .count
+  pub fits : Fits ns
+  pub spelled : bytes ≡ line (k .letter) ns ++ rest
+
+-- lines written one after the other
+unfoldable pub writeLines : ℕ → List (List ℕ) → List ℕ
+writeLines letter [] = []
+writeLines letter (ns ∷ ls) = line letter ns ++ writeLines letter ls
+
+-- good lines in turn, from place i on, after a line with the numbers `before`
+pub data GoodLines (k : Kind) : ℕ → List ℕ → List (List ℕ) → Type 0 where
+  good-none : {i : ℕ} {before : List ℕ} → GoodLines k i before []
+  good-more
+      : {i : ℕ} {before ns : List ℕ} {ls : List (List ℕ)} → length ns ≡ k .count → Fits ns → k .good i before ns ≡ true
+      → GoodLines k (suc i) ns ls → GoodLines k i before (ns ∷ ls)
+
+-- the bytes begin with c good lines, and the rest follows them
+pub record LinesAt (k : Kind) (c i : ℕ) (before bytes : List ℕ) (ls : List (List ℕ)) (rest : List ℕ) : Type 0 where
+  pub count : length ls ≡ c
+  pub good : GoodLines k i before ls
+  pub spelled : bytes ≡ writeLines (k .letter) ls ++ rest
+
+-- why the line due at the start of the bytes is turned back
+pub data BadLine (k : Kind) (i : ℕ) (before bytes : List ℕ) : ℕ → Type 0 where
+  -- 3: "the file ends where a line is due"
+  ended : bytes ≡ [] → BadLine k i before bytes 3
+  -- 4: "the line due has not its letter, its fields or its end byte"
+  malformed : bytes ≢ [] → ((ns rest : List ℕ) → LineAt k bytes ns rest → ⊥) → BadLine k i before bytes 4
+  -- 5 to 8, by the kind
+  outside : {ns rest : List ℕ} → LineAt k bytes ns rest → k .good i before ns ≡ false → BadLine k i before bytes (k .refusal)
+
+-- the last of some lines, or the one before them
+unfoldable pub lastOf : List ℕ → List (List ℕ) → List ℕ
+lastOf before [] = before
+lastOf before (ns ∷ ls) = lastOf ns ls
+
+-- of c lines due, the first that is turned back: those passed before it are good
+pub record FirstBad (k : Kind) (c i : ℕ) (before bytes : List ℕ) (r : ℕ) : Type 0 where
+  pub passed : List (List ℕ)
+  pub due : List ℕ
+  pub few : length passed < c
+  pub good : GoodLines k i before passed
+  pub spelled : bytes ≡ writeLines (k .letter) passed ++ due
+  pub bad : BadLine k (i + length passed) (lastOf before passed) due r
+
+-- ---- the tests of 5 to 8 in words: a line's test passes if and only if this holds of its numbers
+
+-- 5: "S and A 1 to 16, N 1 to 512, E 0 to 2,048"
+pub record HeadWithin (s a n e : ℕ) : Type 0 where
+  pub some-state : 1 ≤ s
+  pub few-states : s ≤ 16
+  pub some-symbol : 1 ≤ a
+  pub few-symbols : a ≤ 16
+  pub some-node : 1 ≤ n
+  pub few-nodes : n ≤ 512
+  pub few-edges : e ≤ 2048
+
+-- 6: the R line at place i of a job of s states and a symbols
+pub record RuleWithin (s a i : ℕ) (ns : List ℕ) : Type 0 where
+  pub state : at ns 0 ≡ i
+  pub final : at ns 1 ≤ 1
+  pub next : (c : ℕ) → c < a → at ns (c + 2) < s
+
+-- 7: the P line at place i of such a job
+pub record NodeWithin (s a i : ℕ) (ns : List ℕ) : Type 0 where
+  pub node : at ns 0 ≡ i
+  pub kind : at ns 1 ≤ 2
+  pub plain-value : at ns 1 ≡ 0 → at ns 2 ≡ 0
+  pub symbol : at ns 1 ≡ 1 → at ns 2 < a
+  pub call-set : at ns 1 ≡ 2 → (q : ℕ) → has (at ns 2) q ≡ true → q < a
+  pub entry-set : (q : ℕ) → has (at ns 3) q ≡ true → q < s
+  pub exit-mark : at ns 4 ≤ 1
+  pub after-set : (q : ℕ) → has (at ns 5) q ≡ true → q < a
+  pub no-after : at ns 4 ≡ 0 → at ns 5 ≡ 0
+
+-- 8: an F line of a job of n nodes, after the line before it, if there is one
+pub record EdgeWithin (n : ℕ) (before ns : List ℕ) : Type 0 where
+  pub from : at ns 0 < n
+  pub to : at ns 1 < n
+  pub ascends : (before ≡ []) ⊎ ((at before 0 < at ns 0) ⊎ ((at before 0 ≡ at ns 0) × (at before 1 < at ns 1)))
+
+-- ---- the file, as far as it is good
+
+-- the J line, with S, A, N and E
+pub record PastHead (file head rest : List ℕ) : Type 0 where
+  pub short : length file ≤ maxFile
+  pub lines : LinesAt headLine 1 0 [] file (head ∷ []) rest
+
+-- the R lines too
+pub record PastRules (file head : List ℕ) (rules : List (List ℕ)) (rest : List ℕ) : Type 0 where
+  pub from : List ℕ
+  pub past : PastHead file head from
+  pub lines : LinesAt (ruleLine (at head 0) (at head 1)) (at head 0) 0 [] from rules rest
+
+-- the P lines too
+pub record PastNodes (file head : List ℕ) (rules nodes : List (List ℕ)) (rest : List ℕ) : Type 0 where
+  pub from : List ℕ
+  pub past : PastRules file head rules from
+  pub lines : LinesAt (nodeLine (at head 0) (at head 1)) (at head 2) 0 [] from nodes rest
+
+-- the F lines too
+pub record PastEdges (file head : List ℕ) (rules nodes edges : List (List ℕ)) (rest : List ℕ) : Type 0 where
+  pub from : List ℕ
+  pub past : PastNodes file head rules nodes from
+  pub lines : LinesAt (edgeLine (at head 2)) (at head 3) 0 [] from edges rest
+
+-- the job of the lines
+abbrev pub jobOf : List ℕ → List (List ℕ) → List (List ℕ) → List (List ℕ) → Job
+jobOf head rules nodes edges =
+    record { rule = ruleOf (at head 0) (at head 1) rules; nodes = map nodeOf nodes; edges = map edgeOf edges }
+
+-- ---- the file turned back, with the number
+
+-- r is the first that fails: all lines before the one it is of are good
+pub data TurnedBack (file : List ℕ) : ℕ → Type 0 where
+  -- 1: "the file is longer than 49,914 bytes"
+  too-long : maxFile < length file → TurnedBack file 1
+  -- 3, 4 or 5 at the J line
+  at-head : {r : ℕ} → length file ≤ maxFile → FirstBad headLine 1 0 [] file r → TurnedBack file r
+  -- 3, 4 or 6 at an R line
+  at-rule
+      : {r : ℕ} {head rest : List ℕ} → PastHead file head rest
+      → FirstBad (ruleLine (at head 0) (at head 1)) (at head 0) 0 [] rest r → TurnedBack file r
+  -- 3, 4 or 7 at a P line
+  at-node
+      : {r : ℕ} {head rest : List ℕ} {rules : List (List ℕ)} → PastRules file head rules rest
+      → FirstBad (nodeLine (at head 0) (at head 1)) (at head 2) 0 [] rest r → TurnedBack file r
+  -- 3, 4 or 8 at an F line
+  at-edge
+      : {r : ℕ} {head rest : List ℕ} {rules nodes : List (List ℕ)} → PastNodes file head rules nodes rest
+      → FirstBad (edgeLine (at head 2)) (at head 3) 0 [] rest r → TurnedBack file r
+  -- 9: "bytes follow the last line"
+  bytes-follow
+      : {head rest : List ℕ} {rules nodes edges : List (List ℕ)} → PastEdges file head rules nodes edges rest → rest ≢ []
+      → TurnedBack file 9
+  -- 10: "no node is an entry"
+  no-entry
+      : {head : List ℕ} {rules nodes edges : List (List ℕ)} → PastEdges file head rules nodes edges []
+      → ((i : ℕ) → getD (map nodeOf nodes) i noNode .entry ≡ 0) → TurnedBack file 10
+
+-- the numbers of this layer: 1 and 3 to 10 (2 is of lent buffers)
+abbrev pub RefusalNumber : ℕ → Type 0
+RefusalNumber r = (r ≡ 1) ⊎ ((3 ≤ r) × (r ≤ 10))
+
+-- the statement: the answer is r if and only if r is the first that fails
+abbrev pub RefusesInOrder : Type 0
+RefusesInOrder = (file : List ℕ) (r : ℕ) → (readJob file ≡ turned r) ↔ TurnedBack file r
+
+-- the statement: every file is accepted or turned back by one of these numbers
+abbrev pub AnswersEveryFile : Type 0
+AnswersEveryFile =
+    (file : List ℕ) → ((j : Job) × (readJob file ≡ accepted j)) ⊎ ((r : ℕ) × TurnedBack file r × RefusalNumber r)

@@ -1,0 +1,17 @@
+// Clearing the work buffer.
+ghost use mathlib.Core.Path.{_≡_};
+ghost use Prim.Native.Nat.{_≤_};
+ghost use lib.ListN.{length};
+ghost use Rattle.jobfile.specs.Layout.{cleared};
+
+// Makes the first 65,536 bytes zero and leaves the rest.
+pub fn clear(work: &mut [u8])
+    requires { ⌜ 65536 ≤ length (now work) ⌝ }
+    ensures { λ _. ⌜ now (work .exit) ≡ cleared (now (work .entry)) ⌝ }
+{
+    let mut i = 0;
+    while i < 65536 {
+        work[i] = 0;
+        i += 1;
+    }
+}

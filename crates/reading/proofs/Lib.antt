@@ -1,0 +1,3 @@
+-- The laws of the call.
+-- Assumes nothing.
+pub mod ReadingLaws

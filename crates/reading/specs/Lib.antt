@@ -1,0 +1,3 @@
+-- The call that reads a job file.
+-- Assumes nothing.
+pub mod Reading

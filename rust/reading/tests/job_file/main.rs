@@ -1,0 +1,15 @@
+//! Reading a job file by the library, beside a second reader and by itself.
+mod agreement;
+mod cases;
+mod damage;
+mod damaged;
+mod faults;
+mod jobs;
+mod memory;
+mod random;
+mod samples;
+mod second;
+mod slip;
+mod trials;
+mod two_faults;
+mod work;
