@@ -27,3 +27,4 @@ pub mod SpellableLaws
 pub mod AnswerLaws
 pub mod Longest
 pub mod FileTrialsPass
+pub mod TableLaws

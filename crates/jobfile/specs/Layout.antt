@@ -5,10 +5,11 @@ use mathlib.Core.Logic.{_⊎_}
 use mathlib.Core.List.{List, [], _++_, map}
 use Prim.Native.Nat.{ℕ, zero, suc, _+_, _-_, _*_, _≤_, _<_}
 use lib.Dec.{eqb}
-use lib.ListN.{length, getD, drop, replicate}
+use lib.ListN.{length, getD, drop, replicate, take}
 use Rattle.laws.specs.Bounded.{tabFrom, tab}
 use Rattle.laws.specs.Bytes.{numberAt}
 use Rattle.automaton.specs.Automaton.{automatonOf}
+use Rattle.automaton.specs.Table.{tableOf}
 use Rattle.job.specs.Job.{Node, Edge, Job}
 use Rattle.jobfile.specs.declared.head.Head.{Head}
 use Rattle.jobfile.specs.File.{kindOf}
@@ -67,6 +68,10 @@ edgesFrom work m (suc c) = map (edge m) (successorsIn work m) ++ edgesFrom work 
 -- the next state of state q on symbol a
 unfoldable pub cellIn : List ℕ → ℕ → ℕ → ℕ
 cellIn work q a = getD work (rulePart + q * 16 + a) 0
+
+-- the whole table, sixteen rows of sixteen
+unfoldable pub ruleIn : List ℕ → List (List ℕ)
+ruleIn work = tableOf (take 256 (drop rulePart work))
 
 -- s rows of a next states
 unfoldable pub tableIn : List ℕ → ℕ → ℕ → List (List ℕ)

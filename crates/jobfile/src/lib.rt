@@ -7,3 +7,4 @@ pub mod line;
 pub mod node;
 pub mod read;
 pub mod rule;
+pub mod table;
