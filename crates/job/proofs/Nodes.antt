@@ -13,6 +13,7 @@ use Rattle.job.specs.Job.{Kind, plain, event, call, Job, nodeAt, leads, 
 use Rattle.job.specs.Walk.{Event, shadow, Place, before, past, ended, Silent, pass-plain, begin-word, take-edge, begin-after}
 use Rattle.job.specs.Walk.{Told, report, call-word, after-word}
 use Rattle.job.specs.Plan.{Enabling, stateAt, alarmAt}
+use Rattle.job.specs.Words.{WordApart, apart-here, apart-later}
 use Rattle.job.proofs.Pairs.{Pairs, Pair, begins, moves, tells, Admitted, admitted, Kept, Invariant}
 use Rattle.job.proofs.Pairs.{told-splits, ApartAt, apart-now, apart-moved, apart-told, Backwards}
 use Rattle.job.proofs.Bounds.{Within, pair-within}
@@ -215,13 +216,6 @@ module _ {j : Job} {v w : Enabling} {H : Table} where
       alike p q (after-word {n = n} {a = a} e m) h = k .at-exit n a p q e m h
 
 -- ---- backwards
-
--- some word over the set tells two states apart
-pub data WordApart (m : Automaton) (set : ℕ) : ℕ → ℕ → Type 0 where
-  -- by its first symbol
-  apart-here : (a : ℕ) {p q : ℕ} → has set a ≡ true → final m (next m p a) ≡ not (final m (next m q a)) → WordApart m set p q
-  -- by what follows its first symbol
-  apart-later : (a : ℕ) {p q : ℕ} → has set a ≡ true → WordApart m set (next m p a) (next m q a) → WordApart m set p q
 
 -- the pairs before a node that are told apart
 pub data BeforeNode (j : Job) (v w : Enabling) (T : Table) (n : ℕ) : ℕ → ℕ → Type 0 where

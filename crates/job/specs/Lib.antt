@@ -4,6 +4,7 @@ pub mod Job
 pub mod Walk
 pub mod Plan
 pub mod Search
+pub mod Words
 pub mod Found
 pub mod FoundSays
 pub mod Planning

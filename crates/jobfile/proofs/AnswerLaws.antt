@@ -6,9 +6,10 @@ use mathlib.Core.Logic.{_⊎_, inl, inr}
 use mathlib.Core.List.{List}
 use native.Mathlib.Omega.{arith}
 use Rattle.job.specs.Job.{Job}
-use Rattle.jobfile.specs.Lines.{Kind}
+use Rattle.lines.specs.Lines.{Kind}
 use Rattle.jobfile.specs.File.{headLine, ruleLine, nodeLine, edgeLine, Answer, accepted, turned, readJob}
-use Rattle.jobfile.specs.Refusal.{BadLine, ended, malformed, outside, TurnedBack, too-long, at-head, at-rule, at-node, at-edge, bytes-follow, no-entry, RefusalNumber, RefusesInOrder, AnswersEveryFile}
+use Rattle.lines.specs.Written.{BadLine, ended, malformed, outside}
+use Rattle.jobfile.specs.Refusal.{TurnedBack, too-long, at-head, at-rule, at-node, at-edge, bytes-follow, no-entry, RefusalNumber, RefusesInOrder, AnswersEveryFile, TurnedOnce, TurnedNotAccepted}
 use Rattle.jobfile.proofs.RefusalLaws.{turned-says}
 
 -- the kinds' own numbers
@@ -39,11 +40,11 @@ turned-number (bytes-follow p some) = inr (omega arith)
 turned-number (no-entry p none) = inr (omega arith)
 
 -- by one number
-pub turned-once : (file : List ℕ) (q r : ℕ) → TurnedBack file q → TurnedBack file r → q ≡ r
+pub turned-once : TurnedOnce
 turned-once file q r s t = cc (turned-says file q .1 s, turned-says file r .1 t)
 
 -- and is not accepted then
-pub turned-not-accepted : (file : List ℕ) (r : ℕ) (j : Job) → TurnedBack file r → readJob file ≡ accepted j → ⊥
+pub turned-not-accepted : TurnedNotAccepted
 turned-not-accepted file r j t e = let z : _≡_ {A = ℕ} 0 1 = cc (turned-says file r .1 t) in omega arith
 
 -- every file is accepted or turned back

@@ -3,10 +3,11 @@
 use mathlib.Core.Path.{_≡_, refl}
 use Rattle.laws.specs.Bounded.{allBelow}
 use Rattle.laws.specs.Bits.{has}
-use Rattle.jobfile.specs.Line.{decimal, field, fields, digitsOf, fieldOf, fieldsOf, lineOf}
-use Rattle.jobfile.specs.Lines.{linesOf}
+use Rattle.job.specs.Trials.{pair}
+use Rattle.lines.specs.Line.{decimal, field, fields, digitsOf, fieldOf, fieldsOf, lineOf}
+use Rattle.lines.specs.Lines.{linesOf}
 use Rattle.jobfile.specs.File.{finalsOf, someEntry, readRest, readJob, writeJob}
-use Rattle.jobfile.specs.FileTrials.{AllRead, done, _and_, pairJob, pairFile, fileTrials}
+use Rattle.jobfile.specs.FileTrials.{AllRead, done, _and_, pairFile, fileTrials}
 
 -- all files, in the order of the table
 pub file-trials-pass : AllRead fileTrials
@@ -17,7 +18,7 @@ file-trials-pass =
     and refl and refl
     and refl and refl
     and refl and refl and refl and refl and refl and refl and refl and refl and refl
-    and refl and refl and refl and refl and refl and refl
+    and refl and refl and refl and refl and refl and refl and refl and refl
     and refl and refl and refl and refl and refl
     and refl and refl and refl and refl and refl and refl and refl and refl and refl and refl
     and refl and refl and refl and refl
@@ -26,6 +27,6 @@ file-trials-pass =
     and done
 
 -- PAIR's file is written from its job
-pub pair-written : writeJob pairJob ≡ pairFile
+pub pair-written : writeJob pair ≡ pairFile
 unfolding pairFile has decimal field fields writeJob
 pair-written = refl

@@ -1,23 +1,6 @@
--- The laws that the proofs of the functions cite.
+-- Laws of the job file.
 -- Assumes nothing.
-pub mod FieldLaws
-pub mod LineLaws
-pub mod ClearLaws
-pub mod LinesLaws
-pub mod HeadLaws
-pub mod NodeLaws
-pub mod KeptLaws
-pub mod NodeLineLaws
-pub mod RuleLaws
-pub mod RuleLineLaws
-pub mod EdgeLaws
-pub mod EdgeLineLaws
-pub mod JobLaws
-pub mod ReadLaws
 pub mod WithinLaws
-pub mod SpelledField
-pub mod SpelledLine
-pub mod SpelledLines
 pub mod SpelledRules
 pub mod SpelledNodes
 pub mod SpelledEdges
@@ -27,4 +10,4 @@ pub mod SpellableLaws
 pub mod AnswerLaws
 pub mod Longest
 pub mod FileTrialsPass
-pub mod TableLaws
+pub mod ListingTrialsPass

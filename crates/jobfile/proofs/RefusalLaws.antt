@@ -12,10 +12,12 @@ use lib.ListN.{length, getD}
 use borrow.Author.Tests.{lt-ltb, le-ltb, ltb-true, ltb-false, eqb-true, eqb-false, not-true, not-false}
 use Rattle.laws.proofs.Tests.{passes-or-fails, fails-of, or-passes}
 use Rattle.job.specs.Job.{Node, Job, noNode}
-use Rattle.jobfile.specs.Lines.{Kind, Lines, lines, refused, linesOf}
-use Rattle.jobfile.specs.File.{maxFile, at, headLine, ruleLine, nodeLine, edgeLine, nodeOf, someEntry, Answer, accepted, turned, onLines, atEnd, readRest, headOf, readJob}
-use Rattle.jobfile.specs.Refusal.{LinesAt, FirstBad, PastHead, PastRules, PastNodes, PastEdges, jobOf, TurnedBack, too-long, at-head, at-rule, at-node, at-edge, bytes-follow, no-entry}
-use Rattle.jobfile.proofs.SpelledLines.{lines-says, refused-says}
+use Rattle.lines.specs.Lines.{Kind, Lines, lines, refused, linesOf}
+use Rattle.jobfile.specs.File.{maxFile, headLine, ruleLine, nodeLine, edgeLine, nodeOf, someEntry, Answer, accepted, turned, onLines, atEnd, readRest, headOf, readJob, jobOf}
+use Rattle.lines.specs.Line.{at}
+use Rattle.lines.specs.Written.{LinesAt, FirstBad}
+use Rattle.jobfile.specs.Refusal.{PastHead, PastRules, PastNodes, PastEdges, TurnedBack, too-long, at-head, at-rule, at-node, at-edge, bytes-follow, no-entry}
+use Rattle.lines.proofs.SpelledLines.{lines-says, refused-says}
 
 -- ---- entries
 

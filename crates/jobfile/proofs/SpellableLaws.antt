@@ -11,9 +11,11 @@ use native.Mathlib.Omega.{arith}
 use lib.ListN.{length, drop, getD, length-map}
 use Rattle.automaton.specs.Automaton.{WellFormed, cell}
 use Rattle.job.specs.Job.{Job, noNode, WellFormedJob}
-use Rattle.jobfile.specs.File.{at, ruleLine, nodeLine, edgeLine, finalsOf, ruleOf, nodeOf, edgeOf, someEntry, accepted, readJob, writeJob}
-use Rattle.jobfile.specs.Refusal.{HeadWithin, writeLines, GoodLines, PastHead, PastRules, PastNodes, PastEdges, jobOf}
-use Rattle.jobfile.specs.Spellable.{Spellable, ReadsWhatIsWritten}
+use Rattle.lines.specs.Line.{at, writeLines}
+use Rattle.jobfile.specs.File.{ruleLine, nodeLine, edgeLine, finalsOf, ruleOf, nodeOf, edgeOf, someEntry, accepted, readJob, writeJob, jobOf}
+use Rattle.jobfile.specs.Refusal.{HeadWithin, PastHead, PastRules, PastNodes, PastEdges}
+use Rattle.lines.specs.Written.{GoodLines}
+use Rattle.jobfile.specs.Spellable.{Spellable, ReadsWhatIsWritten, AcceptedOnce, AcceptsWellFormed}
 use Rattle.jobfile.proofs.SpelledRules.{ruleLines, rules-count, rules-table, finals-high, finals-same, RowsFit, rules-exact, rules-good, rows-fit}
 use Rattle.jobfile.proofs.SpelledNodes.{nodeLines, nodes-count, nodes-read, NodeFits, nodes-exact, nodes-fit, nodes-good}
 use Rattle.jobfile.proofs.SpelledEdges.{edgeNumbers, edges-read, edges-exact, edges-ascend, edges-below, edges-good}
@@ -248,9 +250,9 @@ pub accepted-written : ReadsWhatIsWritten
 accepted-written file j = (read-written file j, λ s. rw (s .0) (written-read j (s .1)))
 
 -- two accepted files with one job are equal
-pub accepted-once : (f g : List ℕ) (j : Job) → readJob f ≡ accepted j → readJob g ≡ accepted j → f ≡ g
+pub accepted-once : AcceptedOnce
 accepted-once f g j d e = read-written f j d .0 ∙ sym (read-written g j e .0)
 
 -- an accepted job is well formed
-pub accepted-well-formed : (file : List ℕ) (j : Job) → readJob file ≡ accepted j → WellFormedJob j
+pub accepted-well-formed : AcceptsWellFormed
 accepted-well-formed file j e = read-written file j e .1 .well-formed

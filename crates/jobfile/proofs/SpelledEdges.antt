@@ -13,9 +13,10 @@ use borrow.Author.Tests.{eq-eqb, eqb-true}
 use Rattle.laws.specs.Bounded.{tab}
 use Rattle.laws.proofs.Tests.{or-passes, or-right}
 use Rattle.job.specs.Job.{Edge, holds}
-use Rattle.jobfile.specs.Line.{line}
-use Rattle.jobfile.specs.File.{at, ascends, edgeLine, edgeOf, writeEdges}
-use Rattle.jobfile.specs.Refusal.{EdgeWithin, Fits, writeLines, GoodLines, good-none, good-more}
+use Rattle.lines.specs.Line.{line, at, writeLines}
+use Rattle.jobfile.specs.File.{ascends, edgeLine, edgeOf, writeEdges}
+use Rattle.jobfile.specs.Refusal.{EdgeWithin}
+use Rattle.lines.specs.Written.{Fits, GoodLines, good-none, good-more}
 use Rattle.jobfile.specs.Spellable.{Before, Ascending, no-edge, one-edge, next-edge}
 use Rattle.jobfile.proofs.WithinLaws.{edge-says}
 use Rattle.jobfile.proofs.SpelledNodes.{list-tab}

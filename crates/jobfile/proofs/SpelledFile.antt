@@ -8,12 +8,13 @@ use native.Mathlib.Omega.{arith}
 use lib.ListN.{length, length-append}
 use Rattle.laws.specs.Bounded.{tab}
 use Rattle.job.specs.Job.{Job}
-use Rattle.jobfile.specs.Line.{line, lineLength}
-use Rattle.jobfile.specs.File.{at, headLine, ruleLine, nodeLine, edgeLine, writeRules, writeNodes, writeEdges, writeJob}
-use Rattle.jobfile.specs.Refusal.{HeadWithin, Fits, writeLines, GoodLines, good-none, good-more, PastEdges}
+use Rattle.lines.specs.Line.{line, lineLength, at, writeLines}
+use Rattle.jobfile.specs.File.{headLine, ruleLine, nodeLine, edgeLine, writeRules, writeNodes, writeEdges, writeJob}
+use Rattle.jobfile.specs.Refusal.{HeadWithin, PastEdges}
+use Rattle.lines.specs.Written.{Fits, GoodLines, good-none, good-more}
 use Rattle.jobfile.proofs.WithinLaws.{head-says}
-use Rattle.jobfile.proofs.SpelledLine.{fields-length}
-use Rattle.jobfile.proofs.SpelledLines.{lines-length}
+use Rattle.lines.proofs.SpelledLine.{fields-length}
+use Rattle.lines.proofs.SpelledLines.{lines-length}
 use Rattle.jobfile.proofs.SpelledRules.{ruleLines, rules-written}
 use Rattle.jobfile.proofs.SpelledNodes.{nodeLines, nodes-written, list-tab}
 use Rattle.jobfile.proofs.SpelledEdges.{edgeNumbers, edges-written}

@@ -16,11 +16,12 @@ use lib.Seq.{getD-drop}
 use Rattle.laws.specs.Bits.{has}
 use Rattle.laws.proofs.Tests.{passes-or-fails, fails-of}
 use Rattle.laws.proofs.Bits.{has-empty, has-with-same, has-with-other, same-set}
-use Rattle.jobfile.specs.Line.{line}
-use Rattle.jobfile.specs.File.{at, ruleLine, finalsOf, mark, writeRules}
-use Rattle.jobfile.specs.Refusal.{RuleWithin, Fits, writeLines, GoodLines, good-none, good-more}
+use Rattle.lines.specs.Line.{line, at, writeLines}
+use Rattle.jobfile.specs.File.{ruleLine, finalsOf, mark, writeRules}
+use Rattle.jobfile.specs.Refusal.{RuleWithin}
+use Rattle.lines.specs.Written.{Fits, GoodLines, good-none, good-more}
 use Rattle.jobfile.proofs.WithinLaws.{rule-says}
-use Rattle.jobfile.proofs.SpelledLine.{fits-cons}
+use Rattle.lines.proofs.SpelledLine.{fits-cons}
 
 -- ---- marks
 

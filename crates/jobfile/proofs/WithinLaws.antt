@@ -13,22 +13,12 @@ use Rattle.laws.specs.Bits.{has}
 use Rattle.laws.proofs.Tests.{or-passes, or-left, or-right}
 use Rattle.laws.proofs.Bounded.{all-at, all-of}
 use Rattle.laws.proofs.Bits.{below-says}
-use Rattle.jobfile.specs.File.{at, goodHead, goodRule, goodValue, goodNode, ascends, goodEdge}
-use Rattle.jobfile.specs.Refusal.{HeadWithin, RuleWithin, NodeWithin, EdgeWithin}
+use Rattle.lines.specs.Line.{at}
+use Rattle.lines.proofs.SpelledLine.{all-three}
+use Rattle.jobfile.specs.File.{goodHead, goodRule, goodValue, goodNode, ascends, goodEdge}
+use Rattle.jobfile.specs.Refusal.{HeadWithin, RuleWithin, NodeWithin, EdgeWithin, TestsSay}
 
--- ---- tests joined by `and`
-
--- three tests
-pub all-three : (t u v : Bool) → ((t && u && v) ≡ true) ↔ ((t ≡ true) × (u ≡ true) × (v ≡ true))
-all-three t u v = (
-  λ h.
-      let outer = and-eq-true-iff (t && u) v .0 h in
-      let inner = and-eq-true-iff t u .0 (outer .0) in
-      (inner .0, inner .1, outer .1),
-  λ s. rw (s .0, s .1, s .2),
-)
-
--- six tests
+-- six tests joined by `and`
 all-six
     : (t u v w x y : Bool)
     → ((t && u && v && w && x && y) ≡ true)
@@ -96,7 +86,7 @@ rule-says s a i before ns = (
 )
 
 -- the value of a P line, by its kind
-value-says
+pub value-says
     : (a k v : ℕ)
     → (goodValue a k v ≡ true)
     ↔ ((k ≤ 2) × (k ≡ 0 → v ≡ 0) × (k ≡ 1 → v < a) × (k ≡ 2 → (q : ℕ) → has v q ≡ true → q < a))
@@ -192,3 +182,7 @@ edge-says n i before ns = (
       all-three (ltb (at ns 0) n) (ltb (at ns 1) n) (ascends before ns) .1
       (lt-ltb (at ns 0) n (w .from), lt-ltb (at ns 1) n (w .to), ascends-says before ns .1 (w .ascends)),
 )
+
+-- all four
+pub tests-say : TestsSay
+tests-say = record { head = head-says; rule = rule-says; node = node-says; edge = edge-says }

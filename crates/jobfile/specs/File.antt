@@ -4,21 +4,17 @@ use mathlib.Core.Bool.{Bool, true, false, cond, _&&_, _||_, not}
 use mathlib.Core.List.{List, [], _∷_, _++_, map}
 use Prim.Native.Nat.{ℕ, zero, suc, _+_, _^_}
 use lib.Dec.{eqb, leb, ltb}
-use lib.ListN.{length, drop, getD}
+use lib.ListN.{length, drop}
 use Rattle.laws.specs.Bounded.{allBelow}
 use Rattle.laws.specs.Bits.{has, with}
 use Rattle.automaton.specs.Automaton.{Automaton}
 use Rattle.job.specs.Job.{Kind as NodeKind, plain, event, call, Node, Edge, Job}
-use Rattle.jobfile.specs.Line.{line}
-use Rattle.jobfile.specs.Lines.{Kind, Lines, lines, refused, linesOf}
+use Rattle.lines.specs.Line.{line, at}
+use Rattle.lines.specs.Lines.{Kind, Lines, lines, refused, linesOf}
 
 -- the longest file
 abbrev pub maxFile : ℕ
 maxFile = 49914
-
--- field i of a line
-abbrev pub at : List ℕ → ℕ → ℕ
-at ns i = getD ns i 0
 
 -- ---- the lines, by their letters (J 74, R 82, P 80, F 70), with the tests of 5 to 8
 
@@ -97,6 +93,11 @@ nodeOf ns = record { kind = kindOf (at ns 1) (at ns 2); entry = at ns 3; exit = 
 abbrev pub edgeOf : List ℕ → Edge
 edgeOf ns = record { from = at ns 0; to = at ns 1 }
 
+-- the job of the lines
+abbrev pub jobOf : List ℕ → List (List ℕ) → List (List ℕ) → List (List ℕ) → Job
+jobOf head rules nodes edges =
+    record { rule = ruleOf (at head 0) (at head 1) rules; nodes = map nodeOf nodes; edges = map edgeOf edges }
+
 -- 10: "no node is an entry"
 unfoldable pub someEntry : List Node → Bool
 someEntry [] = false
@@ -131,7 +132,7 @@ readRest head bytes =
     onLines (linesOf (nodeLine s a) n 0 [] after-rules)
     (λ nodes after-nodes.
     onLines (linesOf (edgeLine n) e 0 [] after-nodes)
-    (λ edges rest. atEnd rest (record { rule = ruleOf s a rules; nodes = map nodeOf nodes; edges = map edgeOf edges }))))
+    (λ edges rest. atEnd rest (jobOf head rules nodes edges))))
 
 -- the numbers of the one J line
 abbrev pub headOf : List (List ℕ) → List ℕ

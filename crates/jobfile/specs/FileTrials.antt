@@ -2,14 +2,12 @@
 -- That they are read so, `AllRead fileTrials`, is a theorem of `proofs/`.
 -- Assumes nothing.
 use mathlib.Core.Path.{_≡_}
-use mathlib.Core.Bool.{true, false}
 use mathlib.Core.List.{List, [], _∷_, _++_}
 use Prim.Native.Nat.{ℕ}
 use Prim.Native.Char.{code}
 use Prim.Native.String.{String, [] as no-text, _∷_ as _then_}
 use lib.ListN.{replicate}
-use Rattle.automaton.specs.Automaton.{automatonOf}
-use Rattle.job.specs.Job.{event, Job}
+use Rattle.job.specs.Trials.{pair}
 use Rattle.jobfile.specs.File.{Answer, accepted, turned, readJob}
 
 -- ---- how a file is written here
@@ -40,20 +38,7 @@ pub data AllRead : List FileTrial → Type 0 where
   done : AllRead []
   _and_ : {t : FileTrial} {ts : List FileTrial} → readJob (t .file) ≡ t .answer → AllRead ts → AllRead (t ∷ ts)
 
--- ---- PAIR
-
--- the job
-abbrev pub pairJob : Job
-pairJob =
-    record {
-      rule = automatonOf ((1 ∷ 0 ∷ 0 ∷ []) ∷ (1 ∷ 0 ∷ 2 ∷ []) ∷ (1 ∷ 0 ∷ 2 ∷ []) ∷ []) 3 3 4;
-      nodes =
-          record { kind = event 0; entry = 1; exit = false; after = 0 }
-          ∷ record { kind = event 0; entry = 0; exit = false; after = 0 }
-          ∷ record { kind = event 2; entry = 0; exit = true; after = 0 }
-          ∷ [];
-      edges = record { from = 0; to = 1 } ∷ record { from = 1; to = 2 } ∷ [];
-    }
+-- ---- PAIR, the trial job `pair`
 
 -- its file, without the last line
 abbrev pub pairLines : List String
@@ -111,7 +96,7 @@ withEdges first second =
 unfoldable pub fileTrials : List FileTrial
 unfolding pairFile
 fileTrials =
-    reads pairFile (accepted pairJob)
+    reads pairFile (accepted pair)
     -- 1: too long, though it would be 4 too
     ∷ reads (replicate 49915 32) (turned 1)
     -- 3: nothing at all; nothing where an F line is due
@@ -131,10 +116,12 @@ fileTrials =
     ∷ reads (withHead "J    +1     1     1     0") (turned 4)
     ∷ reads (withHead "J\t    1     1     1     0") (turned 4)
     ∷ reads (withHead "J     1     1     1     0\r") (turned 4)
-    -- 5: S of 17, of 0, of 65,537; E of 2,049; N of 0 and of 513
+    -- 5: S of 17, of 0, of 65,537; A of 0 and of 17; E of 2,049; N of 0 and of 513
     ∷ reads (withHead "J    17     1     1     0") (turned 5)
     ∷ reads (withHead "J     0     1     1     0") (turned 5)
     ∷ reads (withHead "J 65537     1     1     0") (turned 5)
+    ∷ reads (withHead "J     1     0     1     0") (turned 5)
+    ∷ reads (withHead "J     1    17     1     0") (turned 5)
     ∷ reads (withHead "J     1     1     1  2049") (turned 5)
     ∷ reads (withHead "J     1     1     0     0") (turned 5)
     ∷ reads (withHead "J     1     1   513     0") (turned 5)

@@ -3,68 +3,15 @@
 -- Assumes nothing.
 use mathlib.Core.Path.{_≡_}
 use mathlib.Core.Logic.{_≢_, _⊎_, _↔_}
-use mathlib.Core.Bool.{true, false}
-use mathlib.Core.List.{List, [], _∷_, _++_, map}
-use Prim.Native.Nat.{ℕ, suc, _+_, _≤_, _<_}
+use mathlib.Core.Bool.{true}
+use mathlib.Core.List.{List, [], _∷_, map}
+use Prim.Native.Nat.{ℕ, _+_, _≤_, _<_}
 use lib.ListN.{length, getD}
 use Rattle.laws.specs.Bits.{has}
 use Rattle.job.specs.Job.{Job, noNode}
-use Rattle.jobfile.specs.Line.{line}
-use Rattle.jobfile.specs.Lines.{Kind}
-use Rattle.jobfile.specs.File.{maxFile, at, headLine, ruleLine, nodeLine, edgeLine, ruleOf, nodeOf, edgeOf, accepted, turned, readJob}
-
--- ---- lines of one kind
-
--- numbers of at most six digits; past the last one `at` is 0
-abbrev pub Fits : List ℕ → Type 0
-Fits ns = (i : ℕ) → at ns i < 1000000
-
--- the bytes begin with a line of the kind, "its letter, its fields and its end byte", and the rest follows it
-pub record LineAt (k : Kind) (bytes ns rest : List ℕ) : Type 0 where
-  pub count : length ns ≡ k .count
-  pub fits : Fits ns
-  pub spelled : bytes ≡ line (k .letter) ns ++ rest
-
--- lines written one after the other
-unfoldable pub writeLines : ℕ → List (List ℕ) → List ℕ
-writeLines letter [] = []
-writeLines letter (ns ∷ ls) = line letter ns ++ writeLines letter ls
-
--- good lines in turn, from place i on, after a line with the numbers `before`
-pub data GoodLines (k : Kind) : ℕ → List ℕ → List (List ℕ) → Type 0 where
-  good-none : {i : ℕ} {before : List ℕ} → GoodLines k i before []
-  good-more
-      : {i : ℕ} {before ns : List ℕ} {ls : List (List ℕ)} → length ns ≡ k .count → Fits ns → k .good i before ns ≡ true
-      → GoodLines k (suc i) ns ls → GoodLines k i before (ns ∷ ls)
-
--- the bytes begin with c good lines, and the rest follows them
-pub record LinesAt (k : Kind) (c i : ℕ) (before bytes : List ℕ) (ls : List (List ℕ)) (rest : List ℕ) : Type 0 where
-  pub count : length ls ≡ c
-  pub good : GoodLines k i before ls
-  pub spelled : bytes ≡ writeLines (k .letter) ls ++ rest
-
--- why the line due at the start of the bytes is turned back
-pub data BadLine (k : Kind) (i : ℕ) (before bytes : List ℕ) : ℕ → Type 0 where
-  -- 3: "the file ends where a line is due"
-  ended : bytes ≡ [] → BadLine k i before bytes 3
-  -- 4: "the line due has not its letter, its fields or its end byte"
-  malformed : bytes ≢ [] → ((ns rest : List ℕ) → LineAt k bytes ns rest → ⊥) → BadLine k i before bytes 4
-  -- 5 to 8, by the kind
-  outside : {ns rest : List ℕ} → LineAt k bytes ns rest → k .good i before ns ≡ false → BadLine k i before bytes (k .refusal)
-
--- the last of some lines, or the one before them
-unfoldable pub lastOf : List ℕ → List (List ℕ) → List ℕ
-lastOf before [] = before
-lastOf before (ns ∷ ls) = lastOf ns ls
-
--- of c lines due, the first that is turned back: those passed before it are good
-pub record FirstBad (k : Kind) (c i : ℕ) (before bytes : List ℕ) (r : ℕ) : Type 0 where
-  pub passed : List (List ℕ)
-  pub due : List ℕ
-  pub few : length passed < c
-  pub good : GoodLines k i before passed
-  pub spelled : bytes ≡ writeLines (k .letter) passed ++ due
-  pub bad : BadLine k (i + length passed) (lastOf before passed) due r
+use Rattle.lines.specs.Line.{at}
+use Rattle.lines.specs.Written.{LinesAt, FirstBad}
+use Rattle.jobfile.specs.File.{maxFile, goodHead, goodRule, goodNode, goodEdge, headLine, ruleLine, nodeLine, edgeLine, nodeOf, accepted, turned, readJob}
 
 -- ---- the tests of 5 to 8 in words: a line's test passes if and only if this holds of its numbers
 
@@ -102,6 +49,13 @@ pub record EdgeWithin (n : ℕ) (before ns : List ℕ) : Type 0 where
   pub to : at ns 1 < n
   pub ascends : (before ≡ []) ⊎ ((at before 0 < at ns 0) ⊎ ((at before 0 ≡ at ns 0) × (at before 1 < at ns 1)))
 
+-- the statement: this is what the tests say
+pub record TestsSay : Type 0 where
+  pub head : (i : ℕ) (before ns : List ℕ) → (goodHead i before ns ≡ true) ↔ HeadWithin (at ns 0) (at ns 1) (at ns 2) (at ns 3)
+  pub rule : (s a i : ℕ) (before ns : List ℕ) → (goodRule s a i before ns ≡ true) ↔ RuleWithin s a i ns
+  pub node : (s a i : ℕ) (before ns : List ℕ) → (goodNode s a i before ns ≡ true) ↔ NodeWithin s a i ns
+  pub edge : (n i : ℕ) (before ns : List ℕ) → (goodEdge n i before ns ≡ true) ↔ EdgeWithin n before ns
+
 -- ---- the file, as far as it is good
 
 -- the J line, with S, A, N and E
@@ -126,11 +80,6 @@ pub record PastEdges (file head : List ℕ) (rules nodes edges : List (List ℕ)
   pub from : List ℕ
   pub past : PastNodes file head rules nodes from
   pub lines : LinesAt (edgeLine (at head 2)) (at head 3) 0 [] from edges rest
-
--- the job of the lines
-abbrev pub jobOf : List ℕ → List (List ℕ) → List (List ℕ) → List (List ℕ) → Job
-jobOf head rules nodes edges =
-    record { rule = ruleOf (at head 0) (at head 1) rules; nodes = map nodeOf nodes; edges = map edgeOf edges }
 
 -- ---- the file turned back, with the number
 
@@ -173,3 +122,11 @@ RefusesInOrder = (file : List ℕ) (r : ℕ) → (readJob file ≡ turned r) ↔
 abbrev pub AnswersEveryFile : Type 0
 AnswersEveryFile =
     (file : List ℕ) → ((j : Job) × (readJob file ≡ accepted j)) ⊎ ((r : ℕ) × TurnedBack file r × RefusalNumber r)
+
+-- the statement: a file is turned back by one number
+abbrev pub TurnedOnce : Type 0
+TurnedOnce = (file : List ℕ) (q r : ℕ) → TurnedBack file q → TurnedBack file r → q ≡ r
+
+-- the statement: a file that is turned back is not accepted
+abbrev pub TurnedNotAccepted : Type 0
+TurnedNotAccepted = (file : List ℕ) (r : ℕ) (j : Job) → TurnedBack file r → readJob file ≡ accepted j → ⊥

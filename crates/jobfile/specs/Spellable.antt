@@ -7,7 +7,7 @@ use mathlib.Core.List.{List, [], _∷_}
 use Prim.Native.Nat.{ℕ, _≤_, _<_}
 use lib.ListN.{length, getD}
 use Rattle.job.specs.Job.{Edge, Job, WellFormedJob, nodeAt}
-use Rattle.jobfile.specs.File.{accepted, readJob, writeJob}
+use Rattle.jobfile.specs.File.{maxFile, accepted, readJob, writeJob}
 
 -- "ascending by from, then to"
 abbrev pub Before : Edge → Edge → Type 0
@@ -36,7 +36,15 @@ pub record Spellable (j : Job) : Type 0 where
 abbrev pub ReadsWhatIsWritten : Type 0
 ReadsWhatIsWritten = (file : List ℕ) (j : Job) → (readJob file ≡ accepted j) ↔ ((file ≡ writeJob j) × Spellable j)
 
+-- the statement: two accepted files with one job are equal
+abbrev pub AcceptedOnce : Type 0
+AcceptedOnce = (f g : List ℕ) (j : Job) → readJob f ≡ accepted j → readJob g ≡ accepted j → f ≡ g
+
+-- the statement: an accepted job is well formed
+abbrev pub AcceptsWellFormed : Type 0
+AcceptsWellFormed = (file : List ℕ) (j : Job) → readJob file ≡ accepted j → WellFormedJob j
+
 -- the statement: the longest file of a job has 49,914 bytes
 abbrev pub LongestFile : Type 0
 LongestFile =
-    ((j : Job) → Spellable j → length (writeJob j) ≤ 49914) × ((j : Job) × Spellable j × (length (writeJob j) ≡ 49914))
+    ((j : Job) → Spellable j → length (writeJob j) ≤ maxFile) × ((j : Job) × Spellable j × (length (writeJob j) ≡ maxFile))

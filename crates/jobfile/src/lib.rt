@@ -1,10 +1,1 @@
-// Reading a job file.
-pub mod clear;
-pub mod edge;
-pub mod field;
-pub mod head;
-pub mod line;
-pub mod node;
-pub mod read;
-pub mod rule;
-pub mod table;
+// The job file: the job that it spells, and what it is turned back for. There is no code here.

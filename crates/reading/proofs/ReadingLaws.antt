@@ -9,10 +9,10 @@ use native.Mathlib.Omega.{arith}
 use lib.ListN.{length}
 use borrow.Author.Tests.{lt-ltb, le-ltb}
 use Rattle.jobfile.specs.File.{Answer, accepted, turned, maxFile, readJob}
-use Rattle.jobfile.specs.Layout.{workSize, cleared}
-use Rattle.jobfile.specs.Reading.{headOfAnswer, FileRead}
-use Rattle.jobfile.specs.declared.head.Head.{Head}
-use Rattle.jobfile.proofs.ClearLaws.{cleared-same}
+use Rattle.reader.specs.Layout.{workSize, cleared}
+use Rattle.reader.specs.Reading.{headOfAnswer, FileRead}
+use Rattle.reader.specs.declared.head.Head.{Head}
+use Rattle.reader.proofs.ClearLaws.{cleared-same}
 use Rattle.jobfile.specs.Refusal.{TurnedBack, RefusalNumber}
 use Rattle.jobfile.proofs.RefusalLaws.{turned-says}
 use Rattle.jobfile.proofs.AnswerLaws.{answered}

@@ -1,0 +1,18 @@
+// Clearing the work buffer.
+ghost use mathlib.Core.Path.{_≡_};
+ghost use Prim.Native.Nat.{_≤_};
+ghost use lib.ListN.{length};
+ghost use Rattle.reader.specs.Layout.{workSize, cleared};
+use super::layout::WORK;
+
+// Makes the first 65,536 bytes zero and leaves the rest.
+pub fn clear(work: &mut [u8])
+    requires { ⌜ workSize ≤ length (now work) ⌝ }
+    ensures { λ _. ⌜ now (work .exit) ≡ cleared (now (work .entry)) ⌝ }
+{
+    let mut i = 0;
+    while i < WORK {
+        work[i] = 0;
+        i += 1;
+    }
+}

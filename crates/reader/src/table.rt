@@ -1,0 +1,15 @@
+// The rule's table out of the work buffer.
+ghost use mathlib.Core.Path.{_≡_};
+ghost use Prim.Native.Nat.{_≤_};
+ghost use lib.ListN.{length};
+ghost use Rattle.reader.specs.Layout.{workSize, ruleIn};
+use super::layout::RULE;
+use super::layout::RULE_END;
+
+// The sixteen rows of sixteen next states that the buffer holds.
+pub fn table_in(work: &[u8]) -> [[u8; 16]; 16]
+    requires { ⌜ workSize ≤ length (now work) ⌝ }
+    ensures { λ r. ⌜ r ≡ ruleIn (now (work .entry)) ⌝ }
+{
+    automaton::table::table_of(&work[RULE..RULE_END])
+}
