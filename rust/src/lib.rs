@@ -1,10 +1,21 @@
-//! The event step of the monitor, for Rust: a safe form of the C call in the proved static library.
+//! The plan check and the event step of the monitor, for Rust: safe forms of the C calls in the proved
+//! static library.
 //! A refusal carries its number in document 01, "Turned back, by number".
 use std::{error, fmt};
 
 /// The C calls of the static library.
 mod ffi {
     extern "C" {
+        /// `#[no_mangle] pub extern "C" fn dapohiru_check(job: &[u8], plan: &[u8], work: &mut [u8]) -> u64`
+        pub fn dapohiru_check(
+            job: *const u8,
+            job_len: usize,
+            plan: *const u8,
+            plan_len: usize,
+            work: *mut u8,
+            work_len: usize,
+        ) -> u64;
+
         /// `#[no_mangle] pub extern "C" fn dapohiru_event(rule: &[u8], states: u64, symbols: u64, finals: u64, symbol: u64, rec: &mut [u8]) -> u64`
         pub fn dapohiru_event(
             rule: *const u8,
@@ -33,7 +44,23 @@ pub enum Report {
     Alarm,
 }
 
-/// The number of a refusal: 13 for the rule, 14 for the symbol, 15 for the record.
+/// The number of a faithful plan.
+const FAITHFUL: u64 = 1 << 48;
+/// The number of a plan that is not faithful.
+const DIFFERENT: u64 = FAITHFUL + 1;
+
+/// What the plan check finds.
+#[derive(Clone, Copy, Debug, PartialEq, Eq)]
+pub enum Verdict {
+    /// On every walk, from every admitted start, the monitor under the plan and the one with all
+    /// points watched alarm at the same events.
+    Faithful,
+    /// There is a walk on which they do not.
+    Different,
+}
+
+/// The number of a refusal: 1 for the file's length, 2 for a buffer, 3 to 10 for what the file holds,
+/// 11 and 12 for the plan, 13 for the rule, 14 for the symbol, 15 for the record.
 #[derive(Clone, Copy, Debug, PartialEq, Eq)]
 pub struct Refusal(pub u64);
 
@@ -44,6 +71,33 @@ impl fmt::Display for Refusal {
 }
 
 impl error::Error for Refusal {}
+
+/// Checks a plan: whether it is faithful to the job of a job file.
+///
+/// `plan` is one byte for each node, 1 at a watched point and 0 at all else. `work` is at least 65,536
+/// bytes. Refusals 1 and 2 leave `work` as it was. After any other answer its first 65,536 bytes are
+/// zero, and the rest is as it was.
+#[inline]
+pub fn check(job: &[u8], plan: &[u8], work: &mut [u8]) -> Result<Verdict, Refusal> {
+    // SAFETY: each pointer and length are of one slice, `job` and `plan` are only read, and nothing
+    // else holds `work` during the call.
+    let number = unsafe {
+        ffi::dapohiru_check(
+            job.as_ptr(),
+            job.len(),
+            plan.as_ptr(),
+            plan.len(),
+            work.as_mut_ptr(),
+            work.len(),
+        )
+    };
+    match number {
+        FAITHFUL => Ok(Verdict::Faithful),
+        DIFFERENT => Ok(Verdict::Different),
+        1..=12 => Err(Refusal(number)),
+        _ => unreachable!("dapohiru_check returned {number}, which is none of its answers"),
+    }
+}
 
 /// Takes one event: moves the record to the next state, and raises its alarm total at an alarm.
 ///

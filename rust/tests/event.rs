@@ -2,9 +2,10 @@
 mod calls;
 mod second;
 
-use calls::{Call, Random};
+use calls::Call;
 use dapohiru::{event, Record, Refusal, Report, Rule};
 use second::{Answer, Second, Slip};
+use walks::random::Random;
 
 /// What the library answers, with the record altered as it does.
 fn answer(call: &mut Call) -> Answer {

@@ -1,2 +1,3 @@
 // The calls open to C and Rust: numbers and byte slices in, one 64-bit number out.
 pub mod event; // event.rt: the event step
+pub mod check; // check.rt: the plan check

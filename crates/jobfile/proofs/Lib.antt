@@ -11,3 +11,5 @@ pub mod AnswerLaws
 pub mod Longest
 pub mod FileTrialsPass
 pub mod ListingTrialsPass
+pub mod ListingLength
+pub mod ListingFits

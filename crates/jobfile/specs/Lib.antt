@@ -6,3 +6,4 @@ pub mod ListingLines
 pub mod ListingTrials
 pub mod Spellable
 pub mod Refusal
+pub mod ListingFits

@@ -7,8 +7,12 @@ use Rattle.lines.specs.Line.{line}
 use Rattle.jobfile.specs.File.{Answer, accepted, turned}
 
 -- "W: node, symbol, before set, class count, nop mark, watched"
+abbrev pub shadowNumbers : ShadowLine → List ℕ
+shadowNumbers w = w .node ∷ w .symbol ∷ w .before ∷ w .classes ∷ w .nop ∷ w .enabled ∷ []
+
+-- a W line
 abbrev pub shadowBytes : ShadowLine → List ℕ
-shadowBytes w = line 87 (w .node ∷ w .symbol ∷ w .before ∷ w .classes ∷ w .nop ∷ w .enabled ∷ [])
+shadowBytes w = line 87 (shadowNumbers w)
 
 -- "a W line for each event node in number order"
 unfoldable pub shadowsBytes : List ShadowLine → List ℕ
@@ -16,8 +20,12 @@ shadowsBytes [] = []
 shadowsBytes (w ∷ ws) = shadowBytes w ++ shadowsBytes ws
 
 -- "T: event nodes, watched, passes"
+abbrev pub totalNumbers : TotalLine → List ℕ
+totalNumbers t = t .shadows ∷ t .enabled ∷ t .passes ∷ []
+
+-- the T line
 abbrev pub totalBytes : TotalLine → List ℕ
-totalBytes t = line 84 (t .shadows ∷ t .enabled ∷ t .passes ∷ [])
+totalBytes t = line 84 (totalNumbers t)
 
 -- the W lines, then the T line
 unfoldable pub listingBytes : Listing → List ℕ

@@ -10,7 +10,8 @@ use native.Mathlib.Decide.{ℕ-discrete, decLt}
 use native.Mathlib.Omega.{arith}
 use lib.Dec.{lit<}
 use lib.ListN.{length, getD, set, length-set, List·getD-eq-default}
-use lib.Seq.{length-sets, getD-set-same, getD-set-other, set-getD, set-set, set-comm}
+use lib.Seq.{length-sets, getD-set-same, getD-set-other, set-getD, set-set}
+use Rattle.laws.proofs.Sets.{set-sets}
 use Rattle.laws.specs.Bytes.{ReadsBack, AreBytes, numberAt, bytesOf, putNumber}
 
 -- ---- bytes
@@ -135,21 +136,12 @@ put-number (suc n) l i h =
     let high : (getD l i 0 + 256 * numberAt n l (suc i)) / 256 ≡ numberAt n l (suc i) = omega arith in
     rw (low, high, set-getD l i 0) (put-number n l (suc i) h)
 
--- a store before the number
-put-set
-    : (n : ℕ) (l : List ℕ) (i v k b : ℕ) → k < i → set (putNumber n l i v) k b ≡ putNumber n (set l k b) i v
-unfolding putNumber bytesOf
-put-set zero l i v k b h = refl
-put-set (suc n) l i v k b h =
-    put-set n (set l i (v % 256)) (suc i) (v / 256) k b (le-step h)
-    ∙ ap (λ (m : List ℕ). putNumber n m (suc i) (v / 256)) (set-comm l i k (v % 256) b (ne-of-gt h))
-
 -- of two numbers written at one place the second stays
 pub put-put : (n : ℕ) (l : List ℕ) (i u v : ℕ) → putNumber n (putNumber n l i u) i v ≡ putNumber n l i v
 unfolding putNumber bytesOf
 put-put zero l i u v = refl
 put-put (suc n) l i u v =
     ap (λ (m : List ℕ). putNumber n m (suc i) (v / 256))
-    (put-set n (set l i (u % 256)) (suc i) (u / 256) i (v % 256) (le-refl (suc i))
+    (set-sets (set l i (u % 256)) (suc i) (bytesOf n (u / 256)) i (v % 256) (le-refl (suc i))
     ∙ ap (λ (m : List ℕ). putNumber n m (suc i) (u / 256)) (set-set l i (u % 256) (v % 256)))
     ∙ put-put n (set l i (v % 256)) (suc i) (u / 256) (v / 256)

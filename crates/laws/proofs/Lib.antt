@@ -6,4 +6,5 @@ pub mod Bits
 pub mod Image
 pub mod Walk
 pub mod Count
+pub mod Sets
 pub mod Bytes

@@ -6,3 +6,4 @@ pub mod LinesLaws
 pub mod SpelledField
 pub mod SpelledLine
 pub mod SpelledLines
+pub mod WriteLaws

@@ -1,7 +1,7 @@
 -- Laws of lines, in the shape of the code that reads them.
 -- Assumes nothing.
 use mathlib.Core.Path.{_≡_, refl, sym, ap, subst, _∙_}
-use mathlib.Core.Bool.{Bool, true, false, cond, _&&_}
+use mathlib.Core.Bool.{Bool, true, false, _&&_}
 use mathlib.Core.Logic.{⊎-elim, by-cases}
 use mathlib.Core.List.{List, [], _∷_}
 use Prim.Native.Nat.{ℕ, zero, suc, _+_, _-_, _*_, _≤_, _<_}
@@ -9,7 +9,7 @@ use native.Mathlib.Nat.{le-refl, not-suc-le-zero, eq-or-lt-of-le, ne-of-lt, ne-o
 use native.Mathlib.Decide.{decLt}
 use native.Mathlib.Numerals.{add-one}
 use native.Mathlib.Omega.{arith}
-use lib.Dec.{eqb, leb}
+use lib.Dec.{lit<, eqb, leb}
 use lib.ListN.{length, take, drop, getD, set, replicate, length-set, length-drop, List·getD-eq-default}
 use Rattle.lines.proofs.FieldLaws.{slice-part}
 use lib.Seq.{length-take-le, take-take, drop-drop, getD-take, getD-set-same, getD-set-other}
@@ -19,7 +19,7 @@ use Rattle.laws.proofs.Bounded.{length-tab, getD-tab, fill-done}
 use Rattle.lines.specs.declared.field.Field.{Field}
 use Rattle.lines.specs.declared.field.Field.the-variants.{Number, Malformed}
 use Rattle.lines.specs.declared.line.Row.{Row}
-use Rattle.lines.specs.Line.{fieldOf, Numbers, numbers, no-numbers, consField, fieldsOf, Due, no-line, foundIn, lineOf, padded, noRow, rowOf}
+use Rattle.lines.specs.Line.{fieldOf, Numbers, numbers, no-numbers, consField, fieldsOf, found, foundIn, lineOf, padded, noRow, rowOf, Framed}
 
 -- a row of these two
 abbrev pub row : ℕ → List ℕ → Row
@@ -35,14 +35,27 @@ fieldAt l k = fieldOf (take 6 (drop (k * 6 + 1) l))
 past-field : (l : List ℕ) (i : ℕ) → drop 6 (drop (i * 6 + 1) l) ≡ drop (suc i * 6 + 1) l
 past-field l i = let e : i * 6 + 1 + 6 ≡ suc i * 6 + 1 = omega arith in drop-drop 6 (i * 6 + 1) l ∙ ap (λ (n : ℕ). drop n l) e
 
+-- no field
+pub fields-no-more : (bytes : List ℕ) → fieldsOf 0 bytes ≡ numbers []
+unfolding fieldsOf
+fields-no-more bytes = refl
+
+-- a field that is a number, before others that are
+pub fields-number
+    : (l : List ℕ) (i c n : ℕ) (ns : List ℕ) → fieldAt l i ≡ Number n → fieldsOf c (drop (suc i * 6 + 1) l) ≡ numbers ns
+    → fieldsOf (suc c) (drop (i * 6 + 1) l) ≡ numbers (n ∷ ns)
+unfolding fieldsOf
+fields-number l i c n ns e p = rw (e, past-field l i, p)
+
 -- fields that are all numbers
 fields-from
     : (l : List ℕ) (f : ℕ → ℕ) (c i : ℕ) → ((k : ℕ) → i ≤ k → k < i + c → fieldAt l k ≡ Number (f k))
     → fieldsOf c (drop (i * 6 + 1) l) ≡ numbers (tabFrom i c f)
-unfolding fieldsOf tabFrom
-fields-from l f zero i h = refl
+unfolding tabFrom
+fields-from l f zero i h = fields-no-more (drop (i * 6 + 1) l)
 fields-from l f (suc c) i h =
-    rw (h i (le-refl i) (omega arith), past-field l i, fields-from l f c (suc i) (λ k p q. h k (omega arith) (omega arith)))
+    fields-number l i c (f i) (tabFrom (suc i) c f) (h i (le-refl i) (omega arith))
+    (fields-from l f c (suc i) (λ k p q. h k (omega arith) (omega arith)))
 
 -- a field that is none, before any others
 cons-malformed : (ns : Numbers) → consField Malformed ns ≡ no-numbers
@@ -103,10 +116,8 @@ no-row k = refl
 
 -- a field that is no number
 pub fields-stop
-    : (l ns : List ℕ) (k count : ℕ) (f : Field) → k < count → f ≡ fieldAt l k → f ≡ Malformed
-    → noRow 4 ≡ rowOf (foundIn (fieldsOf count (drop 1 l)))
-fields-stop l ns k count f h e q =
-    rw (fields-none-from l count 0 k (omega arith) (omega arith) (sym e ∙ q))
+    : (l : List ℕ) (k count : ℕ) → k < count → fieldAt l k ≡ Malformed → noRow 4 ≡ rowOf (foundIn (fieldsOf count (drop 1 l)))
+fields-stop l k count h e = rw (fields-none-from l count 0 k (omega arith) (omega arith) e)
 
 -- the numbers in eighteen places
 padded-tab
@@ -152,23 +163,28 @@ fields-take (suc k) m xs h =
     let rest : drop 6 (take m xs) ≡ take (m - 6) (drop 6 xs) = subst (λ (n : ℕ). drop 6 (take n xs) ≡ take (m - 6) (drop 6 xs)) (sym e) (slice-part 6 (m - 6) xs) in
     rw (take-take 6 m xs (omega arith), rest, fields-take k (m - 6) (drop 6 xs) (omega arith))
 
+-- no such line
+no-such : (letter k : ℕ) (bytes : List ℕ) (r : ℕ) → 0 < r → noRow r ≡ rowOf (lineOf letter k bytes) → Framed letter k bytes r
+no-such letter k bytes r h e = record { stops = λ z. e; line = λ z. absurd (omega arith); within = λ z. absurd (omega arith) }
+
 -- the file ends
-pub due-ends : (letter k : ℕ) (bytes : List ℕ) → length bytes ≡ 0 → noRow 3 ≡ rowOf (lineOf letter k bytes)
+pub due-ends : (letter k : ℕ) (bytes : List ℕ) → length bytes ≡ 0 → Framed letter k bytes 3
 unfolding lineOf
-due-ends letter k [] e = refl
+due-ends letter k [] e = no-such letter k [] 3 (lit< tt) refl
 due-ends letter k (b ∷ bs) e = absurd (omega arith)
 
--- no line, by a test that fails
-no-line-row : (t : Bool) (d : Due) → t ≡ false → noRow 4 ≡ rowOf (cond t d no-line)
-no-line-row t d e = rw e
+-- no such line, by a test that fails
+test-fails
+    : (letter k b : ℕ) (bs : List ℕ) → (eqb b letter && leb (k * 6 + 1) (length bs) && eqb (getD bs (k * 6) 0) 10) ≡ false
+    → Framed letter k (b ∷ bs) 4
+unfolding lineOf
+test-fails letter k b bs e = no-such letter k (b ∷ bs) 4 (lit< tt) (rw e)
 
 -- too few bytes
-pub due-short
-    : (letter k : ℕ) (bytes : List ℕ) → 0 < length bytes → length bytes < k * 6 + 2 → noRow 4 ≡ rowOf (lineOf letter k bytes)
-unfolding lineOf
+pub due-short : (letter k : ℕ) (bytes : List ℕ) → 0 < length bytes → length bytes < k * 6 + 2 → Framed letter k bytes 4
 due-short letter k [] h m = absurd (not-suc-le-zero h)
 due-short letter k (b ∷ bs) h m =
-    no-line-row (eqb b letter && leb (k * 6 + 1) (length bs) && eqb (getD bs (k * 6) 0) 10) (foundIn (fieldsOf k bs))
+    test-fails letter k b bs
     (second-fails (eqb b letter) (leb (k * 6 + 1) (length bs)) (eqb (getD bs (k * 6) 0) 10) (lt-leb (k * 6 + 1) (length bs) (omega arith)))
 
 -- the first byte of the line
@@ -184,41 +200,67 @@ last-of k b line bs e =
 -- another letter
 pub due-letter
     : (letter k : ℕ) (bytes line : List ℕ) → 0 < length bytes → line ≡ take (k * 6 + 2) bytes → (getD line 0 0 ≡ letter → ⊥)
-    → noRow 4 ≡ rowOf (lineOf letter k bytes)
-unfolding lineOf
+    → Framed letter k bytes 4
 due-letter letter k [] line h e p = absurd (not-suc-le-zero h)
 due-letter letter k (b ∷ bs) line h e p =
-    no-line-row (eqb b letter && leb (k * 6 + 1) (length bs) && eqb (getD bs (k * 6) 0) 10) (foundIn (fieldsOf k bs))
+    test-fails letter k b bs
     (first-fails (eqb b letter) (leb (k * 6 + 1) (length bs)) (eqb (getD bs (k * 6) 0) 10)
     (ne-eqb b letter (λ q. p (first-of k b line bs e ∙ q))))
 
 -- another end byte
 pub due-end-byte
     : (letter k : ℕ) (bytes line : List ℕ) → 0 < length bytes → line ≡ take (k * 6 + 2) bytes → (getD line (k * 6 + 2 - 1) 0 ≡ 10 → ⊥)
-    → noRow 4 ≡ rowOf (lineOf letter k bytes)
-unfolding lineOf
+    → Framed letter k bytes 4
 due-end-byte letter k [] line h e p = absurd (not-suc-le-zero h)
 due-end-byte letter k (b ∷ bs) line h e p =
-    no-line-row (eqb b letter && leb (k * 6 + 1) (length bs) && eqb (getD bs (k * 6) 0) 10) (foundIn (fieldsOf k bs))
+    test-fails letter k b bs
     (third-fails (eqb b letter) (leb (k * 6 + 1) (length bs)) (eqb (getD bs (k * 6) 0) 10)
     (ne-eqb (getD bs (k * 6) 0) 10 (λ q. p (last-of k b line bs e ∙ q))))
 
--- the fields of a line that has its letter and its end byte
-pub due-fields
+-- a line that has its letter and its end byte
+pub due-frame
     : (letter k : ℕ) (bytes line : List ℕ) → k * 6 + 2 ≤ length bytes → line ≡ take (k * 6 + 2) bytes → getD line 0 0 ≡ letter
-    → getD line (k * 6 + 2 - 1) 0 ≡ 10 → rowOf (foundIn (fieldsOf k (drop 1 line))) ≡ rowOf (lineOf letter k bytes)
+    → getD line (k * 6 + 2 - 1) 0 ≡ 10 → Framed letter k bytes 0
 unfolding lineOf
-due-fields letter k [] line h e p q = absurd (omega arith)
-due-fields letter k (b ∷ bs) line h e p q =
+due-frame letter k [] line h e p q = absurd (omega arith)
+due-frame letter k (b ∷ bs) line h e p q =
     let n : k * 6 + 2 ≡ suc (k * 6 + 1) = omega arith in
-    let fields : fieldsOf k (drop 1 line) ≡ fieldsOf k bs =
-    rw (e, n) (fields-take k (k * 6 + 1) bs (omega arith)) in
-    rw (
-      eq-eqb b letter (sym (first-of k b line bs e) ∙ p),
-      le-leb (k * 6 + 1) (length bs) (omega arith),
-      eq-eqb (getD bs (k * 6) 0) 10 (sym (last-of k b line bs e) ∙ q),
-      fields,
-    )
+    let fields : fieldsOf k (drop 1 (take (k * 6 + 2) (b ∷ bs))) ≡ fieldsOf k bs =
+    rw n (fields-take k (k * 6 + 1) bs (omega arith)) in
+    record {
+      stops = λ z. absurd (z refl);
+      line = λ z.
+          rw (
+            eq-eqb b letter (sym (first-of k b line bs e) ∙ p),
+            le-leb (k * 6 + 1) (length bs) (omega arith),
+            eq-eqb (getD bs (k * 6) 0) 10 (sym (last-of k b line bs e) ∙ q),
+            fields,
+          );
+      within = λ z. h;
+    }
+
+-- its bytes
+pub frame-length
+    : (letter k : ℕ) (bytes line : List ℕ) (r : ℕ) → Framed letter k bytes r → r ≡ 0 → line ≡ take (k * 6 + 2) bytes → length line ≡ k * 6 + 2
+frame-length letter k bytes line r f z e = rw e (length-take-le (k * 6 + 2) bytes (f .within z))
+
+-- the row of a line whose fields decide
+pub due-row
+    : (letter k : ℕ) (bytes line : List ℕ) (r : ℕ) → Framed letter k bytes r → r ≡ 0 → line ≡ take (k * 6 + 2) bytes
+    → rowOf (foundIn (fieldsOf k (drop 1 line))) ≡ rowOf (lineOf letter k bytes)
+due-row letter k bytes line r f z e = rw (f .line z, e)
+
+-- the numbers of a line, where its fields are these
+pub due-found
+    : (letter k : ℕ) (bytes line ns : List ℕ) (r : ℕ) → Framed letter k bytes r → r ≡ 0 → line ≡ take (k * 6 + 2) bytes
+    → fieldsOf k (drop 1 line) ≡ numbers ns → lineOf letter k bytes ≡ found ns
+due-found letter k bytes line ns r f z e q = rw (f .line z, ← e, q)
+
+-- a field that is no number, and so no line
+pub due-malformed
+    : (letter k : ℕ) (bytes line : List ℕ) (r i : ℕ) → Framed letter k bytes r → r ≡ 0 → line ≡ take (k * 6 + 2) bytes → i < k
+    → fieldAt line i ≡ Malformed → noRow 4 ≡ rowOf (lineOf letter k bytes)
+due-malformed letter k bytes line r i f z e h p = fields-stop line i k h p ∙ due-row letter k bytes line r f z e
 
 -- the bytes of a part of the file
 pub line-length : (l : List ℕ) (at n : ℕ) (line : List ℕ) → at + n ≤ length l → line ≡ take n (drop at l) → length line ≡ n

@@ -19,12 +19,12 @@ use Rattle.lines.specs.Written.{FieldSays}
 -- ---- digits
 
 -- a number of one digit
-decimal-digit : (k n : ℕ) (rest : List ℕ) → n < 10 → decimal (suc k) n rest ≡ (48 + n) ∷ rest
+pub decimal-digit : (k n : ℕ) (rest : List ℕ) → n < 10 → decimal (suc k) n rest ≡ (48 + n) ∷ rest
 unfolding decimal
 decimal-digit k n rest l = rw (lt-ltb n 10 l)
 
 -- the last digit of a longer number
-decimal-step : (k n : ℕ) (rest : List ℕ) → 10 ≤ n → decimal (suc k) n rest ≡ decimal k (n / 10) ((48 + n % 10) ∷ rest)
+pub decimal-step : (k n : ℕ) (rest : List ℕ) → 10 ≤ n → decimal (suc k) n rest ≡ decimal k (n / 10) ((48 + n % 10) ∷ rest)
 unfolding decimal
 decimal-step k n rest l = rw (le-ltb n 10 l)
 
@@ -186,7 +186,7 @@ spelled (b ∷ bs) n e = first (spelled bs n) (eqb b 32) refl e
     first more false t d = second (eqb b 48) refl d
 
 -- six columns of spaces and digits are a field
-field-of-spaces : (l : List ℕ) (m n : ℕ) → length l ≡ 6 → l ≡ replicate m 32 ++ decimal 6 n [] → l ≡ field n
+pub field-of-spaces : (l : List ℕ) (m n : ℕ) → length l ≡ 6 → l ≡ replicate m 32 ++ decimal 6 n [] → l ≡ field n
 field-of-spaces l m n six e =
     let count : 6 ≡ m + length (decimal 6 n []) = sym six ∙ ap length e ∙ simp (length-append, length-replicate) in
     let free : m ≡ 6 - length (decimal 6 n []) = omega arith in

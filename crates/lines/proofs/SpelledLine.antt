@@ -30,7 +30,7 @@ all-three t u v = (
 -- ---- fields
 
 -- a field more is written
-fields-cons : (n : ℕ) (ns : List ℕ) → fields (n ∷ ns) ≡ field n ++ fields ns
+pub fields-cons : (n : ℕ) (ns : List ℕ) → fields (n ∷ ns) ≡ field n ++ fields ns
 unfolding fields
 fields-cons n ns = refl
 

@@ -1,8 +1,9 @@
 -- Fields and lines (document 01, "The job file").
 -- Assumes nothing.
+use mathlib.Core.Path.{_≡_}
 use mathlib.Core.Bool.{Bool, cond, _&&_}
 use mathlib.Core.List.{List, [], _∷_, _++_}
-use Prim.Native.Nat.{ℕ, zero, suc, _+_, _-_, _*_, _/_, _%_}
+use Prim.Native.Nat.{ℕ, zero, suc, _+_, _-_, _*_, _/_, _%_, _≤_}
 use lib.Dec.{eqb, leb, ltb}
 use lib.ListN.{length, take, drop, getD, replicate}
 use Rattle.laws.specs.Bounded.{tab}
@@ -116,3 +117,9 @@ abbrev pub rowOf : Due → Row
 rowOf ends = noRow 3
 rowOf no-line = noRow 4
 rowOf (found ns) = record { status = 0; numbers = padded ns }
+
+-- what is due, its fields aside: r is 3 or 4 where there is no such line, and 0 where the fields decide
+pub record Framed (letter k : ℕ) (bytes : List ℕ) (r : ℕ) : Type 0 where
+  pub stops : (r ≡ 0 → ⊥) → noRow r ≡ rowOf (lineOf letter k bytes)
+  pub line : r ≡ 0 → lineOf letter k bytes ≡ foundIn (fieldsOf k (drop 1 (take (lineLength k) bytes)))
+  pub within : r ≡ 0 → lineLength k ≤ length bytes

@@ -2,7 +2,7 @@
 ghost use mathlib.Core.Path.{_≡_};
 ghost use Prim.Native.Nat.{_+_, _*_, _≤_};
 ghost use lib.ListN.{length, take, drop};
-ghost use Rattle.lines.specs.Line.{foundIn, fieldsOf, lineOf, noRow, rowOf};
+ghost use Rattle.lines.specs.Line.{foundIn, fieldsOf, lineOf, noRow, rowOf, Framed};
 ghost use Rattle.lines.specs.Places.{collected};
 use super::field::Field;
 use super::field::field_in;
@@ -47,6 +47,29 @@ pub fn line_at(file: &[u8], at: usize, len: usize) -> &[u8]
     &file[at..at + len]
 }
 
+// Whether a line with this letter and so many fields stands at `at`, its fields aside: 3, 4, or 0.
+pub fn framed(file: &[u8], at: usize, letter: u8, count: usize) -> u64
+    requires { ⌜ (at ≤ length (now file)) × (count ≤ 18) ⌝ }
+    ensures { λ r. ⌜ Framed letter count (drop at (now (file .entry))) r ⌝ }
+{
+    let left = file.len() - at;
+    if left == 0 {
+        return 3;
+    }
+    let len = count * 6 + 2;
+    if left < len {
+        return 4;
+    }
+    let line = line_at(file, at, len);
+    if line[0] != letter {
+        return 4;
+    }
+    if line[len - 1] != 10 {
+        return 4;
+    }
+    0
+}
+
 // The numbers of a line's fields, after its letter.
 fn fields_in(line: &[u8], count: usize) -> Row
     requires { ⌜ (count ≤ 18) × (count * 6 + 1 ≤ length (now line)) ⌝ }
@@ -72,20 +95,9 @@ pub fn due_line(file: &[u8], at: usize, letter: u8, count: usize) -> Row
     requires { ⌜ (at ≤ length (now file)) × (count ≤ 18) ⌝ }
     ensures { λ r. ⌜ r ≡ rowOf (lineOf letter count (drop at (now (file .entry)))) ⌝ }
 {
-    let left = file.len() - at;
-    if left == 0 {
-        return no_row(3);
+    let status = framed(file, at, letter, count);
+    if status != 0 {
+        return no_row(status);
     }
-    let len = count * 6 + 2;
-    if left < len {
-        return no_row(4);
-    }
-    let line = line_at(file, at, len);
-    if line[0] != letter {
-        return no_row(4);
-    }
-    if line[len - 1] != 10 {
-        return no_row(4);
-    }
-    fields_in(line, count)
+    fields_in(line_at(file, at, count * 6 + 2), count)
 }

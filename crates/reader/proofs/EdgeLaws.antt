@@ -1,7 +1,7 @@
 -- Laws of F lines and of the edges in the buffer, in the shape of the code.
 -- Assumes nothing.
-use mathlib.Core.Path.{_≡_, refl, sym, _∙_}
-use mathlib.Core.Bool.{Bool, true, false, _&&_, _||_, and-eq-true-iff}
+use mathlib.Core.Path.{_≡_, refl, sym, ap, _∙_}
+use mathlib.Core.Bool.{Bool, true, false, cond, _&&_, _||_, and-eq-true-iff}
 use mathlib.Core.Logic.{inl, ⊎-elim, by-cases}
 use mathlib.Core.List.{List, [], _∷_}
 use Prim.Native.Nat.{ℕ, zero, suc, _+_, _*_, _/_, _%_, _≤_, _<_}
@@ -10,20 +10,21 @@ use native.Mathlib.Decide.{decLt}
 use native.Mathlib.Numerals.{add-one}
 use native.Mathlib.Omega.{arith}
 use lib.Dec.{lit<, eqb, leb, ltb, leb·zero}
-use lib.ListN.{length, getD}
+use lib.ListN.{length, take, drop}
 use borrow.Author.Tests.{eq-eqb, eqb-true, le-leb, leb-true, lt-ltb, ltb-true}
 use Rattle.laws.specs.Bytes.{putNumber}
 use Rattle.laws.proofs.Bytes.{number-put}
 use Rattle.laws.proofs.Tests.{fails-of, test-ext, or-left, or-right, or-passes}
-use Rattle.lines.specs.declared.line.Row.{Row}
-use Rattle.lines.specs.Line.{lineOf, rowOf, at}
+use Rattle.lines.specs.declared.field.Field.the-variants.{Number, Malformed}
+use Rattle.lines.specs.Line.{Due, found, lineOf, noRow, rowOf, Framed, at}
 use Rattle.jobfile.specs.File.{ascends, goodEdge, edgeLine}
 use Rattle.reader.specs.Layout.{startsPart, workSize, startIn, SameOutside, StartsFilled}
-use Rattle.lines.specs.Places.{collected, numbersOf}
+use Rattle.lines.specs.Places.{collected, numbersOf, statusOf}
 use Rattle.reader.specs.ReadLines.{beforeOf, EdgeRead}
 use Rattle.jobfile.specs.Refusal.{EdgeWithin}
 use Rattle.jobfile.proofs.WithinLaws.{edge-says}
-use Rattle.lines.proofs.LinesLaws.{row-stops, row-passes, row-fails, row-number, row-long}
+use Rattle.lines.proofs.LineLaws.{fieldAt, fields-no-more, fields-number, due-found, due-malformed}
+use Rattle.lines.proofs.LinesLaws.{row-stops}
 use Rattle.reader.proofs.KeptLaws.{kept-none, kept-both, kept-put, number-kept}
 
 -- ---- the tests of an F line
@@ -85,18 +86,11 @@ module _ (n next from to : ℕ) where
 
 -- ---- one line
 
-module _ (n next : ℕ) (bytes : List ℕ) (r : Row) (e : r ≡ rowOf (lineOf 70 2 bytes)) where
-  -- number k of the row
-  abbrev f : ℕ → ℕ
-  f k = getD (r .numbers) k 0
-
-  row-is : (k : ℕ) → k < 18 → f k ≡ getD (numbersOf (lineOf 70 2 bytes)) k 0
-  row-is k h = row-number (lineOf 70 2 bytes) r k e h
-
+module _ (n next : ℕ) (bytes : List ℕ) where
   -- nothing, or no line
-  pub edge-stop : (r .status ≡ 0 → ⊥) → EdgeRead n next bytes (collected (r .status) 0)
-  edge-stop q = record {
-    status = row-stops (edgeLine n) 0 (beforeOf next) (lineOf 70 2 bytes) r e q;
+  pub edge-stop : (r : ℕ) → noRow r ≡ rowOf (lineOf 70 2 bytes) → (r ≡ 0 → ⊥) → EdgeRead n next bytes (collected r 0)
+  edge-stop r e q = record {
+    status = row-stops (edgeLine n) 0 (beforeOf next) (lineOf 70 2 bytes) (noRow r) e q;
     zero = λ z. refl;
     from = λ z. absurd (q z);
     to = λ z. absurd (q z);
@@ -106,49 +100,55 @@ module _ (n next : ℕ) (bytes : List ℕ) (r : Row) (e : r ≡ rowOf (lineOf 70
     small = lit< tt;
   }
 
-  -- the numbers of the row, in the test
-  test-same : EdgeTest n next (f 0) (f 1) ≡ goodEdge n 0 (beforeOf next) (numbersOf (lineOf 70 2 bytes))
-  test-same = ascends-same (beforeOf next) (row-is 0 (lit< tt)) (row-is 1 (lit< tt))
-    where
-      ascends-same
-          : (b : List ℕ) → f 0 ≡ at (numbersOf (lineOf 70 2 bytes)) 0 → f 1 ≡ at (numbersOf (lineOf 70 2 bytes)) 1
-          → goodEdge n 0 b (f 0 ∷ f 1 ∷ []) ≡ goodEdge n 0 b (numbersOf (lineOf 70 2 bytes))
-      ascends-same [] p q = rw (p, q)
-      ascends-same (m ∷ ms) p q = rw (p, q)
+  module _ (r : ℕ) (frame : Framed 70 2 bytes r) (z : r ≡ 0) (line : List ℕ) (l : line ≡ take 14 bytes) where
+    -- a field that is no number
+    pub edge-malformed : (i : ℕ) → i < 2 → fieldAt line i ≡ Malformed → EdgeRead n next bytes (collected 4 0)
+    edge-malformed i h p = edge-stop 4 (due-malformed 70 2 bytes line r i frame z l h p) (λ x. absurd (omega arith))
 
-  -- numbers that do not pass
-  pub edge-fails : (t : Bool) → r .status ≡ 0 → t ≡ EdgeTest n next (f 0) (f 1) → t ≡ false → EdgeRead n next bytes (collected 8 0)
-  edge-fails t z g v = record {
-    status = sym (row-fails (edgeLine n) 0 (beforeOf next) (lineOf 70 2 bytes) r e z (sym test-same ∙ sym g ∙ v));
-    zero = λ z. refl;
-    from = λ q. absurd (omega arith);
-    to = λ q. absurd (omega arith);
-    from-below = λ q. absurd (omega arith);
-    ascends = λ q. absurd (omega arith);
-    within = λ q. absurd (omega arith);
-    small = lit< tt;
-  }
+    module _ (from to : ℕ) (first : fieldAt line 0 ≡ Number from) (second : fieldAt line 1 ≡ Number to) (t : Bool)
+        (test : t ≡ EdgeTest n next from to) where
+      -- the numbers of the line
+      numbers-are : lineOf 70 2 bytes ≡ found (from ∷ to ∷ [])
+      numbers-are =
+          due-found 70 2 bytes line (from ∷ to ∷ []) r frame z l
+          (fields-number line 0 1 from (to ∷ []) first (fields-number line 1 0 to [] second (fields-no-more (drop 13 line))))
 
-  -- numbers that pass
-  pub edge-passes
-      : (t : Bool) → n ≤ 512 → r .status ≡ 0 → t ≡ EdgeTest n next (f 0) (f 1) → t ≡ true
-      → EdgeRead n next bytes (collected 0 (f 0 * 512 + f 1))
-  edge-passes t s z g v =
-      let l = edge-limits n next (f 0) (f 1) s (sym g ∙ v) in
-      let a = l .0 in
-      let b = l .1 in
-      let d : (f 0 * 512 + f 1) / 512 ≡ f 0 = omega arith in
-      let m : (f 0 * 512 + f 1) % 512 ≡ f 1 = omega arith in
-      record {
-        status = sym (row-passes (edgeLine n) 0 (beforeOf next) (lineOf 70 2 bytes) r e z (sym test-same ∙ sym g ∙ v));
-        zero = λ z. absurd (z refl);
-        from = λ q. d ∙ row-is 0 (lit< tt);
-        to = λ q. m ∙ row-is 1 (lit< tt);
-        from-below = λ q. omega arith;
-        ascends = λ q. l .2;
-        within = λ q. row-long 70 2 bytes r e z;
-        small = omega arith;
+      -- what the test says of it
+      status-is : (b : Bool) → t ≡ b → statusOf (edgeLine n) 0 (beforeOf next) (lineOf 70 2 bytes) ≡ cond b 0 8
+      status-is b v =
+          ap (statusOf (edgeLine n) 0 (beforeOf next)) numbers-are ∙ ap (λ (c : Bool). cond c 0 8) (sym test ∙ v)
+
+      -- numbers that do not pass
+      pub edge-fails : t ≡ false → EdgeRead n next bytes (collected 8 0)
+      edge-fails v = record {
+        status = sym (status-is false v);
+        zero = λ z. refl;
+        from = λ q. absurd (omega arith);
+        to = λ q. absurd (omega arith);
+        from-below = λ q. absurd (omega arith);
+        ascends = λ q. absurd (omega arith);
+        within = λ q. absurd (omega arith);
+        small = lit< tt;
       }
+
+      -- numbers that pass
+      pub edge-passes : n ≤ 512 → t ≡ true → EdgeRead n next bytes (collected 0 (from * 512 + to))
+      edge-passes s v =
+          let l = edge-limits n next from to s (sym test ∙ v) in
+          let a = l .0 in
+          let b = l .1 in
+          let d : (from * 512 + to) / 512 ≡ from = omega arith in
+          let m : (from * 512 + to) % 512 ≡ to = omega arith in
+          record {
+            status = sym (status-is true v);
+            zero = λ z. absurd (z refl);
+            from = λ q. d ∙ sym (ap (λ (x : Due). at (numbersOf x) 0) numbers-are);
+            to = λ q. m ∙ sym (ap (λ (x : Due). at (numbersOf x) 1) numbers-are);
+            from-below = λ q. omega arith;
+            ascends = λ q. l .2;
+            within = λ q. frame .within z;
+            small = omega arith;
+          }
 
 -- ---- the starts
 

@@ -8,8 +8,11 @@ ghost use Rattle.reader.specs.Layout.{workSize, StartsFilled};
 ghost use Rattle.reader.specs.ReadLines.{beforeOf, EdgeRead, EdgesRead};
 use super::layout::STARTS;
 use super::layout::TARGETS;
+use lines::field::Field;
+use lines::field::field_in;
 use lines::line::Collected;
-use lines::line::due_line;
+use lines::line::framed;
+use lines::line::line_at;
 use lines::line::refused;
 use words::write16;
 
@@ -32,14 +35,17 @@ fn edge_line(file: &[u8], at: usize, nodes: u64, next: u64) -> Collected
     requires { ⌜ (at ≤ length (now file)) × (nodes ≤ 512) ⌝ }
     ensures { λ r. ⌜ EdgeRead nodes next (drop at (now (file .entry))) r ⌝ }
 {
-    let row = due_line(file, at, 70, 2);
-    let status = row.status;
+    let status = framed(file, at, 70, 2);
     if status != 0 {
         return refused(status);
     }
-    let f = row.numbers;
-    let from = f[0];
-    let to = f[1];
+    let line = line_at(file, at, 14);
+    let Field::Number(from) = field_in(line, 1) else {
+        return refused(4);
+    };
+    let Field::Number(to) = field_in(line, 7) else {
+        return refused(4);
+    };
     if is_edge(nodes, next, from, to) {
         return Collected {
             status: 0,

@@ -6,8 +6,11 @@ ghost use lib.ListN.{length, drop};
 ghost use Rattle.jobfile.specs.File.{goodValue, goodNode, nodeOf};
 ghost use Rattle.reader.specs.Layout.{workSize, NodeStored};
 ghost use Rattle.reader.specs.ReadLines.{NodeRead, NodesRead};
+use lines::field::Field;
+use lines::field::field_in;
 use lines::line::Collected;
-use lines::line::due_line;
+use lines::line::framed;
+use lines::line::line_at;
 use lines::line::refused;
 use words::write16;
 
@@ -98,18 +101,45 @@ fn node_line(
     requires { ⌜ (at ≤ length (now file)) × ((workSize ≤ length (now work)) × ((states ≤ 16) × ((symbols ≤ 16) × (n < 512)))) ⌝ }
     ensures { λ r. ⌜ NodeRead states symbols n (drop at (now (file .entry))) (now (work .entry)) (now (work .exit)) r ⌝ }
 {
-    let row = due_line(file, at, 80, 6);
-    let status = row.status;
+    let status = framed(file, at, 80, 6);
     if status != 0 {
         return refused(status);
     }
-    let f = row.numbers;
+    let line = line_at(file, at, 38);
+    let Field::Number(node) = field_in(line, 1) else {
+        return refused(4);
+    };
+    let Field::Number(kind) = field_in(line, 7) else {
+        return refused(4);
+    };
+    let Field::Number(value) = field_in(line, 13) else {
+        return refused(4);
+    };
+    let Field::Number(entries) = field_in(line, 19) else {
+        return refused(4);
+    };
+    let Field::Number(exits) = field_in(line, 25) else {
+        return refused(4);
+    };
+    let Field::Number(after) = field_in(line, 31) else {
+        return refused(4);
+    };
     let place = n as u64;
-    if is_node(states, symbols, place, f[0], f[1], f[2], f[3], f[4], f[5]) {
-        store_node(work, n, f[1], f[2], f[3], f[4], f[5]);
+    if is_node(
+        states,
+        symbols,
+        place,
+        node,
+        kind,
+        value,
+        entries,
+        exits,
+        after,
+    ) {
+        store_node(work, n, kind, value, entries, exits, after);
         return Collected {
             status: 0,
-            number: f[3],
+            number: entries,
         };
     }
     refused(7)

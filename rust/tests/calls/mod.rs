@@ -1,110 +1,57 @@
 //! Random calls of the event step, valid, damaged and at the limits, from a printed seed.
-use std::sync::OnceLock;
-use std::time::{SystemTime, UNIX_EPOCH};
+use walks::random::Random;
 
-/// The seed of this run: `DAPOHIRU_SEED`, or the clock.
-pub fn seed() -> u64 {
-    static SEED: OnceLock<u64> = OnceLock::new();
-    *SEED.get_or_init(|| match std::env::var("DAPOHIRU_SEED") {
-        Ok(text) => text.parse().expect("DAPOHIRU_SEED is a decimal number"),
-        Err(_) => {
-            let clock = SystemTime::now().duration_since(UNIX_EPOCH);
-            clock.expect("the clock is past 1970").as_nanos() as u64
-        }
-    })
+/// 1 to 16; now and then something that is no count of states or symbols.
+fn count(random: &mut Random) -> u64 {
+    if random.once_in(16) {
+        let near = 1 + random.below(16);
+        let far = random.number();
+        random.pick(&[
+            0,
+            0,
+            17,
+            17,
+            18,
+            32,
+            255,
+            256 + near,
+            (1 << 32) + near,
+            u64::MAX,
+            far,
+        ])
+    } else {
+        1 + random.below(16)
+    }
 }
 
-/// A random number generator (splitmix64).
-pub struct Random(u64);
-
-impl Random {
-    /// The generator of this run; says its seed.
-    pub fn of_this_run() -> Self {
-        println!("seed {} (DAPOHIRU_SEED repeats it)", seed());
-        Random(seed())
+/// A number below `count`; now and then one that is not.
+fn member(random: &mut Random, count: u64) -> u64 {
+    if random.once_in(8) {
+        let low = random.below(count.clamp(1, 16));
+        let far = random.number();
+        random.pick(&[
+            count,
+            count,
+            count.wrapping_add(1),
+            16,
+            256 + low,
+            (1 << 32) + low,
+            (1 << 63) + low,
+            u64::MAX,
+            far,
+        ])
+    } else {
+        random.below(count.max(1))
     }
+}
 
-    pub fn number(&mut self) -> u64 {
-        self.0 = self.0.wrapping_add(0x9e37_79b9_7f4a_7c15);
-        let mut z = self.0;
-        z = (z ^ z >> 30).wrapping_mul(0xbf58_476d_1ce4_e5b9);
-        z = (z ^ z >> 27).wrapping_mul(0x94d0_49bb_1331_11eb);
-        z ^ z >> 31
-    }
-
-    /// A number below `bound`.
-    pub fn below(&mut self, bound: u64) -> u64 {
-        self.number() % bound
-    }
-
-    /// True once in `n` times.
-    pub fn once_in(&mut self, n: u64) -> bool {
-        self.below(n) == 0
-    }
-
-    pub fn pick<T: Copy>(&mut self, from: &[T]) -> T {
-        from[self.below(from.len() as u64) as usize]
-    }
-
-    fn fill(&mut self, bytes: &mut [u8]) {
-        for part in bytes.chunks_mut(8) {
-            let from = self.number().to_le_bytes();
-            part.copy_from_slice(&from[..part.len()]);
-        }
-    }
-
-    /// 1 to 16; now and then something that is no count of states or symbols.
-    fn count(&mut self) -> u64 {
-        if self.once_in(16) {
-            let near = 1 + self.below(16);
-            let far = self.number();
-            self.pick(&[
-                0,
-                0,
-                17,
-                17,
-                18,
-                32,
-                255,
-                256 + near,
-                (1 << 32) + near,
-                u64::MAX,
-                far,
-            ])
-        } else {
-            1 + self.below(16)
-        }
-    }
-
-    /// A number below `count`; now and then one that is not.
-    fn member(&mut self, count: u64) -> u64 {
-        if self.once_in(8) {
-            let low = self.below(count.clamp(1, 16));
-            let far = self.number();
-            self.pick(&[
-                count,
-                count,
-                count.wrapping_add(1),
-                16,
-                256 + low,
-                (1 << 32) + low,
-                (1 << 63) + low,
-                u64::MAX,
-                far,
-            ])
-        } else {
-            self.below(count.max(1))
-        }
-    }
-
-    /// An alarm total: small, at the end of the range, at the carry of some byte, or any.
-    fn total(&mut self) -> u64 {
-        match self.below(4) {
-            0 => self.below(1000),
-            1 => u64::MAX - self.below(3),
-            2 => (1 << (8 * (1 + self.below(7)))) - 1,
-            _ => self.number(),
-        }
+/// An alarm total: small, at the end of the range, at the carry of some byte, or any.
+fn total(random: &mut Random) -> u64 {
+    match random.below(4) {
+        0 => random.below(1000),
+        1 => u64::MAX - random.below(3),
+        2 => (1 << (8 * (1 + random.below(7)))) - 1,
+        _ => random.number(),
     }
 }
 
@@ -164,8 +111,8 @@ impl Call {
         let mut call = Call {
             rule: [0; 300],
             rule_len: 256,
-            states: random.count(),
-            symbols: random.count(),
+            states: count(random),
+            symbols: count(random),
             finals: random.number(),
             symbol: 0,
             around: [0; 40 + 2 * MARGIN],
@@ -211,14 +158,14 @@ impl Call {
 
     /// Gives the call any symbol and any record, mostly valid ones.
     pub fn put_any_event(&mut self, random: &mut Random) {
-        self.symbol = random.member(self.symbols);
+        self.symbol = member(random, self.symbols);
         random.fill(&mut self.around);
         if random.once_in(12) {
             let any = random.below(41) as usize;
             self.record_len = random.pick(&[0, 8, 15, 17, 40, any, any, any]);
         }
-        let state = random.member(self.states).to_le_bytes();
-        let total = random.total().to_le_bytes();
+        let state = member(random, self.states).to_le_bytes();
+        let total = total(random).to_le_bytes();
         self.around[MARGIN..MARGIN + 8].copy_from_slice(&state);
         self.around[MARGIN + 8..MARGIN + 16].copy_from_slice(&total);
     }

@@ -1,9 +1,9 @@
 //! Random files: the library beside the second reader, without a slip and with each.
 use crate::cases::Cases;
 use crate::memory::{Counts, Memory, Seen};
-use crate::random::Random;
 use crate::second::Second;
 use crate::slip::Slip;
+use walks::random::Random;
 
 #[test]
 fn random_files_agree_with_the_second_reader() {

@@ -1,8 +1,9 @@
 //! Random calls: jobs, files with random faults of all kinds, and random bytes.
 use crate::damage::{columns, misspelled, numbers_near, sizes, BYTES};
-use crate::jobs::{spell, Job, Line, Sizes, FULL};
-use crate::random::Random;
 use std::slice::from_ref;
+use walks::job::{spell, Job, Line};
+use walks::random::Random;
+use walks::sized::{Sizes, FULL};
 
 /// One call: a file, the bytes that stand past it in memory, and the length of the work buffer.
 #[derive(Clone, Debug)]

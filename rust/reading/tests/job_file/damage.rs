@@ -1,7 +1,8 @@
 //! Damaged files: every damage of some kind to one file.
-use crate::jobs::{spell, Line, Sizes};
 use std::ops::Range;
 use std::slice::from_ref;
+use walks::job::{spell, Line};
+use walks::sized::Sizes;
 
 /// Bytes that stand next to those of a file, or are taken for them by mistake.
 pub const BYTES: &[u8] = b" 0129:/\t\r\n\0-+.,aJRPFjrpf\x0b\x7f\x80\xa0\xb0\xff";

@@ -1,10 +1,10 @@
 //! Every damage of some kind to small files.
 use crate::cases::Case;
 use crate::damage;
-use crate::jobs::spell;
 use crate::memory::{compare_all, Counts, Memory, WORK};
 use crate::samples::{answer, least, small};
 use reading::Refusal;
+use walks::job::spell;
 
 #[test]
 fn cut_at_every_byte_is_refused_as_3_or_4() {

@@ -1,6 +1,6 @@
 //! Faults that are put into the file of a job, alone or together.
-use crate::jobs::{spell, Job, Line};
 use std::slice::from_ref;
+use walks::job::{spell, Job, Line};
 
 /// A fault of a file, with the lines counted from the J line on.
 #[derive(Clone, Copy, Debug)]

@@ -1,9 +1,9 @@
 //! Calls of the library with every byte that they could reach looked at, and counts of their answers.
 use crate::cases::Case;
-use crate::random::{self, Random};
 use crate::second::{Answer, Outcome, Second};
 use reading::{read, Refusal};
 use std::collections::BTreeMap;
+use walks::random::{self, Random};
 
 /// The greatest length of a file.
 pub const LONGEST: usize = 49_914;

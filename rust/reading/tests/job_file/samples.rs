@@ -1,8 +1,8 @@
 //! Small jobs by hand, and what the two readers say of one file.
-use crate::jobs::{Job, Line, Node};
 use crate::memory::WORK;
 use crate::second::{Answer, Second};
 use reading::{read, Refusal};
+use walks::job::{Job, Line, Node};
 
 /// PAIR of document 01, "One listing in full".
 pub const PAIR: &str = "\

@@ -1,7 +1,7 @@
 //! Reading a job file a second time, written from document 01 alone. It shares nothing with the library.
 //! A slip can be switched on, to see that a comparison notices it.
-use crate::jobs::{Job, Node};
 use crate::slip::Slip;
+use walks::job::{Job, Node};
 
 /// The answer to one call.
 #[derive(Clone, Debug, PartialEq, Eq)]

@@ -1,10 +1,11 @@
 //! Trials of document 01, and jobs that are accepted.
 use crate::cases::Case;
-use crate::jobs::{Job, Sizes, FULL};
 use crate::memory::{words, LONGEST};
-use crate::random::Random;
 use crate::samples::{answer, least, rich, second_job, PAIR};
 use reading::Refusal;
+use walks::job::Job;
+use walks::random::Random;
+use walks::sized::{Sizes, FULL};
 
 #[test]
 fn pair_is_accepted() {

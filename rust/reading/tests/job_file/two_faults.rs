@@ -1,12 +1,13 @@
 //! Files with two faults: which of them decides.
 use crate::cases::Case;
 use crate::faults::{faulty, Fault};
-use crate::jobs::{spell, Job, Line, FULL};
 use crate::memory::{words, Counts, Memory, LONGEST};
-use crate::random::Random;
 use crate::samples::{answer, little};
 use reading::Refusal;
 use std::collections::BTreeMap;
+use walks::job::{spell, Job, Line};
+use walks::random::Random;
+use walks::sized::FULL;
 
 #[test]
 fn first_of_two_faults_decides_line_by_line_and_then_by_number() {

@@ -1,11 +1,12 @@
 //! What a call leaves in the work buffer, the file and the bytes around them.
 use crate::cases::Cases;
 use crate::faults::{faulty, Fault};
-use crate::jobs::{spell, Job, FULL};
 use crate::memory::{words, Counts, Memory, WORK};
-use crate::random::Random;
 use crate::samples::little;
 use reading::{read, Refusal};
+use walks::job::{spell, Job};
+use walks::random::Random;
+use walks::sized::FULL;
 
 #[test]
 fn work_buffer_is_unchanged_after_1_and_2_and_else_zero_in_its_first_65536_bytes_alone() {

@@ -2,7 +2,7 @@
 -- Invariant: the first k fields are numbers, which stand in order, with zeros after them. Measure: the fields still to be read.
 -- Assumes nothing.
 use Prim.Native.Nat.{_≤_, _-_}
-use mathlib.Core.Path.{_∙_}
+use mathlib.Core.Path.{sym, _∙_}
 use native.Mathlib.Omega.{arith}
 use borrow.Author.Needs.{needs}
 use Rattle.lines.proofs.LineLaws.{FieldsRead, fields-start, fields-more, fields-stop, fields-end}
@@ -42,7 +42,7 @@ returns c =
     let l = c .before .before .before .before .before .loop in
     let f = c .before .before .before .field-in in
     c .no-row .ensures
-    ∙ fields-stop (x .line .now) (l .numbers) (l .k) (x .count) (f .result) (omega arith) (f .ensures) (c .before .enum-told .given .1)
+    ∙ fields-stop (x .line .now) (l .k) (x .count) (omega arith) (sym (f .ensures) ∙ c .before .enum-told .given .1)
 
 mul-numbers : tie.Need-mul-numbers Inv-loop μ-loop
 mul-numbers c = search needs

@@ -24,6 +24,7 @@ impl Random {
         Random(seed())
     }
 
+    /// Any number.
     pub fn number(&mut self) -> u64 {
         self.0 = self.0.wrapping_add(0x9e37_79b9_7f4a_7c15);
         let mut z = self.0;
@@ -52,7 +53,37 @@ impl Random {
         self.below(n) == 0
     }
 
+    /// One of these.
     pub fn pick<T: Copy>(&mut self, from: &[T]) -> T {
         from[self.place(from.len())]
+    }
+
+    /// Puts these in any order.
+    pub fn shuffle<T>(&mut self, all: &mut [T]) {
+        for place in (1..all.len()).rev() {
+            all.swap(place, self.place(place + 1));
+        }
+    }
+
+    /// A set out of `count` members: empty, full, or any.
+    pub fn set(&mut self, count: u64) -> u64 {
+        match self.below(6) {
+            0 => 0,
+            1 => (1 << count) - 1,
+            _ => self.below(1 << count),
+        }
+    }
+
+    /// A set out of `count` members that is not empty.
+    pub fn some_set(&mut self, count: u64) -> u64 {
+        self.between(1, (1 << count) - 1)
+    }
+
+    /// Random bytes.
+    pub fn fill(&mut self, bytes: &mut [u8]) {
+        for part in bytes.chunks_mut(8) {
+            let from = self.number().to_le_bytes();
+            part.copy_from_slice(&from[..part.len()]);
+        }
     }
 }

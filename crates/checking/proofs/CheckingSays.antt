@@ -1,0 +1,157 @@
+-- The verdicts of the plan check say what the walks of the job define.
+-- Why: past all refusals the verdict is the test `faithful`, which decides whether a walk shows a difference.
+-- Assumes nothing.
+use mathlib.Core.Path.{_≡_, refl, sym, ap, _∙_, subst}
+use mathlib.Core.Logic.{⊎-elim}
+use mathlib.Core.Bool.{Bool, true, false, cond}
+use mathlib.Core.List.{List}
+use Prim.Native.Nat.{ℕ, zero, suc, _≤_}
+use native.Mathlib.Omega.{arith}
+use lib.Dec.{eqb, ltb}
+use lib.ListN.{length, getD}
+use borrow.Author.Tests.{ltb-true, ltb-false, leb-true, eqb-true, eqb-false}
+use Rattle.laws.specs.Bounded.{allBelow}
+use Rattle.laws.proofs.Bounded.{all-at, all-of}
+use Rattle.laws.proofs.Tests.{passes-or-fails}
+use Rattle.job.specs.Job.{Kind, plain, event, call, Job, nodeAt, WellFormedJob}
+use Rattle.job.specs.Search.{faithful}
+use Rattle.job.proofs.Decide.{faithful-says, different-says}
+use Rattle.jobfile.specs.File.{Answer, accepted, turned, maxFile, readJob}
+use Rattle.jobfile.proofs.SpellableLaws.{read-written}
+use Rattle.reader.specs.Layout.{workSize}
+use Rattle.checking.specs.declared.check.Verdict.{Verdict}
+use Rattle.checking.specs.declared.check.Verdict.the-variants.{Faithful, Different, Refused}
+use Rattle.checking.specs.Checking.{goodMark, judged, answered, checked}
+use Rattle.checking.specs.CheckingSays.{MarkFor, unwatched, watched, Admissible, SaysFaithful, SaysDifferent}
+use Rattle.checking.proofs.CheckLaws.{judged-11, judged-12, judged-verdict, checked-1, checked-2, checked-read}
+
+-- ---- plan bytes
+
+-- a byte that passes the test is one of those
+good-mark : (k : Kind) (b : ℕ) → goodMark k b ≡ true → MarkFor k b
+good-mark plain b h = subst (λ (x : ℕ). MarkFor plain x) (sym (eqb-true b 0 h)) unwatched
+good-mark (event a) zero h = unwatched
+good-mark (event a) (suc zero) h = watched
+good-mark (event a) (suc (suc b)) h = let small = leb-true (suc (suc b)) 1 h in absurd (omega arith)
+good-mark (call set) b h = subst (λ (x : ℕ). MarkFor (call set) x) (sym (eqb-true b 0 h)) unwatched
+
+-- and 0 passes everywhere
+zero-good : (k : Kind) → goodMark k 0 ≡ true
+zero-good plain = refl
+zero-good (event a) = refl
+zero-good (call set) = refl
+
+-- those pass
+mark-good : {k : Kind} {b : ℕ} → MarkFor k b → goodMark k b ≡ true
+mark-good (unwatched {k}) = zero-good k
+mark-good watched = refl
+
+-- ---- verdicts
+
+-- the verdict of a test
+abbrev verdict : Bool → Verdict
+verdict b = cond b Faithful Different
+
+-- verdicts have numbers of their own, and a refusal another
+abbrev tag : Verdict → ℕ
+tag Faithful = 0
+tag Different = 1
+tag (Refused k) = 2
+
+-- a refusal is no verdict
+refused-not : (k : ℕ) (b : Bool) → Refused k ≡ verdict b → ⊥
+refused-not k true e = let z : _≡_ {A = ℕ} 2 0 = ap tag e in omega arith
+refused-not k false e = let z : _≡_ {A = ℕ} 2 1 = ap tag e in omega arith
+
+-- two verdicts that are one are of one test
+verdict-same : (a b : Bool) → verdict a ≡ verdict b → a ≡ b
+verdict-same true true e = refl
+verdict-same true false e = let z : _≡_ {A = ℕ} 0 1 = ap tag e in absurd (omega arith)
+verdict-same false true e = let z : _≡_ {A = ℕ} 1 0 = ap tag e in absurd (omega arith)
+verdict-same false false e = refl
+
+-- ---- the check
+
+-- no refusal, and the test has this answer
+abbrev Passed : List ℕ → List ℕ → ℕ → Bool → Type 0
+Passed file plan size b = (j : Job) × Admissible file plan size j × (faithful j plan ≡ b)
+
+module _ (file plan : List ℕ) (size : ℕ) (b : Bool) where
+  -- the node may have its byte
+  abbrev good : Job → ℕ → Bool
+  good j n = goodMark (nodeAt j n .kind) (getD plan n 0)
+
+  -- from a verdict on a job
+  passed-job
+      : length file ≤ maxFile → workSize ≤ size → (j : Job) → readJob file ≡ accepted j → judged j plan ≡ verdict b → Passed file plan size b
+  passed-job short room j spells h =
+      ⊎-elim
+      (λ (l : eqb (length plan) (length (j .nodes)) ≡ true).
+      ⊎-elim
+      (λ (g : allBelow (length (j .nodes)) (good j) ≡ true).
+      let bytes : length plan ≡ length (j .nodes) = eqb-true (length plan) (length (j .nodes)) l in (
+        j,
+        record {
+          short = short;
+          room = room;
+          spells = spells;
+          bytes = bytes;
+          marks = λ n i. good-mark (nodeAt j n .kind) (getD plan n 0) (all-at (length (j .nodes)) (good j) g n i);
+        },
+        verdict-same (faithful j plan) b (sym (judged-verdict j plan (faithful j plan) bytes g refl) ∙ h),
+      ))
+      (λ (g : allBelow (length (j .nodes)) (good j) ≡ false).
+      absurd (refused-not 12 b (sym (judged-12 j plan (eqb-true (length plan) (length (j .nodes)) l) g) ∙ h)))
+      (passes-or-fails (allBelow (length (j .nodes)) (good j))))
+      (λ (l : eqb (length plan) (length (j .nodes)) ≡ false).
+      absurd (refused-not 11 b (sym (judged-11 j plan (eqb-false (length plan) (length (j .nodes)) l)) ∙ h)))
+      (passes-or-fails (eqb (length plan) (length (j .nodes))))
+
+  -- from a verdict on a file
+  passed-file : length file ≤ maxFile → workSize ≤ size → answered (readJob file) plan ≡ verdict b → Passed file plan size b
+  passed-file short room h = go (readJob file) refl
+    where
+      go : (a : Answer) → readJob file ≡ a → Passed file plan size b
+      go (accepted j) e = passed-job short room j e (sym (ap (λ (a : Answer). answered a plan) e) ∙ h)
+      go (turned k) e = absurd (refused-not k b (sym (ap (λ (a : Answer). answered a plan) e) ∙ h))
+
+  -- from a verdict
+  passed : checked file plan size ≡ verdict b → Passed file plan size b
+  passed h =
+      ⊎-elim
+      (λ (l : ltb maxFile (length file) ≡ true). absurd (refused-not 1 b (checked-1 file plan size (ltb-true maxFile (length file) l) ∙ h)))
+      (λ (l : ltb maxFile (length file) ≡ false).
+      let short = ltb-false maxFile (length file) l in
+      ⊎-elim
+      (λ (g : ltb size workSize ≡ true). absurd (refused-not 2 b (checked-2 file plan size short (ltb-true size workSize g) ∙ h)))
+      (λ (g : ltb size workSize ≡ false).
+      let room = ltb-false size workSize g in passed-file short room (sym (checked-read file plan size short room) ∙ h))
+      (passes-or-fails (ltb size workSize)))
+      (passes-or-fails (ltb maxFile (length file)))
+
+  -- and back
+  passed-verdict : Passed file plan size b → checked file plan size ≡ verdict b
+  passed-verdict p =
+      let j = p .0 in
+      let a = p .1 in
+      checked-read file plan size (a .short) (a .room)
+      ∙ ap (λ (x : Answer). answered x plan) (a .spells)
+      ∙ judged-verdict j plan b (a .bytes) (all-of (length (j .nodes)) (good j) (λ n i. mark-good (a .marks n i))) (p .2)
+
+-- a job that a file spells is well-formed
+formed : {file plan : List ℕ} {size : ℕ} {j : Job} → Admissible file plan size j → WellFormedJob j
+formed {file} {plan} {size} {j} a = read-written file j (a .spells) .1 .well-formed
+
+-- faithful is said of faithful plans
+pub verdict-faithful : SaysFaithful
+verdict-faithful file plan size = (
+  λ h. let p = passed file plan size true h in (p .0, p .1, faithful-says (formed (p .1)) plan .0 (p .2)),
+  λ r. passed-verdict file plan size true (r .0, r .1, faithful-says (formed (r .1)) plan .1 (r .2)),
+)
+
+-- different is said of plans for which a walk shows a difference
+pub verdict-different : SaysDifferent
+verdict-different file plan size = (
+  λ h. let p = passed file plan size false h in (p .0, p .1, different-says (formed (p .1)) plan .0 (p .2)),
+  λ r. passed-verdict file plan size false (r .0, r .1, different-says (formed (r .1)) plan .1 (r .2)),
+)

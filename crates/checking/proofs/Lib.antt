@@ -1,0 +1,7 @@
+-- The laws that the proofs of the functions cite.
+-- Assumes nothing.
+pub mod EdgeIndexLaws
+pub mod JobHeldLaws
+pub mod PlanLaws
+pub mod CheckLaws
+pub mod CheckingSays

@@ -1,0 +1,52 @@
+-- Laws of plans that are handed over and stored.
+-- Assumes nothing.
+use mathlib.Core.Path.{_≡_, refl, sym, _∙_, subst}
+use mathlib.Core.Logic.{⊎-elim}
+use mathlib.Core.Bool.{true, false, true≢false}
+use mathlib.Core.List.{List}
+use Prim.Native.Nat.{ℕ, _+_, _≤_, _<_}
+use native.Mathlib.Nat.{eq-or-lt-of-le}
+use native.Mathlib.Omega.{arith}
+use lib.Dec.{eqb, leb}
+use lib.ListN.{length, getD, set}
+use lib.Seq.{getD-set-same, getD-set-other}
+use Rattle.job.specs.Job.{Kind, plain, event, call}
+use Rattle.reader.proofs.KeptLaws.{kept-none, kept-both, kept-set}
+use Rattle.tables.specs.Rows.{isEvent}
+use Rattle.tables.specs.Tables.{planPart}
+use Rattle.checking.specs.Checking.{goodMark, PlanStored}
+
+-- the byte of a shadow is at most 1
+pub mark-shadow : (k : Kind) (b : ℕ) → isEvent k ≡ true → leb b 1 ≡ goodMark k b
+mark-shadow plain b e = absurd (true≢false (sym e))
+mark-shadow (event a) b e = refl
+mark-shadow (call set) b e = absurd (true≢false (sym e))
+
+-- that of any other node is 0
+pub mark-other : (k : Kind) (b : ℕ) → isEvent k ≡ false → eqb b 0 ≡ goodMark k b
+mark-other plain b e = refl
+mark-other (event a) b e = absurd (true≢false e)
+mark-other (call set) b e = refl
+
+-- no byte is stored
+pub plan-none : (plan l : List ℕ) → PlanStored plan l l 0
+plan-none plan l = record { kept = kept-none l 44034 44546; here = λ n h. absurd (omega arith) }
+
+-- one byte more is stored
+pub plan-more
+    : (plan l m : List ℕ) (n : ℕ) → n < 512 → 65536 ≤ length m → PlanStored plan l m n
+    → PlanStored plan l (set m (44034 + n) (getD plan n 0)) (n + 1)
+plan-more plan l m n h long p = record {
+  kept = kept-both l m (set m (44034 + n) (getD plan n 0)) 44034 44546 (44034 + n) (44034 + n + 1) (p .kept)
+      (kept-set m (44034 + n) (getD plan n 0)) (omega arith) (omega arith);
+  here = here;
+}
+  where
+    here : (k : ℕ) → k < n + 1 → getD (set m (44034 + n) (getD plan n 0)) (planPart + k) 0 ≡ getD plan k 0
+    here k b =
+        ⊎-elim
+        (λ (e : k ≡ n).
+        subst (λ (x : ℕ). getD (set m (44034 + n) (getD plan n 0)) (planPart + x) 0 ≡ getD plan x 0) (sym e)
+        (getD-set-same m (44034 + n) (getD plan n 0) 0 (omega arith)))
+        (λ (l : k < n). getD-set-other m (44034 + n) (planPart + k) (getD plan n 0) 0 (λ e. absurd (omega arith)) ∙ p .here k l)
+        (eq-or-lt-of-le (omega arith))

@@ -1,0 +1,78 @@
+-- The plan check (document 01, "What is found at a point" and "Turned back, by number").
+-- Assumes nothing.
+use mathlib.Core.Path.{_≡_}
+use mathlib.Core.Bool.{Bool, cond}
+use mathlib.Core.List.{List}
+use Prim.Native.Nat.{ℕ, zero, suc, _+_, _^_, _<_}
+use lib.Dec.{eqb, leb, ltb}
+use lib.ListN.{length, getD}
+use Rattle.laws.specs.Bounded.{allBelow}
+use Rattle.job.specs.Job.{Kind, plain, event, call, Job, nodeAt}
+use Rattle.job.specs.Search.{faithful}
+use Rattle.jobfile.specs.File.{Answer, accepted, turned, maxFile, readJob}
+use Rattle.reader.specs.Layout.{workSize, cleared, SameOutside}
+use Rattle.checking.specs.declared.check.Verdict.{Verdict}
+use Rattle.checking.specs.declared.check.Verdict.the-variants.{Faithful, Different, Refused}
+use Rattle.tables.specs.Tables.{planPart}
+use Rattle.tables.specs.Held.{JobHeld}
+
+-- a plan byte that a node may have: 0, and 1 at an event node
+abbrev pub goodMark : Kind → ℕ → Bool
+goodMark plain b = eqb b 0
+goodMark (event a) b = leb b 1
+goodMark (call set) b = eqb b 0
+
+-- a byte for each node
+abbrev pub hasLength : Job → List ℕ → Bool
+hasLength j plan = eqb (length plan) (length (j .nodes))
+
+-- each of them one that its node may have
+abbrev pub goodMarks : Job → List ℕ → Bool
+goodMarks j plan = allBelow (length (j .nodes)) (λ n. goodMark (nodeAt j n .kind) (getD plan n 0))
+
+-- the answer for a job that was accepted: 11, 12, or the plan's verdict
+unfoldable pub judged : Job → List ℕ → Verdict
+judged j plan =
+    cond (hasLength j plan) (cond (goodMarks j plan) (cond (faithful j plan) Faithful Different) (Refused 12)) (Refused 11)
+
+-- the answer for a file that was read
+abbrev pub answered : Answer → List ℕ → Verdict
+answered (turned k) plan = Refused k
+answered (accepted j) plan = judged j plan
+
+-- the answer of the plan check, "tests go by rising number"; size is the length of the work buffer
+unfoldable pub checked : List ℕ → List ℕ → ℕ → Verdict
+unfolding judged
+checked file plan size =
+    cond (ltb maxFile (length file)) (Refused 1) (cond (ltb size workSize) (Refused 2) (answered (readJob file) plan))
+
+-- the work buffer after a refusal: "after 1 or 2 unchanged; after any other answer its first 65,536 bytes are zero"
+abbrev pub refusedLeft : ℕ → List ℕ → List ℕ
+refusedLeft zero work = cleared work
+refusedLeft (suc zero) work = work
+refusedLeft (suc (suc zero)) work = work
+refusedLeft (suc (suc (suc k))) work = cleared work
+
+-- the work buffer after an answer
+abbrev pub workLeft : Verdict → List ℕ → List ℕ
+workLeft Faithful work = cleared work
+workLeft Different work = cleared work
+workLeft (Refused k) work = refusedLeft k work
+
+-- "faithful is 2^48, different is 2^48 plus 1, a refusal is its number"
+abbrev pub numberOf : Verdict → ℕ
+numberOf Faithful = 2 ^ 48
+numberOf Different = 2 ^ 48 + 1
+numberOf (Refused k) = k
+
+-- ---- what the parts of the check leave
+
+-- the plan was stored in its part of the buffer
+pub record PlanStored (plan l m : List ℕ) (nodes : ℕ) : Type 0 where
+  pub kept : SameOutside l m 44034 44546
+  pub here : (n : ℕ) → n < nodes → getD m (planPart + n) 0 ≡ getD plan n 0
+
+-- the answer for every job that the buffer holds; the bytes past the first 65,536 are as they were
+pub record Judged (table : List (List ℕ)) (finals states nodes : ℕ) (plan l m : List ℕ) (answer : Verdict) : Type 0 where
+  pub kept : SameOutside l m 0 65536
+  pub exact : (j : Job) → JobHeld j l table finals states nodes → answer ≡ judged j plan

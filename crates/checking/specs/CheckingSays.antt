@@ -1,0 +1,38 @@
+-- What the verdicts of the plan check say (document 01, "Nodes and walks" and "Turned back, by number"), of walks and not of searches.
+-- Assumes nothing.
+use mathlib.Core.Path.{_≡_}
+use mathlib.Core.Logic.{_↔_}
+use mathlib.Core.List.{List}
+use Prim.Native.Nat.{ℕ, _≤_, _<_}
+use lib.ListN.{length, getD}
+use Rattle.job.specs.Job.{Kind, event, Job, nodeAt}
+use Rattle.job.specs.Plan.{enables, Faithful as FaithfulPlan, Different as DifferentPlan}
+use Rattle.jobfile.specs.File.{accepted, maxFile, readJob}
+use Rattle.reader.specs.Layout.{workSize}
+use Rattle.checking.specs.declared.check.Verdict.the-variants.{Faithful, Different}
+use Rattle.checking.specs.Checking.{checked}
+
+-- the bytes that a plan may have: 0 at any node, and 1 at an event node
+pub data MarkFor : Kind → ℕ → Type 0 where
+  unwatched : {k : Kind} → MarkFor k 0
+  watched : {a : ℕ} → MarkFor (event a) 1
+
+-- nothing is turned back: file and work buffer have their sizes, the file spells the job, and the plan has a byte for each of its nodes
+pub record Admissible (file plan : List ℕ) (size : ℕ) (j : Job) : Type 0 where
+  pub short : length file ≤ maxFile
+  pub room : workSize ≤ size
+  pub spells : readJob file ≡ accepted j
+  pub bytes : length plan ≡ length (j .nodes)
+  pub marks : (n : ℕ) → n < length (j .nodes) → MarkFor (nodeAt j n .kind) (getD plan n 0)
+
+-- the statement: the verdict is faithful if and only if the plan is, for the file's job
+abbrev pub SaysFaithful : Type 0
+SaysFaithful =
+    (file plan : List ℕ) (size : ℕ)
+    → (checked file plan size ≡ Faithful) ↔ ((j : Job) × Admissible file plan size j × FaithfulPlan j (enables plan))
+
+-- the statement: it is different if and only if a walk of the file's job shows a difference
+abbrev pub SaysDifferent : Type 0
+SaysDifferent =
+    (file plan : List ℕ) (size : ℕ)
+    → (checked file plan size ≡ Different) ↔ ((j : Job) × Admissible file plan size j × DifferentPlan j (enables plan))

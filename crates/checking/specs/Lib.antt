@@ -1,0 +1,4 @@
+-- The plan check.
+-- Assumes nothing.
+pub mod Checking
+pub mod CheckingSays

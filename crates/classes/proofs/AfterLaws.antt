@@ -1,0 +1,130 @@
+-- Laws of the after words in the class rows, in the shape of the code.
+-- Assumes nothing.
+use mathlib.Core.Path.{_≡_, refl, sym, ap, subst, _∙_}
+use mathlib.Core.Logic.{inl, by-cases, _≢_}
+use mathlib.Core.Bool.{Bool, true, false, cond, true≢false}
+use mathlib.Core.List.{List}
+use Prim.Native.Nat.{ℕ, suc, _+_, _*_, _≤_, _<_}
+use native.Mathlib.Decide.{ℕ-discrete}
+use native.Mathlib.Omega.{arith}
+use Rattle.laws.specs.Bits.{has}
+use Rattle.laws.specs.Bytes.{numberAt}
+use Rattle.laws.proofs.Bits.{has-empty}
+use Rattle.automaton.specs.Automaton.{Automaton}
+use Rattle.job.specs.Job.{Node, Job, nodeAt}
+use Rattle.job.specs.Words.{WordApart, apart-here, apart-later}
+use Rattle.reader.specs.Layout.{nodeIn, SameOutside}
+use Rattle.reader.proofs.KeptLaws.{kept-none, kept-both, node-kept}
+use Rattle.tables.specs.Tables.{classPart, classRowIn, HeldApart, Zeroed}
+use Rattle.tables.specs.Held.{JobHeld}
+use Rattle.classes.specs.Backwards.{RuleHeld, WordsClosed, AfterWords}
+use Rattle.classes.proofs.GrownLaws.{class-kept}
+
+-- the symbols of the word after a node; none where it is no exit
+abbrev pub afterSet : Node → ℕ
+afterSet n = cond (n .exit) (n .after) 0
+
+-- the rows of node n hold what words over its after set tell apart
+pub record WordsHeld (table : List (List ℕ)) (finals states : ℕ) (m : List ℕ) (n set : ℕ) : Type 0 where
+  pub sound : (a : Automaton) → RuleHeld a table finals states → (p q : ℕ) → p < 16 → HeldApart m n p q → WordApart a set p q
+  pub whole
+      : (a : Automaton) → RuleHeld a table finals states → ((s : ℕ) → has set s ≡ true → s < a .symbols)
+      → (p q : ℕ) → p < states → q < states → WordApart a set p q → HeldApart m n p q
+
+-- the nodes below n are done, and the rows of the others are empty
+pub record AfterSoFar (table : List (List ℕ)) (finals states : ℕ) (l m : List ℕ) (n : ℕ) : Type 0 where
+  pub kept : SameOutside l m 25602 41986
+  pub done : (k : ℕ) → k < n → WordsHeld table finals states m k (afterSet (nodeIn l k))
+  pub empty : (k p : ℕ) → n ≤ k → k < 512 → p < 16 → classRowIn m k p ≡ 0
+
+-- rows of zeros are empty
+pub zeroed-empty : (l m : List ℕ) → Zeroed l m 25602 41986 → (k p : ℕ) → k < 512 → p < 16 → classRowIn m k p ≡ 0
+unfolding classRowIn numberAt
+zeroed-empty l m z k p hk hp =
+    omega (arith, z .zeros (25602 + (k * 16 + p) * 2) (omega arith) (omega arith), z .zeros (suc (25602 + (k * 16 + p) * 2)) (omega arith) (omega arith))
+
+-- no node is done
+pub after-start
+    : (table : List (List ℕ)) (finals states : ℕ) (l m : List ℕ) → Zeroed l m 25602 41986 → AfterSoFar table finals states m m 0
+after-start table finals states l m z = record {
+  kept = kept-none m 25602 41986;
+  done = λ k h. absurd (omega arith);
+  empty = λ k p h. zeroed-empty l m z k p;
+}
+
+-- a node before the class rows is as it was
+pub node-before : (l m : List ℕ) → SameOutside l m 25602 41986 → (n : ℕ) → n < 512 → nodeIn m n ≡ nodeIn l n
+node-before l m s n h = node-kept l m 25602 41986 s n (inl (omega arith))
+
+-- one node more
+pub after-more
+    : (table : List (List ℕ)) (finals states : ℕ) (l m k : List ℕ) (n set : ℕ) → n < 512 → AfterSoFar table finals states l m n
+    → set ≡ afterSet (nodeIn m n) → WordsClosed table finals states m k n set → AfterSoFar table finals states l k (n + 1)
+after-more table finals states l m k n set hn s e g = record {
+  kept = kept-both l m k 25602 41986 (classPart + n * 32) (classPart + n * 32 + 32) (s .kept) (g .kept) (omega arith) (omega arith);
+  done = λ x h. done x h;
+  empty = λ x p h a b. class-kept m k n x p (g .kept) b (λ q. absurd (omega arith)) ∙ s .empty x p (omega arith) a b;
+}
+  where
+    set-is : set ≡ afterSet (nodeIn l n)
+    set-is = e ∙ ap (λ (y : Node). afterSet y) (node-before l m (s .kept) n hn)
+
+    done : (x : ℕ) → x < n + 1 → WordsHeld table finals states k x (afterSet (nodeIn l x))
+    done x h =
+        by-cases (ℕ-discrete x n)
+        (λ (q : x ≡ n). rw (q, ← set-is) (record {
+          sound = λ a r p y b i. g .sound a r (λ z c. s .empty n z (omega arith) hn c) p y b i;
+          whole = g .whole;
+        }))
+        (λ (ne : x ≢ n).
+        let old = s .done x (omega arith) in
+        record {
+          sound = λ a r p y b i. old .sound a r p y b (subst (λ (v : ℕ). has v y ≡ true) (class-kept m k n x p (g .kept) b ne) i);
+          whole = λ a r u p y b c i.
+              let small : p < 16 = omega (arith, r .formed .few-states, r .states-are) in
+              subst (λ (v : ℕ). has v y ≡ true) (sym (class-kept m k n x p (g .kept) small ne)) (old .whole a r u p y b c i);
+        })
+
+-- no word over the empty set tells states apart
+pub no-words : (a : Automaton) (p q : ℕ) → WordApart a 0 p q → ⊥
+no-words a p q (apart-here s h d) = true≢false (sym h ∙ has-empty s)
+no-words a p q (apart-later s h w) = true≢false (sym h ∙ has-empty s)
+
+-- what the words of a node tell apart, those after an exit do
+pub exit-words : (a : Automaton) (p q : ℕ) (n : Node) → WordApart a (afterSet n) p q → (n .exit ≡ true) × WordApart a (n .after) p q
+exit-words a p q n w = go (n .exit) refl
+  where
+    go : (b : Bool) → n .exit ≡ b → (n .exit ≡ true) × WordApart a (n .after) p q
+    go true e = (e, subst (λ (v : Bool). WordApart a (cond v (n .after) 0) p q) e w)
+    go false e = absurd (no-words a p q (subst (λ (v : Bool). WordApart a (cond v (n .after) 0) p q) e w))
+
+-- the rule of a job that is held
+pub job-rule
+    : {j : Job} {work : List ℕ} {table : List (List ℕ)} {finals states nodes : ℕ} → JobHeld j work table finals states nodes
+    → RuleHeld (j .rule) table finals states
+job-rule h = record { formed = h .formed .rule; states-are = h .states-are; finals-are = h .finals-are; cells = h .cells }
+
+-- all nodes are done
+pub after-end
+    : (table : List (List ℕ)) (finals states nodes : ℕ) (o l m : List ℕ) (n : ℕ) → nodes ≤ 512 → nodes ≤ n → Zeroed o l 25602 41986
+    → AfterSoFar table finals states l m n → AfterWords table finals states nodes o m
+after-end table finals states nodes o l m n few all z s = record {
+  kept = kept-both o l m 25602 41986 25602 41986 start (s .kept) (omega arith) (omega arith);
+  exact = λ j h. record {
+    sound = λ k p q a b i.
+        exit-words (j .rule) p q (nodeAt j k)
+        (subst (λ (v : ℕ). WordApart (j .rule) v p q) (set-is j h k a) (s .done k (omega arith) .sound (j .rule) (job-rule h) p q b i));
+    whole = λ k p q a b c x w.
+        let is-after : afterSet (nodeIn l k) ≡ nodeAt j k .after = set-is j h k a ∙ ap (λ (v : Bool). cond v (nodeAt j k .after) 0) x in
+        s .done k (omega arith) .whole (j .rule) (job-rule h)
+        (λ y i. h .formed .afters k y (subst (λ (v : ℕ). has v y ≡ true) is-after i)) p q
+        (omega (arith, h .states-are)) (omega (arith, h .states-are))
+        (subst (λ (v : ℕ). WordApart (j .rule) v p q) (sym is-after) w);
+  };
+}
+  where
+    start : SameOutside o l 25602 41986
+    start = record { long = z .long; outside = z .outside }
+
+    set-is : (j : Job) → JobHeld j o table finals states nodes → (k : ℕ) → k < nodes → afterSet (nodeIn l k) ≡ afterSet (nodeAt j k)
+    set-is j h k a = ap (λ (y : Node). afterSet y) (node-before o l start k (omega arith) ∙ h .node k a)

@@ -1,0 +1,350 @@
+-- Laws of the rows that words over a set tell apart, in the shape of the code.
+-- Assumes nothing.
+use mathlib.Core.Path.{_≡_, refl, sym, ap, subst, _∙_}
+use mathlib.Core.Logic.{_⊎_, inl, inr, ⊎-elim, _↔_, by-cases, _≢_}
+use mathlib.Core.Bool.{Bool, true, false, not, _&&_, _||_, true≢false, false≢true, and-eq-true-iff}
+use mathlib.Core.List.{List}
+use Prim.Native.Nat.{ℕ, _+_, _-_, _*_, _≤_, _<_}
+use native.Mathlib.Decide.{ℕ-discrete, decLt}
+use native.Mathlib.Omega.{arith}
+use lib.Dec.{ltb}
+use lib.Bits.{bitAnd, bitOr}
+use lib.Count.{trailingZeros}
+use borrow.Author.Tests.{lt-ltb, ltb-true}
+use Rattle.laws.specs.Bounded.{anyBelow}
+use Rattle.laws.specs.Bits.{has}
+use Rattle.laws.proofs.Tests.{test-ext, or-passes, or-left, or-right}
+use Rattle.laws.proofs.Bounded.{any-at, any-of}
+use Rattle.laws.proofs.Bits.{same-set, has-or, has-empty}
+use Rattle.laws.proofs.Walk.{Rest, rest-start, rest-from, rest-low, rest-lt, rest-none, rest-next, rest-done}
+use Rattle.automaton.specs.Automaton.{Automaton, cell, next}
+use Rattle.job.specs.Words.{WordApart, apart-here, apart-later}
+use Rattle.job.specs.Search.{unlike}
+use Rattle.job.specs.Found.{setOf}
+use Rattle.job.proofs.FoundLaws.{has-set-of}
+use Rattle.reader.specs.Layout.{SameOutside}
+use Rattle.reader.proofs.KeptLaws.{kept-none, kept-both}
+use Rattle.tables.specs.Rows.{CellsBelow, unlikeStates, preimageOf}
+use Rattle.tables.specs.Tables.{classPart, classRowIn, HeldApart, ApartGrown}
+use Rattle.classes.specs.Backwards.{RuleHeld, apartBy, wordRow, WordsGrown, WordsClosed}
+use Rattle.tables.proofs.RowLaws.{has-unlike, has-preimage}
+use Rattle.classes.proofs.GrownLaws.{AllHeld, RowsGrown, rows-more}
+
+-- ---- one row: a walk over the symbols of the set
+
+module _ (states set : ℕ) (by : ℕ → ℕ → Bool) where
+  -- the test of state q with the symbols of the set below t
+  abbrev pub bySome : ℕ → ℕ → Bool
+  bySome t q = anyBelow t (λ a. has set a && by a q)
+
+  -- the states below S told apart by those
+  abbrev pub upTo : ℕ → ℕ
+  upTo t = setOf states (bySome t)
+
+  -- out is right for the symbols that are passed
+  pub record WalkedRow (out rest : ℕ) : Type 0 where
+    pub passed : ℕ
+    pub in-width : passed ≤ 16
+    pub left : Rest 16 set rest passed
+    pub exact : out ≡ upTo passed
+
+  -- one of them tells q apart
+  some-at : (t q : ℕ) → bySome t q ≡ true → (a : ℕ) × (a < t) × (has set a ≡ true) × (by a q ≡ true)
+  some-at t q h =
+      let r = any-at t (λ a. has set a && by a q) h in
+      let both = and-eq-true-iff (has set (r .0)) (by (r .0) q) .0 (r .2) in
+      (r .0, r .1, both .0, both .1)
+
+  -- and back
+  some-of : (t q a : ℕ) → a < t → has set a ≡ true → by a q ≡ true → bySome t q ≡ true
+  some-of t q a l m h = any-of t (λ a. has set a && by a q) a l (and-eq-true-iff (has set a) (by a q) .1 (m, h))
+
+  -- the members
+  pub has-up-to : (t q : ℕ) → (has (upTo t) q ≡ true) ↔ ((q < states) × (a : ℕ) × (a < t) × (has set a ≡ true) × (by a q ≡ true))
+  has-up-to t q = (
+    λ h. let r = has-set-of states (bySome t) q .0 h in let k = some-at t q (r .1) in (r .0, k .0, k .1, k .2, k .3),
+    λ r. has-set-of states (bySome t) q .1 (r .0, some-of t q (r .1) (r .2) (r .3) (r .4)),
+  )
+
+  -- no symbol is passed
+  pub walked-start : set < 65536 → WalkedRow 0 set
+  walked-start h = record {
+    passed = 0;
+    in-width = omega arith;
+    left = rest-start 16 set h;
+    exact = same-set 0 (upTo 0)
+        (λ q.
+        test-ext (has 0 q) (has (upTo 0) q)
+        (λ e. absurd (true≢false (sym e ∙ has-empty q)))
+        (λ e. let r = has-up-to 0 q .0 e in absurd (omega (arith, r .2))));
+  }
+
+  -- one symbol more
+  pub walked-next
+      : (out rest s : ℕ) → WalkedRow out rest → 0 < rest
+      → ((q : ℕ) → has s q ≡ (ltb q states && by (trailingZeros 16 rest) q)) → WalkedRow (bitOr out s) (bitAnd rest (rest - 1))
+  walked-next out rest s w p members = record {
+    passed = trailingZeros 16 rest + 1;
+    in-width = omega (arith, rest-lt (w .left) p);
+    left = rest-next (w .left) p;
+    exact = same-set (bitOr out s) (upTo (trailingZeros 16 rest + 1))
+        (λ q. has-or out s q ∙ test-ext (has out q || has s q) (has (upTo (trailingZeros 16 rest + 1)) q) (there q) (back q));
+  }
+    where
+      there : (q : ℕ) → (has out q || has s q) ≡ true → has (upTo (trailingZeros 16 rest + 1)) q ≡ true
+      there q h =
+          ⊎-elim
+          (λ (e : has out q ≡ true).
+          let r = has-up-to (w .passed) q .0 (ap (λ (x : ℕ). has x q) (sym (w .exact)) ∙ e) in
+          has-up-to (trailingZeros 16 rest + 1) q .1 (r .0, r .1, omega (arith, r .2, rest-from (w .left) p), r .3, r .4))
+          (λ (e : has s q ≡ true).
+          let both = and-eq-true-iff (ltb q states) (by (trailingZeros 16 rest) q) .0 (sym (members q) ∙ e) in
+          has-up-to (trailingZeros 16 rest + 1) q .1
+          (ltb-true q states (both .0), trailingZeros 16 rest, omega arith, rest-low (w .left) p, both .1))
+          (or-passes (has out q) (has s q) h)
+
+      back : (q : ℕ) → has (upTo (trailingZeros 16 rest + 1)) q ≡ true → (has out q || has s q) ≡ true
+      back q h =
+          let r = has-up-to (trailingZeros 16 rest + 1) q .0 h in
+          by-cases (ℕ-discrete (r .1) (trailingZeros 16 rest))
+          (λ (e : r .1 ≡ trailingZeros 16 rest).
+          or-right (has out q) (has s q)
+          (members q
+          ∙ and-eq-true-iff (ltb q states) (by (trailingZeros 16 rest) q) .1
+          (lt-ltb q states (r .0), ap (λ (x : ℕ). by x q) (sym e) ∙ r .4)))
+          (λ (ne : r .1 ≢ trailingZeros 16 rest).
+          by-cases (decLt (r .1) (w .passed))
+          (λ (l : r .1 < w .passed).
+          or-left (has out q) (has s q)
+          (ap (λ (x : ℕ). has x q) (w .exact) ∙ has-up-to (w .passed) q .1 (r .0, r .1, l, r .3, r .4)))
+          (λ g.
+          absurd (true≢false (sym (r .3) ∙ rest-none (w .left) (r .1) (omega arith) (omega (arith, r .2))))))
+
+  -- all symbols are passed
+  pub walked-end : (out rest : ℕ) → WalkedRow out rest → rest ≡ 0 → out ≡ upTo 16
+  walked-end out rest w e =
+      w .exact
+      ∙ same-set (upTo (w .passed)) (upTo 16)
+      (λ q.
+      test-ext (has (upTo (w .passed)) q) (has (upTo 16) q)
+      (λ h.
+      let r = has-up-to (w .passed) q .0 h in
+      has-up-to 16 q .1 (r .0, r .1, omega (arith, r .2, w .in-width), r .3, r .4))
+      (λ h.
+      let r = has-up-to 16 q .0 h in
+      by-cases (decLt (r .1) (w .passed))
+      (λ (l : r .1 < w .passed). has-up-to (w .passed) q .1 (r .0, r .1, l, r .3, r .4))
+      (λ g. absurd (true≢false (sym (r .3) ∙ rest-done (w .left) e (r .1) (omega arith))))))
+
+-- a turn of the walk, as the code takes it
+pub word-turn
+    : (table : List (List ℕ)) (finals states : ℕ) (rows : ℕ → ℕ) (set p out rest a state row unlike pre rest′ : ℕ)
+    → WalkedRow states set (λ x. apartBy table finals rows x p) out rest → 0 < rest → a ≡ trailingZeros 16 rest → state ≡ cell table p a
+    → row ≡ rows state → unlike ≡ unlikeStates finals state → pre ≡ preimageOf table states a (bitOr row unlike)
+    → rest′ ≡ bitAnd rest (rest - 1) → WalkedRow states set (λ x. apartBy table finals rows x p) (bitOr out pre) rest′
+word-turn table finals states rows set p out rest a state row unlike pre rest′ w l low to row-is unlike-is pre-is rest-is =
+    subst (λ (x : ℕ). WalkedRow states set (λ x. apartBy table finals rows x p) (bitOr out pre) x) (sym rest-is)
+    (walked-next states set (λ x. apartBy table finals rows x p) out rest pre w l members)
+  where
+    members : (q : ℕ) → has pre q ≡ (ltb q states && apartBy table finals rows (trailingZeros 16 rest) p q)
+    members q = rw (← low, ← to, ← row-is, ← unlike-is, pre-is) (has-preimage table states a (bitOr row unlike) q)
+
+-- the row at the end
+pub word-done
+    : (table : List (List ℕ)) (finals states : ℕ) (rows : ℕ → ℕ) (set p out rest : ℕ)
+    → WalkedRow states set (λ x. apartBy table finals rows x p) out rest → rest ≡ 0 → out ≡ wordRow table finals states rows set p
+unfolding wordRow
+word-done table finals states rows set p out rest w e = walked-end states set (λ x. apartBy table finals rows x p) out rest w e
+
+-- ---- one round of words
+
+-- the members of a row of words
+pub has-word-row
+    : (table : List (List ℕ)) (finals states : ℕ) (rows : ℕ → ℕ) (set p q : ℕ)
+    → (has (wordRow table finals states rows set p) q ≡ true)
+    ↔ ((q < states) × (a : ℕ) × (a < 16) × (has set a ≡ true) × (apartBy table finals rows a p q ≡ true))
+unfolding wordRow
+has-word-row table finals states rows set p q = has-up-to states set (λ a. apartBy table finals rows a p) 16 q
+
+-- `unlike` says that two tests are contrary
+pub unlike-says : (a b : Bool) → (unlike a b ≡ true) ↔ (a ≡ not b)
+unlike-says true true = (λ e. absurd (false≢true e), λ e. absurd (true≢false e))
+unlike-says true false = (λ e. refl, λ e. refl)
+unlike-says false true = (λ e. refl, λ e. refl)
+unlike-says false false = (λ e. absurd (false≢true e), λ e. absurd (false≢true e))
+
+-- the pairs that one turn of the words adds at node n
+abbrev pub WordPairs : List (List ℕ) → ℕ → ℕ → ℕ → ℕ → List ℕ → ℕ → ℕ → Type 0
+WordPairs table finals states n set w p q = has (wordRow table finals states (classRowIn w n) set p) q ≡ true
+
+-- at node n, some word over the set tells the pair apart
+abbrev pub WordsAt : ℕ → ℕ → Automaton → ℕ → ℕ → ℕ → Type 0
+WordsAt n set a k p q = k ≡ n → WordApart a set p q
+
+-- a symbol tells two states apart by what follows it, or at once
+pub apart-by-cases
+    : (table : List (List ℕ)) (finals : ℕ) (rows : ℕ → ℕ) (s p q : ℕ) → cell table q s < 16 → apartBy table finals rows s p q ≡ true
+    → (has (rows (cell table p s)) (cell table q s) ≡ true) ⊎ (has finals (cell table p s) ≡ not (has finals (cell table q s)))
+apart-by-cases table finals rows s p q small h =
+    ⊎-elim
+    (λ (e : has (rows (cell table p s)) (cell table q s) ≡ true). inl e)
+    (λ (e : has (unlikeStates finals (cell table p s)) (cell table q s) ≡ true).
+    inr
+    (unlike-says (has finals (cell table p s)) (has finals (cell table q s)) .0
+    (sym (has-unlike finals (cell table p s) (cell table q s) small) ∙ e)))
+    (or-passes (has (rows (cell table p s)) (cell table q s)) (has (unlikeStates finals (cell table p s)) (cell table q s))
+    (sym (has-or (rows (cell table p s)) (unlikeStates finals (cell table p s)) (cell table q s)) ∙ h))
+
+module _ {a : Automaton} {table : List (List ℕ)} {finals states : ℕ} (r : RuleHeld a table finals states) (below : CellsBelow table) where
+  -- what a symbol of the set tells apart
+  pub apart-by-words
+      : (set : ℕ) (rows : ℕ → ℕ) (s p q : ℕ) → s < 16 → p < 16 → q < 16 → has set s ≡ true
+      → ((k l : ℕ) → k < 16 → has (rows k) l ≡ true → WordApart a set k l) → apartBy table finals rows s p q ≡ true → WordApart a set p q
+  apart-by-words set rows s p q hs hp hq m held h =
+      ⊎-elim
+      (λ (e : has (rows (cell table p s)) (cell table q s) ≡ true).
+      let w : WordApart a set (cell table p s) (cell table q s) = held (cell table p s) (cell table q s) (below p s hp hs) e in
+      apart-later s m
+      (subst (λ (x : ℕ). WordApart a set x (next a q s)) (r .cells p s hp hs)
+      (subst (λ (x : ℕ). WordApart a set (cell table p s) x) (r .cells q s hq hs) w)))
+      (λ (d : has finals (cell table p s) ≡ not (has finals (cell table q s))).
+      apart-here s m (rw (r .finals-are, r .cells p s hp hs, r .cells q s hq hs) at d))
+      (apart-by-cases table finals rows s p q (below q s hq hs) h)
+
+  -- a row of words is right where the rows that it reads are
+  pub word-row-sound
+      : (n set : ℕ) (w : List ℕ) → n < 512 → states ≤ 16 → AllHeld (WordsAt n set a) w → (p q : ℕ) → p < 16
+      → WordPairs table finals states n set w p q → WordsAt n set a n p q
+  word-row-sound n set w hn hs all p q hp h e =
+      let m = has-word-row table finals states (classRowIn w n) set p q .0 h in
+      apart-by-words set (classRowIn w n) (m .1) p q (m .2) hp (omega (arith, m .0)) (m .3) (λ k l b x. all n k l hn b x refl) (m .4)
+
+-- one row more
+pub round-more
+    : (table : List (List ℕ)) (finals states : ℕ) (l m k : List ℕ) (n set grown p row count : ℕ) → n < 512 → p < 16
+    → RowsGrown (WordsAt n set) (WordPairs table finals states n set) l m n grown p
+    → row ≡ wordRow table finals states (classRowIn m n) set p → ApartGrown m k n p row count
+    → RowsGrown (WordsAt n set) (WordPairs table finals states n set) l k n (grown + count) (p + 1)
+round-more table finals states l m k n set grown p row count hn hp s e g =
+    rows-more (WordsAt n set) (WordPairs table finals states n set) l m k n grown p row count hn hp s
+    (λ q. (λ h. ap (λ (x : ℕ). has x q) (sym e) ∙ h, λ h. ap (λ (x : ℕ). has x q) e ∙ h)) g
+
+-- a round that has joined all rows
+pub round-end
+    : (table : List (List ℕ)) (finals states : ℕ) (l m : List ℕ) (n set grown p : ℕ) → n < 512 → states ≤ 16 → CellsBelow table
+    → RowsGrown (WordsAt n set) (WordPairs table finals states n set) l m n grown p → states ≤ p
+    → WordsGrown table finals states l m n set grown
+round-end table finals states l m n set grown p hn hs below g all = record {
+  kept = g .kept;
+  held = λ x y h e. g .held n x y hn h e;
+  sound = λ a r old x y h e.
+      g .sound a (λ w k at-all. word-row-sound r below n set w hn hs at-all) (λ k b c d f v i. old b c f (subst (λ (z : ℕ). HeldApart l z b c) i v))
+      n x y hn h e refl;
+  closed = λ e x y h f.
+      subst (λ (w : List ℕ). HeldApart w n x y) (sym (g .none e))
+      (g .closed e x y (omega arith) (subst (λ (w : List ℕ). WordPairs table finals states n set w x y) (g .none e) f));
+  left = g .left;
+}
+
+-- ---- rounds until no row grows
+
+-- after some rounds
+pub record ClosingWords (table : List (List ℕ)) (finals states : ℕ) (l m : List ℕ) (n set grown : ℕ) : Type 0 where
+  pub kept : SameOutside l m (classPart + n * 32) (classPart + n * 32 + 32)
+  pub sound
+      : (a : Automaton) → RuleHeld a table finals states → ((p : ℕ) → p < 16 → classRowIn l n p ≡ 0)
+      → (p q : ℕ) → p < 16 → HeldApart m n p q → WordApart a set p q
+  pub closed : grown ≡ 0 → (p q : ℕ) → p < states → WordPairs table finals states n set m p q → HeldApart m n p q
+
+-- no word over the empty set tells anything apart
+no-words
+    : (table : List (List ℕ)) (finals states n set : ℕ) (m : List ℕ) (p q : ℕ) → set ≡ 0 → WordPairs table finals states n set m p q → ⊥
+no-words table finals states n set m p q e w =
+    let r = has-word-row table finals states (classRowIn m n) set p q .0 w in
+    true≢false (sym (r .3) ∙ ap (λ (x : ℕ). has x (r .1)) e ∙ has-empty (r .1))
+
+-- before the first: the rows are closed where the set is empty
+pub closing-start : (table : List (List ℕ)) (finals states : ℕ) (l : List ℕ) (n set : ℕ) → ClosingWords table finals states l l n set set
+closing-start table finals states l n set = record {
+  kept = kept-none l (classPart + n * 32) (classPart + n * 32 + 32);
+  sound = λ a r none p q h m. absurd (true≢false (sym m ∙ ap (λ (x : ℕ). has x q) (none p h) ∙ has-empty q));
+  closed = λ e p q h w. absurd (no-words table finals states n set l p q e w);
+}
+
+-- one more
+pub closing-more
+    : (table : List (List ℕ)) (finals states : ℕ) (l m k : List ℕ) (n set grown new : ℕ) → ClosingWords table finals states l m n set grown
+    → WordsGrown table finals states m k n set new → ClosingWords table finals states l k n set new
+closing-more table finals states l m k n set grown new s g = record {
+  kept = kept-both l m k (classPart + n * 32) (classPart + n * 32 + 32) (classPart + n * 32) (classPart + n * 32 + 32) (s .kept) (g .kept)
+      (omega arith) (omega arith);
+  sound = λ a r none p q h m. g .sound a r (s .sound a r none) p q h m;
+  closed = g .closed;
+}
+
+-- a symbol tells two states apart at once
+pub apart-by-unlike
+    : (table : List (List ℕ)) (finals : ℕ) (rows : ℕ → ℕ) (s p q : ℕ) → cell table q s < 16
+    → has finals (cell table p s) ≡ not (has finals (cell table q s)) → apartBy table finals rows s p q ≡ true
+apart-by-unlike table finals rows s p q h d =
+    has-or (rows (cell table p s)) (unlikeStates finals (cell table p s)) (cell table q s)
+    ∙ or-right (has (rows (cell table p s)) (cell table q s)) (has (unlikeStates finals (cell table p s)) (cell table q s))
+    (has-unlike finals (cell table p s) (cell table q s) h
+    ∙ unlike-says (has finals (cell table p s)) (has finals (cell table q s)) .1 d)
+
+-- or by what follows it
+pub apart-by-rows
+    : (table : List (List ℕ)) (finals : ℕ) (rows : ℕ → ℕ) (s p q : ℕ) → has (rows (cell table p s)) (cell table q s) ≡ true
+    → apartBy table finals rows s p q ≡ true
+apart-by-rows table finals rows s p q h =
+    has-or (rows (cell table p s)) (unlikeStates finals (cell table p s)) (cell table q s)
+    ∙ or-left (has (rows (cell table p s)) (cell table q s)) (has (unlikeStates finals (cell table p s)) (cell table q s)) h
+
+-- rows that are closed hold what words tell apart
+pub words-whole
+    : (table : List (List ℕ)) (finals states : ℕ) (m : List ℕ) (n set : ℕ) (a : Automaton) → RuleHeld a table finals states
+    → CellsBelow table → states ≤ 16
+    → ((s : ℕ) → has set s ≡ true → s < a .symbols)
+    → ((p q : ℕ) → p < states → WordPairs table finals states n set m p q → HeldApart m n p q)
+    → (p q : ℕ) → p < states → q < states → WordApart a set p q → HeldApart m n p q
+words-whole table finals states m n set a r below few symbols closed p q hp hq (apart-here s h d) =
+    closed p q hp
+    (has-word-row table finals states (classRowIn m n) set p q .1 (
+      hq,
+      s,
+      hs,
+      h,
+      apart-by-unlike table finals (classRowIn m n) s p q (below q s (omega arith) hs)
+          (rw (r .finals-are, r .cells p s (omega arith) hs, r .cells q s (omega arith) hs) d),
+    ))
+  where
+    hs : s < 16
+    hs = omega (arith, symbols s h, r .formed .few-symbols)
+words-whole table finals states m n set a r below few symbols closed p q hp hq (apart-later s h w) =
+    closed p q hp
+    (has-word-row table finals states (classRowIn m n) set p q .1 (
+      hq,
+      s,
+      hs,
+      h,
+      apart-by-rows table finals (classRowIn m n) s p q
+          (rw (r .cells p s (omega arith) hs, r .cells q s (omega arith) hs)
+          (words-whole table finals states m n set a r below few symbols closed (next a p s) (next a q s)
+          (leads-below p hp) (leads-below q hq) w)),
+    ))
+  where
+    hs : s < 16
+    hs = omega (arith, symbols s h, r .formed .few-symbols)
+
+    leads-below : (x : ℕ) → x < states → next a x s < states
+    leads-below x l = omega (arith, r .formed .next-below x s (omega (arith, r .states-are)) (symbols s h), r .states-are)
+
+-- no row has grown
+pub closing-end
+    : (table : List (List ℕ)) (finals states : ℕ) (l m : List ℕ) (n set grown : ℕ) → CellsBelow table → states ≤ 16
+    → ClosingWords table finals states l m n set grown → grown ≡ 0 → WordsClosed table finals states l m n set
+closing-end table finals states l m n set grown below few s e = record {
+  kept = s .kept;
+  sound = s .sound;
+  whole = λ a r symbols p q hp hq w. words-whole table finals states m n set a r below few symbols (s .closed e) p q hp hq w;
+}

@@ -1,0 +1,5 @@
+-- What the backward searches leave, and what is found at a point.
+-- Assumes nothing.
+pub mod Backwards
+pub mod Classes
+pub mod FoundSays

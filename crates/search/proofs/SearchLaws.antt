@@ -1,0 +1,362 @@
+-- What the rows of pairs say of a plan: a closed table makes it faithful, a reached pair that splits makes it different.
+-- Assumes nothing.
+use mathlib.Core.Path.{_≡_, refl, sym, ap, subst, _∙_}
+use mathlib.Core.Logic.{⊎-elim}
+use mathlib.Core.Bool.{Bool, true, false, cond, not, true≢false}
+use mathlib.Core.List.{List}
+use Prim.Native.Nat.{ℕ, zero, suc, _+_, _%_, _^_, _≤_, _<_}
+use native.Mathlib.Nat.{lt-of-not-le}
+use native.Mathlib.Omega.{arith}
+use lib.Dec.{eqb}
+use lib.Count.{trailingZeros}
+use native.Mathlib.Nat.{pow-suc}
+use lib.ListN.{length, List·getD-eq-default}
+use borrow.Author.Tests.{ne-eqb, eqb-true, eqb-false}
+use Rattle.laws.specs.Bits.{has}
+use Rattle.laws.proofs.Bits.{has-empty}
+use Rattle.laws.proofs.Walk.{trailing-member}
+use Rattle.laws.proofs.Tests.{passes-or-fails, same-or-contrary}
+use Rattle.automaton.specs.Automaton.{next, final}
+use Rattle.job.specs.Job.{Kind, plain, event, call, Node, Job, nodeAt, noNode, leads, WellFormedJob}
+use Rattle.job.specs.Walk.{shadow, begin-after, report, call-word}
+use Rattle.job.specs.Plan.{Enabling, full, enables, stateAt, Different}
+use Rattle.job.specs.Search.{faithful, arrives}
+use Rattle.job.specs.Words.{WordApart, apart-here, apart-later}
+use Rattle.job.proofs.Pairs.{Pairs, Admitted, Kept, told-splits, apart-now, apart-moved}
+use Rattle.job.proofs.Bounds.{entry-node, pair-within}
+use Rattle.job.proofs.Decide.{different-says}
+use Rattle.job.proofs.Rules.{pair-different, faithful-true, arrives-true, arrives-false}
+use Rattle.job.proofs.Nodes.{Table, NoEvent, plain-no-event, call-no-event, PastNode, past-silent, past-event, Spelt, no-word, one-more, past-map}
+use Rattle.job.proofs.Nodes.{PairAt, pair-at-start, pair-at-event, pair-at-silent, past-pair, pair-at-edge, pair-at-word, pair-at-within}
+use Rattle.job.proofs.Nodes.{ReachedIn, NodeKept, NodeInvariant, node-kept, node-invariant, word-apart}
+use Rattle.tables.specs.Tables.{Held, pairRowIn, classRowIn, marksIn, SearchKept}
+use Rattle.tables.specs.Held.{Usable, JobHeld, PlanHeld, AfterHeld}
+use Rattle.search.specs.Looking.{pastState, pastNode, Follows, over-edge, by-word, ClosedPair, ClosedAt}
+use Rattle.search.specs.Looking.{SplitPair, split-point, split-call, split-exit, Following, held-first, follows}
+use Rattle.search.specs.Looking.{Settled, Started, RoundedAt, Searched, SearchedAt}
+use Rattle.tables.proofs.KeptLaws.{search-kept-none, search-kept-both, node-same, class-same, job-same, plan-same}
+
+-- ---- sets
+
+-- a number is below its power
+below-power : (n : ℕ) → n < 2 ^ n
+below-power zero = omega arith
+below-power (suc n) = omega (arith, below-power n, pow-suc 2 n)
+
+-- a set that is not 0 has a member
+pub has-some : (s : ℕ) → (s ≡ 0 → ⊥) → (q : ℕ) × (has s q ≡ true)
+has-some s ne = (trailingZeros s s, trailing-member s s (omega arith) (below-power s))
+
+-- the set 0 has none
+pub has-nothing : {s : ℕ} (q : ℕ) → s ≡ 0 → has s q ≡ true → ⊥
+has-nothing {s} q e h = true≢false (sym h ∙ ap (λ (x : ℕ). has x q) e ∙ has-empty q)
+
+-- ---- past a node
+
+-- an equation for each state
+both-moved : (P : ℕ → ℕ → Type 0) {p q r s : ℕ} → p ≡ r → q ≡ s → P p q → P r s
+both-moved P {p} {q} {r} {s} e f h = subst (λ (x : ℕ). P r x) f (subst (λ (x : ℕ). P x q) e h)
+
+-- what stands past a node that has a pair
+pub past-of
+    : {j : Job} {w : Enabling} {H : Table} (n p q : ℕ) → H n p q → PastNode j full w H n (pastNode j full n p) (pastNode j w n q)
+past-of {j} {w} {H} n p q h = go (nodeAt j n .kind) refl
+  where
+    go : (k : Kind) → nodeAt j n .kind ≡ k → PastNode j full w H n (pastState (j .rule) full n k p) (pastState (j .rule) w n k q)
+    go plain e = past-silent (plain-no-event e) h
+    go (event a) e = past-event e h
+    go (call set) e = past-silent (call-no-event e) h
+
+-- a node with no event leaves the state
+past-none : (j : Job) (v : Enabling) (n p : ℕ) → NoEvent (nodeAt j n .kind) → pastNode j v n p ≡ p
+past-none j v n p s = go (nodeAt j n .kind) s
+  where
+    go : (k : Kind) → NoEvent k → pastState (j .rule) v n k p ≡ p
+    go plain s = refl
+    go (event a) s = absurd (s a refl)
+    go (call set) s = refl
+
+-- an event node moves it
+past-own : (j : Job) (v : Enabling) (n p a : ℕ) → nodeAt j n .kind ≡ event a → pastNode j v n p ≡ stateAt (j .rule) v p (shadow n a)
+past-own j v n p a e = ap (λ (k : Kind). pastState (j .rule) v n k p) e
+
+-- a pair past a node, and the one that it comes from
+record PastFrom (j : Job) (w : Enabling) (H : Table) (n p q : ℕ) : Type 0 where
+  one : ℕ
+  other : ℕ
+  from : H n one other
+  one-is : pastNode j full n one ≡ p
+  other-is : pastNode j w n other ≡ q
+
+-- every pair past a node comes from one
+past-from : {j : Job} {w : Enabling} {H : Table} {n p q : ℕ} → PastNode j full w H n p q → PastFrom j w H n p q
+past-from {j} {w} {n = n} (past-silent {p = p} {q = q} s h) =
+    record { one = p; other = q; from = h; one-is = past-none j full n p s; other-is = past-none j w n q s }
+past-from {j} {w} {n = n} (past-event {a = a} {p = p} {q = q} e h) =
+    record { one = p; other = q; from = h; one-is = past-own j full n p a e; other-is = past-own j w n q a e }
+
+-- ---- what follows is reached
+
+-- what follows a reached pair
+pub follows-reached
+    : {j : Job} {w : Enabling} {n p q k r s : ℕ} → PairAt j full w n p q → Follows j w n p q k r s → PairAt j full w k r s
+follows-reached {n = n} {p = p} {q = q} h (over-edge l) = pair-at-edge (past-of n p q h) l
+follows-reached h (by-word a e m) = pair-at-word a e m h
+
+-- what follows a table of reached pairs
+pub following-reached
+    : {j : Job} {w : Enabling} {l : List ℕ} {n p q : ℕ}
+    → ((n p q : ℕ) → n < 512 → p < 16 → Held l n p q → PairAt j full w n p q) → Following j w l n p q → PairAt j full w n p q
+following-reached r (held-first {n = n} {p = p} {q = q} ln lp h) = r n p q ln lp h
+following-reached r (follows f g) = follows-reached (following-reached r f) g
+
+-- ---- a split
+
+-- a reached pair that splits makes the plan different
+pub split-different
+    : {j : Job} {w : Enabling} {work : List ℕ} {nodes n p q : ℕ} → WellFormedJob j → AfterHeld j work nodes → n < nodes
+    → PairAt j full w n p q → SplitPair j w work n p q → Different j w
+split-different wf a l r (split-point e d) = pair-different (pair-at-event e r) (apart-now (told-splits (report e) d))
+split-different wf a l r (split-call s e m d) =
+    pair-different (pair-at-silent (call-no-event e) r) (apart-now (told-splits (call-word e m) d))
+split-different {j} {w} {n = n} {p = p} {q = q} wf a l r (split-exit h) =
+    let x = past-pair (past-of n p q r) in
+    let s = a .sound n (pastNode j full n p) (pastNode j w n q) l (omega (arith, pair-within wf x .one, wf .rule .few-states)) h in
+    pair-different x (apart-moved (begin-after (s .0)) (word-apart (s .0) (s .1)))
+
+-- ---- a closed table
+
+-- the starts are held, every node is closed, and the class rows hold the after words
+pub record ClosedTable (j : Job) (w : Enabling) (work : List ℕ) : Type 0 where
+  pub formed : WellFormedJob j
+  pub starts : (n q : ℕ) → has (nodeAt j n .entry) q ≡ true → Held work n q q
+  pub closed : (n : ℕ) → n < length (j .nodes) → ClosedAt j w work n
+  pub after : AfterHeld j work (length (j .nodes))
+
+module _ {j : Job} {w : Enabling} {work : List ℕ} (t : ClosedTable j w work) where
+  -- a pair of the table that is reached is closed
+  closed-pair : {n p q : ℕ} → ReachedIn j full w (Held work) n p q → ClosedPair j w work n p q
+  closed-pair {n} {p} {q} h =
+      let b = pair-at-within (t .formed) (h .0) in
+      t .closed n (b .node) p q (b .one) (h .1)
+
+  -- what an edge leads to is held
+  edge-held
+      : (n : ℕ) {m p q : ℕ} → PastNode j full w (ReachedIn j full w (Held work)) m p q → leads j m n ≡ true → Held work n p q
+  edge-held n h l =
+      let f = past-from h in
+      both-moved (Held work n) (f .one-is) (f .other-is) (closed-pair (f .from) .edges n l)
+
+  -- past an exit no word over the after set tells a pair apart
+  never-apart
+      : {n p q : ℕ} → nodeAt j n .exit ≡ true
+      → Spelt (j .rule) (nodeAt j n .after) (PastNode j full w (ReachedIn j full w (Held work)) n) p q
+      → WordApart (j .rule) (nodeAt j n .after) p q → ⊥
+  never-apart {n} x (no-word {p = p} {q = q} h) a =
+      let f = past-from h in
+      let b = pair-within (t .formed) (past-pair (past-map (λ k l r. r .0) h)) in
+      let e = both-moved (λ (k l : ℕ). has (classRowIn work n k) l ≡ false) (f .one-is) (f .other-is) (closed-pair (f .from) .at-exit) in
+      true≢false (sym (t .after .whole n p q (b .node) (b .one) (b .other) x a) ∙ e)
+  never-apart x (one-more s m h) a = never-apart x h (apart-later s m a)
+
+  -- a closed table is kept
+  closed-kept : NodeKept j full w (Held work)
+  closed-kept =
+      record {
+        starts = t .starts;
+        edges = λ m n p q h l. edge-held n h l;
+        words = λ n set a p q e m h. closed-pair h .words set a e m;
+      }
+
+  -- and under it the monitors alarm alike
+  closed-invariant : NodeInvariant j full w (Held work)
+  closed-invariant =
+      record {
+        kept = closed-kept;
+        at-point = λ n a p q e h. closed-pair h .at-point a e;
+        at-call = λ n set a p q e m h. closed-pair h .at-call set a e m;
+        at-exit = λ n a p q x m h.
+            ⊎-elim
+            (λ (e : final (j .rule) (next (j .rule) p a) ≡ final (j .rule) (next (j .rule) q a)). e)
+            (λ (d : final (j .rule) (next (j .rule) p a) ≡ not (final (j .rule) (next (j .rule) q a))).
+            absurd (never-apart x h (apart-here a m d)))
+            (same-or-contrary (final (j .rule) (next (j .rule) p a)) (final (j .rule) (next (j .rule) q a)));
+      }
+
+-- a closed table makes the plan faithful
+pub closed-faithful : {j : Job} (plan : List ℕ) {work : List ℕ} → ClosedTable j (enables plan) work → faithful j plan ≡ true
+closed-faithful plan t = faithful-true (t .formed) plan (node-invariant (closed-invariant t))
+
+-- ---- before sets
+
+-- the states of the full monitor in a set of pairs that is kept
+one-side
+    : {j : Job} {w : Enabling} {R : Pairs} → Kept j full w (Admitted j) R
+    → Kept j full full (Admitted j) (λ x p q. (r : ℕ) × R x p r)
+one-side {j} {w} k =
+    record {
+      starts = λ x p q s. (q, k .starts x p q s);
+      moved = λ x y p q r m. (r .0, k .moved x y p (r .0) (r .1) m);
+      told = λ x y e p q r t. (stateAt (j .rule) w (r .0) e, k .told x y e p (r .0) (r .1) t);
+    }
+
+-- an event node is one of the job
+event-node : (j : Job) (n a : ℕ) → nodeAt j n .kind ≡ event a → n < length (j .nodes)
+event-node j n a e =
+    lt-of-not-le (λ l.
+    plain-no-event (ap (λ (m : Node). m .kind) (List·getD-eq-default (j .nodes) noNode l)) a e)
+
+-- the rows of an event node in a closed table of reached pairs
+pub closed-before
+    : {j : Job} {w : Enabling} {work : List ℕ} → ClosedTable j w work → length (j .nodes) ≤ 512
+    → ((n p q : ℕ) → n < 512 → p < 16 → Held work n p q → PairAt j full w n p q)
+    → (n a q : ℕ) → nodeAt j n .kind ≡ event a → q < j .rule .states → eqb (pairRowIn work n q) 0 ≡ not (arrives j n q)
+closed-before {j} {w} {work} t few reached n a q e l =
+    ⊎-elim
+    (λ (z : eqb (pairRowIn work n q) 0 ≡ true).
+    z ∙ sym (ap not (arrives-false (t .formed) n q (one-side (node-kept (closed-kept t))) (λ r. has-nothing (r .0) (eqb-true _ _ z) (r .1 .1)))))
+    (λ (z : eqb (pairRowIn work n q) 0 ≡ false).
+    let s = has-some (pairRowIn work n q) (eqb-false _ _ z) in
+    let h = reached n q (s .0) (omega (arith, event-node j n a e)) (omega (arith, t .formed .rule .few-states)) (s .1) in
+    z ∙ sym (ap not (arrives-true (t .formed) n q (pair-at-event e h))))
+    (passes-or-fails (eqb (pairRowIn work n q) 0))
+
+-- ---- the search, round by round
+
+-- the after words of a well-formed job are kept
+after-kept
+    : {j : Job} {l m : List ℕ} {nodes : ℕ} → WellFormedJob j → SearchKept l m → nodes ≤ 512 → AfterHeld j l nodes → AfterHeld j m nodes
+after-kept wf k few a =
+    record {
+      sound = λ n p q ln lp h.
+          a .sound n p q ln lp (sym (ap (λ (x : ℕ). has x q) (class-same k n p (omega arith) lp)) ∙ h);
+      whole = λ n p q ln lp lq e h.
+          ap (λ (x : ℕ). has x q) (class-same k n p (omega arith) (omega (arith, wf .rule .few-states)))
+          ∙ a .whole n p q ln lp lq e h;
+    }
+
+-- what the rows of pairs say of a job and a plan after a round
+pub record SearchingFor (j : Job) (plan : List ℕ) (nodes : ℕ) (m : List ℕ) (result : ℕ) : Type 0 where
+  pub reached : (n p q : ℕ) → n < 512 → p < 16 → Held m n p q → PairAt j full (enables plan) n p q
+  pub starts : (n q : ℕ) → has (nodeAt j n .entry) q ≡ true → Held m n q q
+  pub settled : result < 65536 → Settled j (enables plan) m nodes
+  pub differs : result ≡ 65536 → faithful j plan ≡ false
+
+-- the same for every job and plan that the first buffer holds
+pub record Searching (table : List (List ℕ)) (finals states nodes : ℕ) (l m : List ℕ) (result : ℕ) : Type 0 where
+  pub kept : SearchKept l m
+  pub small : result ≤ 65536
+  pub none : result ≡ 0 → (n : ℕ) → n < nodes → marksIn m n ≡ 0
+  pub exact
+      : (j : Job) (plan : List ℕ) → JobHeld j l table finals states nodes → PlanHeld plan l nodes → AfterHeld j l nodes
+      → SearchingFor j plan nodes m result
+
+-- the search begins with the starts
+pub searching-start
+    : {table : List (List ℕ)} {finals states nodes : ℕ} {l m : List ℕ} → nodes ≤ 512 → Started l m nodes
+    → Searching table finals states nodes m m 1
+searching-start {nodes = nodes} {l = l} {m = m} few s =
+    record {
+      kept = search-kept-none m;
+      small = omega arith;
+      none = λ z. absurd (omega arith);
+      exact = λ j plan held plan-held after. record {
+        reached = λ n p q ln lp h.
+            let o = s .only n p q ln lp h in
+            subst (λ (x : ℕ). PairAt j full (enables plan) n x q) (sym (o .1 .0))
+            (pair-at-start (subst (λ (x : Node). has (x .entry) q ≡ true) (sym (node-same (s .kept) n ln) ∙ held .node n (o .0)) (o .1 .1)));
+        starts = λ n q h.
+            let ln : n < nodes = omega (arith, entry-node j n q h, held .nodes-are) in
+            s .here n q ln (subst (λ (x : Node). has (x .entry) q ≡ true) (sym (held .node n ln) ∙ node-same (s .kept) n (omega arith)) h);
+        settled = λ one n p ln lp quiet q h. absurd (has-nothing q (s .quiet n p (omega arith) lp quiet) h);
+        differs = λ z. absurd (omega arith);
+      };
+    }
+
+-- a round more
+pub searching-more
+    : {table : List (List ℕ)} {finals states nodes : ℕ} {l m k : List ℕ} {last result : ℕ} → Usable l table states nodes
+    → Searching table finals states nodes l m last → last < 65536 → RoundedAt table finals states nodes m k result
+    → Searching table finals states nodes l k result
+searching-more u s less r =
+    record {
+      kept = search-kept-both (s .kept) (r .kept);
+      small = r .small;
+      none = r .none;
+      exact = λ j plan held plan-held after.
+          let i = s .exact j plan held plan-held after in
+          let x = r .exact j plan (job-same (s .kept) u held) (plan-same (s .kept) plan (u .few-nodes) plan-held) in
+          record {
+            reached = λ n p q ln lp h. following-reached (i .reached) (x .new n p q ln lp h);
+            starts = λ n q h.
+                r .held n q q
+                (omega (arith, entry-node j n q h, held .nodes-are, u .few-nodes))
+                (omega (arith, held .formed .entries n q h, held .formed .rule .few-states))
+                (i .starts n q h);
+            settled = λ now. x .settled now (i .settled less);
+            differs = λ found.
+                let f = x .split found in
+                different-says (held .formed) plan .1
+                (split-different (held .formed) (after-kept (held .formed) (s .kept) (u .few-nodes) after) (f .small)
+                (following-reached (i .reached) (f .follows)) (f .splits));
+          };
+    }
+
+-- with nothing marked the table is closed
+searching-closed
+    : {table : List (List ℕ)} {finals states nodes : ℕ} {l m : List ℕ} {result : ℕ} {j : Job} {plan : List ℕ}
+    → nodes ≤ 512 → Searching table finals states nodes l m result → JobHeld j l table finals states nodes
+    → AfterHeld j l nodes → SearchingFor j plan nodes m result → result ≡ 0 → ClosedTable j (enables plan) m
+searching-closed {nodes = nodes} {m = m} {j = j} few s held after i zero-is =
+    record {
+      formed = held .formed;
+      starts = i .starts;
+      closed = λ n l p q lp h.
+          let ln : n < nodes = omega (arith, held .nodes-are) in
+          i .settled (omega arith) n p ln (omega (arith, held .formed .rule .few-states))
+          (ap (λ (x : ℕ). has x p) (s .none zero-is n ln) ∙ has-empty p) q h;
+      after = subst (λ (x : ℕ). AfterHeld j m x) (held .nodes-are) (after-kept (held .formed) (s .kept) few after);
+    }
+
+-- the search has ended
+pub searching-end
+    : {table : List (List ℕ)} {finals states nodes : ℕ} {k l m : List ℕ} (result : ℕ) → SearchKept k l → Usable k table states nodes
+    → Searching table finals states nodes l m result → result % 65536 ≡ 0
+    → SearchedAt table finals states nodes k m (eqb result 0)
+searching-end {table} {finals} {states} {nodes} {k} {l} {m} result kept u s ended =
+    record {
+      kept = search-kept-both kept (s .kept);
+      exact = λ j plan held plan-held after.
+          let here = job-same kept u held in
+          let words = after-kept (held .formed) kept (u .few-nodes) after in
+          done j plan here words (s .exact j plan here (plan-same kept plan (u .few-nodes) plan-held) words) (eqb result 0) refl;
+    }
+  where
+    -- for a job and a plan, by the answer
+    done
+        : (j : Job) (plan : List ℕ) → JobHeld j l table finals states nodes → AfterHeld j l nodes → SearchingFor j plan nodes m result
+        → (b : Bool) → eqb result 0 ≡ b → Searched j plan k m b
+    done j plan held after i true e =
+        let t = searching-closed (u .few-nodes) s held after i (eqb-true _ _ e) in
+        record {
+          exact = sym (closed-faithful plan t);
+          before = λ y. closed-before t (omega (arith, held .nodes-are, u .few-nodes)) (i .reached);
+        }
+    done j plan held after i false e =
+        let found : result ≡ 65536 = omega (arith, s .small, ended, eqb-false result 0 e) in
+        record { exact = sym (i .differs found); before = λ y. absurd (true≢false (sym y)) }
+
+-- ---- the measure
+
+-- what is left, and one round more, where the result says that there was a marked row; nothing where the search has ended
+abbrev pub rank : ℕ → ℕ → ℕ
+rank result left = cond (eqb (result % 65536) 0) 0 (suc left)
+
+-- a round leaves less
+pub rank-less
+    : (result after left less : ℕ) → (result % 65536 ≡ 0 → ⊥) → less + after % 65536 ≤ left → rank after less < rank result left
+rank-less result after left less some h = rw (ne-eqb (result % 65536) 0 some) (go (eqb (after % 65536) 0) refl)
+  where
+    go : (b : Bool) → eqb (after % 65536) 0 ≡ b → cond b 0 (suc less) < suc left
+    go true e = omega arith
+    go false e = omega (arith, h, eqb-false (after % 65536) 0 e)

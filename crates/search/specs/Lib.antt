@@ -1,0 +1,3 @@
+-- What looking at rows, a round and a search leave.
+-- Assumes nothing.
+pub mod Looking

@@ -1,0 +1,109 @@
+-- Where the first 9,218 bytes of the buffer are as they were, so are the nodes and edges that they hold.
+-- Assumes nothing.
+use mathlib.Core.Path.{_≡_, sym, _∙_}
+use mathlib.Core.Logic.{_↔_, inl}
+use mathlib.Core.List.{List}
+use Prim.Native.Nat.{ℕ, suc, _+_, _*_, _≤_, _<_}
+use native.Mathlib.Nat.{lt-of-lt-of-le}
+use native.Mathlib.Omega.{arith}
+use lib.ListN.{length, getD}
+use Rattle.laws.specs.Bytes.{numberAt}
+use Rattle.laws.proofs.Bytes.{number-cong}
+use Rattle.job.specs.Job.{Job}
+use Rattle.reader.specs.Layout.{nodeIn, startIn, targetIn, SameOutside}
+use Rattle.tables.specs.Tables.{EdgeIn}
+use Rattle.tables.specs.Held.{EdgesWithin, Usable, JobHeld}
+
+-- the nodes and edges are as they were, and so is the length
+pub record FrontKept (l m : List ℕ) : Type 0 where
+  pub long : length m ≡ length l
+  pub front : (k : ℕ) → k < 9218 → getD m k 0 ≡ getD l k 0
+
+-- a store past them leaves them
+pub front-kept : {l m : List ℕ} {i j : ℕ} → 9218 ≤ i → SameOutside l m i j → FrontKept l m
+front-kept h s = record { long = s .long; front = λ k g. s .outside k (inl (lt-of-lt-of-le g h)) }
+
+module _ {l m : List ℕ} (s : FrontKept l m) where
+  -- a number of two bytes
+  number-front : (i : ℕ) → i + 2 ≤ 9218 → numberAt 2 m i ≡ numberAt 2 l i
+  number-front i h = number-cong 2 m l i i (λ k g. s .front (i + k) (omega arith))
+
+  -- a node
+  pub front-node : (n : ℕ) → n < 512 → nodeIn m n ≡ nodeIn l n
+  unfolding nodeIn
+  front-node n h =
+      rw (
+        number-front (n * 8) (omega arith),
+        number-front (n * 8 + 2) (omega arith),
+        number-front (n * 8 + 4) (omega arith),
+        s .front (n * 8 + 6) (omega arith),
+        s .front (n * 8 + 7) (omega arith),
+      )
+
+  -- where the edges of a node start
+  pub front-start : (n : ℕ) → n ≤ 512 → startIn m n ≡ startIn l n
+  unfolding startIn
+  front-start n h = number-front (4096 + n * 2) (omega arith)
+
+  -- where an edge ends
+  pub front-target : (i : ℕ) → i < 2048 → targetIn m i ≡ targetIn l i
+  unfolding targetIn
+  front-target i h = number-front (5122 + i * 2) (omega arith)
+
+  -- an edge
+  pub front-edge : (n k : ℕ) → n < 512 → EdgesWithin l n → EdgeIn l n k ↔ EdgeIn m n k
+  front-edge n k h e = (
+    λ d. record {
+      index = d .index;
+      first = rw (front-start n (omega arith)) (d .first);
+      last = rw (front-start (suc n) (omega arith)) (d .last);
+      target = front-target (d .index) (omega (arith, d .last, e .last)) ∙ d .target;
+    },
+    λ d.
+        let f : startIn l n ≤ d .index = rw (front-start n (omega arith)) at (d .first) in
+        let g : d .index < startIn l (suc n) = rw (front-start (suc n) (omega arith)) at (d .last) in
+        record {
+          index = d .index;
+          first = f;
+          last = g;
+          target = sym (front-target (d .index) (omega (arith, g, e .last))) ∙ d .target;
+        },
+  )
+
+  -- the bounds of a node's edges
+  pub front-edges-within : (n : ℕ) → n < 512 → EdgesWithin l n → EdgesWithin m n
+  front-edges-within n h e = record {
+    first = rw (front-start n (omega arith)) (e .first);
+    last = rw (front-start (suc n) (omega arith)) (e .last);
+    targets = λ i f g.
+        let f′ : startIn l n ≤ i = rw (front-start n (omega arith)) at f in
+        let g′ : i < startIn l (suc n) = rw (front-start (suc n) (omega arith)) at g in
+        rw (front-target i (omega (arith, g′, e .last))) (e .targets i f′ g′);
+  }
+
+  -- the bounds of all
+  pub front-usable : {table : List (List ℕ)} {states nodes : ℕ} → Usable l table states nodes → Usable m table states nodes
+  front-usable u = record {
+    long = omega (arith, s .long, u .long);
+    few-states = u .few-states;
+    few-nodes = u .few-nodes;
+    cells = u .cells;
+    edges = λ n h. front-edges-within n (lt-of-lt-of-le h (u .few-nodes)) (u .edges n h);
+  }
+
+  -- the job
+  pub front-job
+      : {j : Job} {table : List (List ℕ)} {finals states nodes : ℕ} → Usable l table states nodes
+      → JobHeld j l table finals states nodes → JobHeld j m table finals states nodes
+  front-job u h = record {
+    formed = h .formed;
+    states-are = h .states-are;
+    finals-are = h .finals-are;
+    nodes-are = h .nodes-are;
+    cells = h .cells;
+    node = λ n g. front-node n (lt-of-lt-of-le g (u .few-nodes)) ∙ h .node n g;
+    edges = λ x y g.
+        let few = lt-of-lt-of-le g (u .few-nodes) in
+        let e = front-edge x y few (u .edges x g) in
+        (λ d. e .0 (h .edges x y g .0 d), λ d. h .edges x y g .1 (e .1 d));
+  }

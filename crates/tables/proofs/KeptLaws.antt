@@ -1,0 +1,107 @@
+-- Laws of what the searches leave in the buffer.
+-- Assumes nothing.
+use mathlib.Core.Path.{_≡_, refl, ap, _∙_}
+use mathlib.Core.Logic.{_↔_, inl, inr}
+use mathlib.Core.List.{List}
+use Prim.Native.Nat.{ℕ, _+_, _*_, _≤_, _<_}
+use native.Mathlib.Nat.{le-refl, lt-of-lt-of-le}
+use native.Mathlib.Omega.{arith}
+use lib.Dec.{eqb}
+use Rattle.laws.proofs.Bytes.{number-cong}
+use Rattle.job.specs.Job.{Job, WellFormedJob}
+use Rattle.reader.specs.Layout.{nodeIn, startIn, targetIn}
+use Rattle.tables.specs.Tables.{classRowIn, enabledIn, EdgeIn, SearchKept, Grown}
+use Rattle.tables.specs.Held.{EdgesWithin, Usable, JobHeld, PlanHeld, AfterHeld}
+use Rattle.tables.proofs.JobKeptLaws.{FrontKept, front-node, front-start, front-target, front-edge, front-edges-within, front-usable, front-job}
+
+-- ---- composition
+
+-- nothing is stored
+pub search-kept-none : (l : List ℕ) → SearchKept l l
+search-kept-none l = record { long = refl; outside = λ k o. refl }
+
+-- one after another
+pub search-kept-both : {l m k : List ℕ} → SearchKept l m → SearchKept m k → SearchKept l k
+search-kept-both a b = record { long = b .long ∙ a .long; outside = λ x o. b .outside x o ∙ a .outside x o }
+
+-- nothing has grown
+pub grown-none : (l : List ℕ) → Grown l l
+grown-none l = record {
+  kept = search-kept-none l;
+  held = λ n p q h g i. i;
+  quiet = λ n p h g i. (i, refl);
+  left = le-refl _;
+}
+
+-- one growth after another
+pub grown-both : {l m k : List ℕ} → Grown l m → Grown m k → Grown l k
+grown-both a b = record {
+  kept = search-kept-both (a .kept) (b .kept);
+  held = λ n p q h g i. b .held n p q h g (a .held n p q h g i);
+  quiet = λ n p h g i.
+      let y = b .quiet n p h g i in
+      let x = a .quiet n p h g (y .0) in
+      (x .0, y .1 ∙ x .1);
+  left = omega (arith, a .left, b .left);
+}
+
+-- ---- what a search leaves as it was
+
+module _ {l m : List ℕ} (s : SearchKept l m) where
+  -- the nodes and edges
+  front : FrontKept l m
+  front = record { long = s .long; front = λ k h. s .outside k (inl h) }
+
+  -- a node
+  pub node-same : (n : ℕ) → n < 512 → nodeIn m n ≡ nodeIn l n
+  node-same = front-node front
+
+  -- where the edges of a node start
+  pub start-same : (n : ℕ) → n ≤ 512 → startIn m n ≡ startIn l n
+  start-same = front-start front
+
+  -- where an edge ends
+  pub target-same : (i : ℕ) → i < 2048 → targetIn m i ≡ targetIn l i
+  target-same = front-target front
+
+  -- a class row
+  pub class-same : (n p : ℕ) → n < 512 → p < 16 → classRowIn m n p ≡ classRowIn l n p
+  unfolding classRowIn
+  class-same n p h k =
+      number-cong 2 m l (25602 + (n * 16 + p) * 2) (25602 + (n * 16 + p) * 2)
+      (λ i g. s .outside (25602 + (n * 16 + p) * 2 + i) (inr (inl (omega arith, omega arith))))
+
+  -- the plan
+  pub enabled-same : (n : ℕ) → n < 512 → enabledIn m n ≡ enabledIn l n
+  unfolding enabledIn
+  enabled-same n h = ap (λ (x : ℕ). eqb x 1) (s .outside (44034 + n) (inr (inl (omega arith, omega arith))))
+
+  -- an edge
+  pub edge-same : (n k : ℕ) → n < 512 → EdgesWithin l n → EdgeIn l n k ↔ EdgeIn m n k
+  edge-same = front-edge front
+
+  -- the bounds of a node's edges
+  pub edges-within-same : (n : ℕ) → n < 512 → EdgesWithin l n → EdgesWithin m n
+  edges-within-same = front-edges-within front
+
+  -- the bounds of all
+  pub usable-same : {table : List (List ℕ)} {states nodes : ℕ} → Usable l table states nodes → Usable m table states nodes
+  usable-same u = front-usable front u
+
+  -- the job
+  pub job-same
+      : {j : Job} {table : List (List ℕ)} {finals states nodes : ℕ} → Usable l table states nodes
+      → JobHeld j l table finals states nodes → JobHeld j m table finals states nodes
+  job-same u h = front-job front u h
+
+  -- the plan that is held
+  pub plan-same : (plan : List ℕ) {nodes : ℕ} → nodes ≤ 512 → PlanHeld plan l nodes → PlanHeld plan m nodes
+  plan-same plan h p n g = s .outside (44034 + n) (inr (inl (omega arith, omega arith))) ∙ p n g
+
+  -- the after words
+  pub after-same : {j : Job} {nodes : ℕ} → WellFormedJob j → nodes ≤ 512 → AfterHeld j l nodes → AfterHeld j m nodes
+  after-same f h a = record {
+    sound = λ n p q g b d. a .sound n p q g b (rw (class-same n p (omega arith) b) at d);
+    whole = λ n p q g b e x w.
+        rw (class-same n p (omega arith) (lt-of-lt-of-le b (f .rule .few-states))) (a .whole n p q g b e x w);
+  }

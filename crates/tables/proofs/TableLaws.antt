@@ -1,0 +1,337 @@
+-- Laws of the tables in the buffer: what a store of two bytes or of one byte does to rows, marks and measures.
+-- Assumes nothing.
+use mathlib.Core.Path.{_≡_, refl, sym, ap, subst, _∙_}
+use mathlib.Core.Logic.{_⊎_, inl, inr, ⊎-elim, by-cases}
+use mathlib.Core.Bool.{true, false, true≢false}
+use mathlib.Core.List.{List}
+use Prim.Native.Nat.{ℕ, zero, suc, _+_, _-_, _*_, _≤_, _<_}
+use native.Mathlib.Nat.{le-refl, le-step, le-of-suc-le-suc, not-suc-le-zero, eq-or-lt-of-le}
+use native.Mathlib.Decide.{ℕ-discrete, decLt}
+use native.Mathlib.Omega.{arith}
+use lib.Bits.{bitOr, or-lt, or-add-and, and-le-r}
+use lib.ListN.{length, getD, set, length-set}
+use lib.Seq.{getD-set-same, getD-set-other}
+use borrow.Author.Tests.{eq-eqb, ne-eqb}
+use Rattle.laws.specs.Bounded.{sumBelow}
+use Rattle.laws.specs.Bits.{has, with}
+use Rattle.laws.specs.Bytes.{AreBytes, numberAt, putNumber}
+use Rattle.laws.proofs.Bounded.{sum-cong}
+use Rattle.laws.proofs.Bits.{has-or, has-with-same, has-with-other, with-lt}
+use Rattle.laws.proofs.Bytes.{number-lt, number-put, number-put-other, put-number, length-put, getD-put-outside}
+use Rattle.laws.proofs.Tests.{or-left, or-right, or-passes}
+use Rattle.reader.proofs.KeptLaws.{kept-none, kept-put}
+use Rattle.tables.specs.Tables.{pairRowIn, classRowIn, marksIn, markedIn, Held, joined, unmarked, apartJoined, Zeroed, pairsLeft, apartLeft, SearchKept, PairsJoined, MarksTaken, ApartGrown}
+use Rattle.tables.proofs.KeptLaws.{grown-none}
+
+-- ---- numbers and sums
+
+-- a set is at most its union with another
+pub or-above : (a b : ℕ) → a ≤ bitOr a b
+or-above a b = omega (arith, or-add-and a b, and-le-r a b)
+
+-- a sum in which one term alone changes changes as that term does
+pub sum-change
+    : (n : ℕ) (f g : ℕ → ℕ) (k a b : ℕ) → k < n → ((i : ℕ) → i < n → (i ≡ k → ⊥) → f i ≡ g i) → f k + a ≤ g k + b
+    → sumBelow n f + a ≤ sumBelow n g + b
+unfolding sumBelow
+sum-change zero f g k a b l h c = absurd (not-suc-le-zero l)
+sum-change (suc n) f g k a b l h c =
+    ⊎-elim
+    (λ (e : k ≡ n).
+    let c′ : f n + a ≤ g n + b = rw e at c in
+    let s = sum-cong n f g (λ i m. h i (le-step m) (λ q. absurd (omega arith))) in
+    omega arith)
+    (λ (m : k < n).
+    let s = sum-change n f g k a b m (λ i x. h i (le-step x)) c in
+    let t = h n (le-refl (suc n)) (λ q. absurd (omega arith)) in
+    omega arith)
+    (eq-or-lt-of-le (le-of-suc-le-suc l))
+
+-- ---- a number of two bytes stored in a table
+
+-- the number at another index
+number-row : (l : List ℕ) (b i j v : ℕ) → (i ≡ j → ⊥) → numberAt 2 (putNumber 2 l (b + j * 2) v) (b + i * 2) ≡ numberAt 2 l (b + i * 2)
+number-row l b i j v h =
+    number-put-other 2 2 l (b + j * 2) (b + i * 2) v
+    (by-cases (decLt i j) (λ (g : i < j). inl (omega arith)) (λ (g : i < j → ⊥). inr (omega arith)))
+
+-- the room in a table of 8,192 numbers falls by the growth of one
+room-falls
+    : (l m : List ℕ) (b k d : ℕ) → k < 8192
+    → ((i : ℕ) → i < 8192 → (i ≡ k → ⊥) → numberAt 2 m (b + i * 2) ≡ numberAt 2 l (b + i * 2))
+    → numberAt 2 l (b + k * 2) + d ≤ numberAt 2 m (b + k * 2) → numberAt 2 m (b + k * 2) < 65536
+    → sumBelow 8192 (λ i. 65535 - numberAt 2 m (b + i * 2)) + d ≤ sumBelow 8192 (λ i. 65535 - numberAt 2 l (b + i * 2))
+room-falls l m b k d h same g f =
+    let s = sum-change 8192 (λ i. 65535 - numberAt 2 m (b + i * 2)) (λ i. 65535 - numberAt 2 l (b + i * 2)) k d 0 h
+    (λ i x y. ap (λ (z : ℕ). 65535 - z) (same i x y)) (omega arith) in
+    omega arith
+
+-- ---- rows of states told apart
+
+module _ (l : List ℕ) (n p s : ℕ) (long : 65536 ≤ length l) (few : n < 512) (small : p < 16) (bytes : AreBytes l) (fits : s < 65536) where
+  -- a set that the row holds, in the shape of the code
+  pub apart-same : (old : ℕ) → old ≡ numberAt 2 l (25602 + (n * 16 + p) * 2) → bitOr old s ≡ old → ApartGrown l l n p s 0
+  unfolding apartJoined classRowIn apartLeft
+  apart-same old e h =
+      let g : bitOr (numberAt 2 l (25602 + (n * 16 + p) * 2)) s ≡ numberAt 2 l (25602 + (n * 16 + p) * 2) = rw e at h in
+      record {
+        exact = rw g (sym (put-number 2 l (25602 + (n * 16 + p) * 2) bytes));
+        kept = kept-none l (25602 + (n * 16 + p) * 2) (25602 + (n * 16 + p) * 2 + 2);
+        row = sym g;
+        others = λ k r x y z. refl;
+        none = λ z. refl;
+        left = omega arith;
+      }
+
+  -- a set that makes the row grow, in the shape of the code
+  pub apart-grows
+      : (m : List ℕ) (old : ℕ) → old ≡ numberAt 2 l (25602 + (n * 16 + p) * 2) → (bitOr old s ≡ old → ⊥)
+      → m ≡ putNumber 2 l (25602 + (n * 16 + p) * 2) (bitOr old s) → ApartGrown l m n p s 1
+  unfolding apartJoined classRowIn apartLeft
+  apart-grows m old e h d =
+      let o : old < 65536 = rw e (number-lt 2 l (25602 + (n * 16 + p) * 2) bytes) in
+      let a = or-above old s in
+      let b = or-lt 16 old s o fits in
+      let here : numberAt 2 m (25602 + (n * 16 + p) * 2) ≡ bitOr old s =
+      rw d (number-put 2 l (25602 + (n * 16 + p) * 2) (bitOr old s) b (omega arith)) in
+      let other : (i : ℕ) → (i ≡ n * 16 + p → ⊥) → numberAt 2 m (25602 + i * 2) ≡ numberAt 2 l (25602 + i * 2) =
+      λ i g. rw d (number-row l 25602 i (n * 16 + p) (bitOr old s) g) in
+      record {
+        exact = rw (← e) d;
+        kept = kept-put l m (25602 + (n * 16 + p) * 2) (bitOr old s) d;
+        row = rw (← e) here;
+        others = λ k r x y z. other (k * 16 + r) (λ q. z (omega arith, omega arith));
+        none = λ z. absurd (omega arith);
+        left = room-falls l m 25602 (n * 16 + p) 1 (omega arith) (λ i x. other i) (omega arith) (omega arith);
+      }
+
+-- ---- marks
+
+-- the marks change as those of the one node that are stored
+marks-change
+    : (l m : List ℕ) (n a b : ℕ) → n < 512 → ((k : ℕ) → (k ≡ n → ⊥) → marksIn m k ≡ marksIn l k) → marksIn m n + a ≤ marksIn l n + b
+    → sumBelow 512 (λ k. marksIn m k) + a ≤ sumBelow 512 (λ k. marksIn l k) + b
+marks-change l m n a b h same c = sum-change 512 (λ k. marksIn m k) (λ k. marksIn l k) n a b h (λ i x. same i) c
+
+-- the marks of another node
+marks-other : (l : List ℕ) (n v k : ℕ) → (k ≡ n → ⊥) → marksIn (putNumber 2 l (45314 + n * 2) v) k ≡ marksIn l k
+unfolding marksIn
+marks-other l n v k h = number-row l 45314 k n v h
+
+-- the marks that are stored
+marks-here
+    : (l : List ℕ) (n v : ℕ) → 65536 ≤ length l → n < 512 → v < 65536 → marksIn (putNumber 2 l (45314 + n * 2) v) n ≡ v
+unfolding marksIn
+marks-here l n v long h fits = number-put 2 l (45314 + n * 2) v fits (omega arith)
+
+-- a byte that a search keeps is none of the marks
+not-marks
+    : (n : ℕ) → n < 512 → (k : ℕ) → (k < 9218) ⊎ (((25602 ≤ k) × (k < 45314)) ⊎ (46338 ≤ k))
+    → (k < 45314 + n * 2) ⊎ (45314 + n * 2 + 2 ≤ k)
+not-marks n h k (inl o) = inl (omega arith)
+not-marks n h k (inr (inl o)) = inl (omega arith)
+not-marks n h k (inr (inr o)) = inr (omega arith)
+
+-- and no byte of a row of pairs
+not-row
+    : (n p : ℕ) → n < 512 → p < 16 → (k : ℕ) → (k < 9218) ⊎ (((25602 ≤ k) × (k < 45314)) ⊎ (46338 ≤ k))
+    → (k < 9218 + (n * 16 + p) * 2) ⊎ (9218 + (n * 16 + p) * 2 + 2 ≤ k)
+not-row n p h g k (inl o) = inl (omega arith)
+not-row n p h g k (inr (inl o)) = inr (omega arith)
+not-row n p h g k (inr (inr o)) = inr (omega arith)
+
+-- the numbers in front of the marks
+number-front : (l : List ℕ) (n v i : ℕ) → i + 2 ≤ 45314 → numberAt 2 (putNumber 2 l (45314 + n * 2) v) i ≡ numberAt 2 l i
+number-front l n v i h = number-put-other 2 2 l (45314 + n * 2) i v (inl (omega arith))
+
+-- marks taken down, in the shape of the code
+pub marks-taken
+    : (l m : List ℕ) (n due : ℕ) → 65536 ≤ length l → n < 512 → due ≡ numberAt 2 l (45314 + n * 2) → m ≡ putNumber 2 l (45314 + n * 2) 0
+    → MarksTaken l m n due
+unfolding unmarked pairRowIn marksIn pairsLeft
+marks-taken l m n due long few were d =
+    let here : marksIn m n ≡ 0 = rw d (marks-here l n 0 long few (omega arith)) in
+    let others : (k : ℕ) → (k ≡ n → ⊥) → marksIn m k ≡ marksIn l k = λ k x. rw d (marks-other l n 0 k x) in
+    let row : (i : ℕ) → i + 2 ≤ 45314 → numberAt 2 m i ≡ numberAt 2 l i = λ i x. rw d (number-front l n 0 i x) in
+    let rows = sum-cong 8192 (λ i. 65535 - numberAt 2 m (9218 + i * 2)) (λ i. 65535 - numberAt 2 l (9218 + i * 2))
+    (λ i x. ap (λ (z : ℕ). 65535 - z) (row (9218 + i * 2) (omega arith))) in
+    let marks = marks-change l m n due 0 few others (omega (arith, here, were)) in
+    record {
+      exact = d;
+      were = were;
+      kept = record {
+        long = rw d (length-put 2 l (45314 + n * 2) 0);
+        outside = λ k o. rw d (getD-put-outside 2 l (45314 + n * 2) 0 k 0 (not-marks n few k o));
+      };
+      rows = λ k p x y. row (9218 + (k * 16 + p) * 2) (omega arith);
+      here = here;
+      others = others;
+      left = omega arith;
+    }
+
+-- ---- rows of pairs
+
+module _ (l : List ℕ) (n p s : ℕ) (long : 65536 ≤ length l) (few : n < 512) (small : p < 16) (bytes : AreBytes l) (fits : s < 65536) where
+  -- a set that the row holds, in the shape of the code
+  pub pairs-same : (old : ℕ) → old ≡ numberAt 2 l (9218 + (n * 16 + p) * 2) → bitOr old s ≡ old → PairsJoined l l n p s
+  unfolding joined pairRowIn
+  pairs-same old e h =
+      let g : bitOr (numberAt 2 l (9218 + (n * 16 + p) * 2)) s ≡ numberAt 2 l (9218 + (n * 16 + p) * 2) = rw e at h in
+      record {
+        exact = rw (eq-eqb (bitOr (numberAt 2 l (9218 + (n * 16 + p) * 2)) s) (numberAt 2 l (9218 + (n * 16 + p) * 2)) g);
+        grown = grown-none l;
+        here = λ q x.
+            ap (λ (z : ℕ). has z q) (sym g) ∙ has-or (numberAt 2 l (9218 + (n * 16 + p) * 2)) s q
+            ∙ or-right (has (numberAt 2 l (9218 + (n * 16 + p) * 2)) q) (has s q) x;
+        new = λ k r q x y z. inl z;
+      }
+
+  module _ (w : List ℕ) (old due : ℕ) (e : old ≡ numberAt 2 l (9218 + (n * 16 + p) * 2)) (h : bitOr old s ≡ old → ⊥)
+      (were : due ≡ numberAt 2 l (45314 + n * 2)) (d : w ≡ putNumber 2 l (9218 + (n * 16 + p) * 2) (bitOr old s)) where
+    -- the buffer after the two stores
+    abbrev m : List ℕ
+    m = putNumber 2 w (45314 + n * 2) (with due p)
+
+    -- the first store keeps the length
+    w-long : length w ≡ length l
+    w-long = rw d (length-put 2 l (9218 + (n * 16 + p) * 2) (bitOr old s))
+
+    -- the union has two bytes
+    new-fits : bitOr old s < 65536
+    new-fits = or-lt 16 old s (rw e (number-lt 2 l (9218 + (n * 16 + p) * 2) bytes)) fits
+
+    -- so have the marks
+    due-fits : with due p < 65536
+    due-fits = with-lt 16 due p (rw were (number-lt 2 l (45314 + n * 2) bytes)) small
+
+    -- the row joined
+    row-here : numberAt 2 m (9218 + (n * 16 + p) * 2) ≡ bitOr old s
+    row-here =
+        number-front w n (with due p) (9218 + (n * 16 + p) * 2) (omega arith)
+        ∙ rw d (number-put 2 l (9218 + (n * 16 + p) * 2) (bitOr old s) new-fits (omega arith))
+
+    -- another row
+    row-other : (i : ℕ) → i < 8192 → (i ≡ n * 16 + p → ⊥) → numberAt 2 m (9218 + i * 2) ≡ numberAt 2 l (9218 + i * 2)
+    row-other i x y =
+        number-front w n (with due p) (9218 + i * 2) (omega arith) ∙ rw d (number-row l 9218 i (n * 16 + p) (bitOr old s) y)
+
+    -- the marks of the node
+    node-marks : marksIn m n ≡ with due p
+    node-marks = marks-here w n (with due p) (omega (arith, w-long)) few due-fits
+
+    -- as they were
+    due-marks : marksIn l n ≡ due
+    unfolding marksIn
+    due-marks = sym were
+
+    -- the marks of another node
+    other-marks : (k : ℕ) → (k ≡ n → ⊥) → marksIn m k ≡ marksIn l k
+    unfolding marksIn
+    other-marks k x =
+        marks-other w n (with due p) k x
+        ∙ rw d (number-put-other 2 2 l (9218 + (n * 16 + p) * 2) (45314 + k * 2) (bitOr old s) (inr (omega arith)))
+
+    -- all but rows and marks
+    kept : SearchKept l m
+    kept = record {
+      long = length-put 2 w (45314 + n * 2) (with due p) ∙ w-long;
+      outside = λ k o.
+          getD-put-outside 2 w (45314 + n * 2) (with due p) k 0 (not-marks n few k o)
+          ∙ rw d (getD-put-outside 2 l (9218 + (n * 16 + p) * 2) (bitOr old s) k 0 (not-row n p few small k o));
+    }
+
+    -- the room falls by one at least, which counts for more than the mark
+    less : pairsLeft m ≤ pairsLeft l
+    unfolding pairsLeft
+    less =
+        let a = or-above old s in
+        let rows = room-falls l m 9218 (n * 16 + p) 1 (omega arith) row-other (omega (arith, row-here)) (omega (arith, row-here, new-fits)) in
+        let marks = marks-change l m n 0 65535 few other-marks (omega (arith, node-marks, due-fits)) in
+        omega arith
+
+    -- a pair that was held
+    held : (k r q : ℕ) → k < 512 → r < 16 → Held l k r q → Held m k r q
+    unfolding pairRowIn
+    held k r q x y z =
+        by-cases (ℕ-discrete (k * 16 + r) (n * 16 + p))
+        (λ (c : k * 16 + r ≡ n * 16 + p).
+        let z′ : has old q ≡ true = rw (e, ← c) z in
+        rw (c, row-here) (has-or old s q ∙ or-left (has old q) (has s q) z′))
+        (λ (c : k * 16 + r ≡ n * 16 + p → ⊥). rw (row-other (k * 16 + r) (omega arith) c) z)
+
+    -- a pair that is held
+    fresh : (k r q : ℕ) → k < 512 → r < 16 → Held m k r q → Held l k r q ⊎ ((k ≡ n) × ((r ≡ p) × (has s q ≡ true)))
+    unfolding pairRowIn
+    fresh k r q x y z =
+        by-cases (ℕ-discrete (k * 16 + r) (n * 16 + p))
+        (λ (c : k * 16 + r ≡ n * 16 + p).
+        let z′ : has (bitOr old s) q ≡ true = rw (← row-here, ← c) z in
+        ⊎-elim
+        (λ (a : has old q ≡ true). inl (rw (c, ← e) a))
+        (λ (a : has s q ≡ true). inr (omega arith, (omega arith, a)))
+        (or-passes (has old q) (has s q) (sym (has-or old s q) ∙ z′)))
+        (λ (c : k * 16 + r ≡ n * 16 + p → ⊥). inl (rw (row-other (k * 16 + r) (omega arith) c) at z))
+
+    -- a row that is not marked was not, and is another
+    unmarked-row : (k r : ℕ) → markedIn m k r ≡ false → (markedIn l k r ≡ false) × ((k ≡ n) × (r ≡ p) → ⊥)
+    unmarked-row k r z =
+        by-cases (ℕ-discrete k n)
+        (λ (c : k ≡ n).
+        let z′ : has (with due p) r ≡ false = ap (λ (x : ℕ). has x r) (sym (ap (marksIn m) c ∙ node-marks)) ∙ z in
+        let ne : r ≡ p → ⊥ = λ y. true≢false (sym (has-with-same due p) ∙ ap (has (with due p)) (sym y) ∙ z′) in
+        (ap (λ (x : ℕ). has x r) (ap (marksIn l) c ∙ due-marks) ∙ sym (has-with-other due p r ne) ∙ z′, λ y. ne (y .1)))
+        (λ (c : k ≡ n → ⊥). (ap (λ (x : ℕ). has x r) (sym (other-marks k c)) ∙ z, λ y. c (y .0)))
+
+    -- so it is as it was
+    quiet
+        : (k r : ℕ) → k < 512 → r < 16 → markedIn m k r ≡ false → (markedIn l k r ≡ false) × (pairRowIn m k r ≡ pairRowIn l k r)
+    unfolding pairRowIn
+    quiet k r x y z =
+        let u = unmarked-row k r z in
+        (u .0, row-other (k * 16 + r) (omega arith) (λ c. u .1 (omega arith, omega arith)))
+
+    -- a set that makes the row grow
+    grows : PairsJoined l m n p s
+    unfolding joined pairRowIn marksIn
+    grows = record {
+      exact =
+          rw (
+            ne-eqb (bitOr (numberAt 2 l (9218 + (n * 16 + p) * 2)) s) (numberAt 2 l (9218 + (n * 16 + p) * 2)) (rw e at h),
+            ← e,
+            ← were,
+            ← d,
+          );
+      grown = record { kept = kept; held = held; quiet = quiet; left = less };
+      here = λ q x. ap (λ (z : ℕ). has z q) row-here ∙ has-or old s q ∙ or-right (has old q) (has s q) x;
+      new = fresh;
+    }
+
+    -- in the shape of the code
+    pub pairs-grow : (o : List ℕ) (v : ℕ) → v ≡ with due p → o ≡ putNumber 2 w (45314 + n * 2) v → PairsJoined l o n p s
+    pairs-grow o v is last =
+        subst (λ (x : List ℕ). PairsJoined l x n p s) (sym (last ∙ ap (λ (x : ℕ). putNumber 2 w (45314 + n * 2) x) is)) grows
+
+-- ---- clearing
+
+-- nothing is zero yet
+pub zeroed-none : (l : List ℕ) (i : ℕ) → Zeroed l l i i
+zeroed-none l i = record { long = refl; zeros = λ k x y. absurd (omega arith); outside = λ k o. refl }
+
+-- one more byte
+pub zeroed-more : (l m : List ℕ) (i j : ℕ) → i ≤ j → j < length l → Zeroed l m i j → Zeroed l (set m j 0) i (j + 1)
+zeroed-more l m i j h g z = record {
+  long = length-set m j 0 ∙ z .long;
+  zeros = λ k x y.
+      by-cases (ℕ-discrete k j)
+      (λ (e : k ≡ j). rw e (getD-set-same m j 0 0 (omega (arith, z .long))))
+      (λ (e : k ≡ j → ⊥). getD-set-other m j k 0 0 e ∙ z .zeros k x (omega arith));
+  outside = λ k o. getD-set-other m j k 0 0 (apart k o) ∙ z .outside k (wider k o);
+}
+  where
+    apart : (k : ℕ) → (k < i) ⊎ (j + 1 ≤ k) → k ≡ j → ⊥
+    apart k (inl o) e = absurd (omega arith)
+    apart k (inr o) e = absurd (omega arith)
+
+    wider : (k : ℕ) → (k < i) ⊎ (j + 1 ≤ k) → (k < i) ⊎ (j ≤ k)
+    wider k (inl o) = inl o
+    wider k (inr o) = inr (omega arith)

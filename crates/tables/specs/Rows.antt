@@ -1,0 +1,57 @@
+-- Rows of pairs on values: a state of the full monitor, and a set of states of the residual one.
+-- Assumes nothing.
+use mathlib.Core.Bool.{Bool, true, false, cond, not}
+use mathlib.Core.List.{List}
+use Prim.Native.Nat.{ℕ, _<_}
+use lib.Dec.{eqb}
+use lib.Bits.{bitAnd, bitOr}
+use Rattle.laws.specs.Bounded.{anyBelow}
+use Rattle.laws.specs.Bits.{has, image}
+use Rattle.automaton.specs.Automaton.{cell}
+use Rattle.job.specs.Job.{Kind, plain, event, call}
+use Rattle.job.specs.Search.{unlike}
+use Rattle.job.specs.Found.{setOf}
+use Rattle.tables.specs.declared.moves.Past.{Past}
+
+-- every cell of the table is below 16
+abbrev pub CellsBelow : List (List ℕ) → Type 0
+CellsBelow table = (q a : ℕ) → q < 16 → a < 16 → cell table q a < 16
+
+-- two sets have a common member
+abbrev pub meets : ℕ → ℕ → Bool
+meets s t = not (eqb (bitAnd s t) 0)
+
+-- the states that are final where p is not, or not where p is
+unfoldable pub unlikeStates : ℕ → ℕ → ℕ
+unlikeStates finals p = setOf 16 (λ q. unlike (has finals p) (has finals q))
+
+-- the states below S that a symbol leads into a set
+unfoldable pub preimageOf : List (List ℕ) → ℕ → ℕ → ℕ → ℕ
+preimageOf table states a s = setOf states (λ q. has s (cell table q a))
+
+-- the states that a symbol leads to from a set
+unfoldable pub imageOf : List (List ℕ) → ℕ → ℕ → ℕ
+imageOf table a s = image 16 (λ q. cell table q a) s
+
+-- a row past a shadow with symbol a: the full monitor moves; an enabled shadow moves the set too, a disabled one leaves it
+abbrev pub pastShadow : List (List ℕ) → ℕ → ℕ → Bool → ℕ → ℕ → Past
+pastShadow table finals a true p s =
+    record { state = cell table p a; set = imageOf table a s; differs = meets (imageOf table a s) (unlikeStates finals (cell table p a)) }
+pastShadow table finals a false p s = record { state = cell table p a; set = s; differs = has finals (cell table p a) }
+
+-- a row past a node, and whether some pair of it alarms differently there
+abbrev pub pastRow : List (List ℕ) → ℕ → Bool → ℕ → Bool → ℕ → ℕ → Past
+pastRow table finals true a enabled p s = pastShadow table finals a enabled p s
+pastRow table finals false a enabled p s = record { state = p; set = s; differs = false }
+
+-- the set of a call; empty at any other kind
+abbrev pub callSet : Kind → ℕ
+callSet plain = 0
+callSet (event a) = 0
+callSet (call set) = set
+
+-- the kind is an event
+abbrev pub isEvent : Kind → Bool
+isEvent plain = false
+isEvent (event a) = true
+isEvent (call set) = false

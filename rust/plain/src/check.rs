@@ -1,0 +1,196 @@
+//! The plan check: sweeps over all nodes until nothing changes.
+use crate::read::{Decoded, Node};
+
+/// For each full state the set of planned states that arrive together with it.
+type Rows = [u16; 16];
+
+/// The greatest length of a file.
+const LONGEST: usize = 49_914;
+/// The least length of a work buffer, and the bytes of it that are cleared.
+const WORK: usize = 65_536;
+
+/// The buffers that checks use again and again.
+pub struct Checker {
+    job: Box<Decoded>,
+    /// For each symbol and state the set of the next state alone.
+    next: [[u16; 16]; 16],
+    /// For each node the pairs of states before it.
+    before: Box<[Rows; 512]>,
+    /// How many sweeps the last check made.
+    pub sweeps: u64,
+}
+
+impl Default for Checker {
+    fn default() -> Self {
+        Checker {
+            job: Decoded::new(),
+            next: [[0; 16]; 16],
+            before: Box::new([[0; 16]; 512]),
+            sweeps: 0,
+        }
+    }
+}
+
+impl Checker {
+    /// Whether a plan is faithful to the job that a file spells, or the refusal.
+    pub fn check(&mut self, file: &[u8], plan: &[u8], work: &mut [u8]) -> Result<bool, u64> {
+        if file.len() > LONGEST {
+            return Err(1);
+        }
+        if work.len() < WORK {
+            return Err(2);
+        }
+        let answer = self.read(file).and_then(|()| {
+            self.accept(plan)?;
+            Ok(self.faithful(plan))
+        });
+        work[..WORK].fill(0);
+        answer
+    }
+
+    /// Reads the job that later checks are of.
+    pub fn read(&mut self, file: &[u8]) -> Result<(), u64> {
+        self.job.decode(file)?;
+        let job = &self.job;
+        for (symbol, column) in self.next[..job.symbols].iter_mut().enumerate() {
+            for (to, row) in column.iter_mut().zip(&job.next[..job.states]) {
+                *to = 1 << row[symbol];
+            }
+        }
+        Ok(())
+    }
+
+    /// How many nodes the job has.
+    pub fn nodes(&self) -> usize {
+        self.job.node_count
+    }
+
+    /// The event nodes of the job.
+    pub fn points(&self) -> impl Iterator<Item = usize> + '_ {
+        let nodes = self.job.nodes[..self.job.node_count].iter();
+        let numbered = nodes.enumerate();
+        numbered.filter_map(|(number, node)| (node.kind == 1).then_some(number))
+    }
+
+    /// The tests of refusals 11 and 12.
+    fn accept(&self, plan: &[u8]) -> Result<(), u64> {
+        let nodes = &self.job.nodes[..self.job.node_count];
+        if plan.len() != nodes.len() {
+            return Err(11);
+        }
+        let fault = |(node, &byte): (&Node, &u8)| byte > u8::from(node.kind == 1);
+        if nodes.iter().zip(plan).any(fault) {
+            return Err(12);
+        }
+        Ok(())
+    }
+
+    /// Whether a plan of the job that was read is faithful.
+    pub fn faithful(&mut self, plan: &[u8]) -> bool {
+        let count = self.job.node_count;
+        for (rows, node) in self.before.iter_mut().zip(&self.job.nodes[..count]) {
+            for (state, row) in rows.iter_mut().enumerate() {
+                *row = node.entry & 1 << state;
+            }
+        }
+        self.sweeps = 0;
+        loop {
+            self.sweeps += 1;
+            match self.sweep(plan) {
+                None => return false,
+                Some(false) => return true,
+                Some(true) => {}
+            }
+        }
+    }
+
+    /// Sweeps over all nodes once; says whether anything changed, or nothing where an alarm differs.
+    fn sweep(&mut self, plan: &[u8]) -> Option<bool> {
+        let mut changed = false;
+        for (number, &watched) in plan.iter().enumerate() {
+            let rows = self.before[number];
+            if rows == [0; 16] {
+                continue;
+            }
+            let node = self.job.nodes[number];
+            let past = match node.kind {
+                0 => rows,
+                1 if watched == 1 => self.told(&rows, node.value)?,
+                1 => self.skipped(&rows, node.value)?,
+                _ => self.closed(rows, node.value)?,
+            };
+            if node.after != 0 {
+                self.closed(past, node.after)?;
+            }
+            let edges = self.job.first[number].into()..self.job.first[number + 1].into();
+            for &(_, to) in &self.job.edges[edges] {
+                let mut new = 0;
+                for (held, row) in self.before[usize::from(to)].iter_mut().zip(past) {
+                    new |= row & !*held;
+                    *held |= row;
+                }
+                changed |= new != 0;
+            }
+        }
+        Some(changed)
+    }
+
+    /// Both monitors take the symbol; nothing where an alarm differs.
+    #[inline]
+    fn told(&self, rows: &Rows, symbol: u16) -> Option<Rows> {
+        let next = &self.next[usize::from(symbol)];
+        let mut told = [0; 16];
+        for (&row, &to) in rows.iter().zip(next) {
+            if row == 0 {
+                continue;
+            }
+            let (mut left, mut set) = (row, 0);
+            while left != 0 {
+                set |= next[left.trailing_zeros() as usize];
+                left &= left - 1;
+            }
+            let wrong = if to & self.job.finals != 0 {
+                !self.job.finals
+            } else {
+                self.job.finals
+            };
+            if set & wrong != 0 {
+                return None;
+            }
+            told[to.trailing_zeros() as usize & 15] |= set;
+        }
+        Some(told)
+    }
+
+    /// The full monitor alone takes the symbol; nothing where it alarms.
+    #[inline]
+    fn skipped(&self, rows: &Rows, symbol: u16) -> Option<Rows> {
+        let mut skipped = [0; 16];
+        for (&row, &to) in rows.iter().zip(&self.next[usize::from(symbol)]) {
+            if row != 0 && to & self.job.finals != 0 {
+                return None;
+            }
+            skipped[to.trailing_zeros() as usize & 15] |= row;
+        }
+        Some(skipped)
+    }
+
+    /// Both monitors take any word over the set; nothing where an alarm differs.
+    #[inline]
+    fn closed(&self, mut rows: Rows, set: u16) -> Option<Rows> {
+        loop {
+            let before = rows;
+            let mut left = set;
+            while left != 0 {
+                let told = self.told(&rows, left.trailing_zeros() as u16)?;
+                rows.iter_mut()
+                    .zip(told)
+                    .for_each(|(row, told)| *row |= told);
+                left &= left - 1;
+            }
+            if rows == before {
+                return Some(rows);
+            }
+        }
+    }
+}

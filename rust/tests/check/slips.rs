@@ -1,0 +1,48 @@
+//! Wrong readings of document 01, which a comparison must notice.
+use crate::cases::cases;
+use crate::memory::Memory;
+use walks::random::Random;
+use walks::slip::Slip;
+use walks::small;
+use walks::walk::Walks;
+
+#[test]
+fn every_slip_of_the_second_implementation_is_noticed() {
+    const JOBS: usize = 2_000;
+    const MOST_JOBS: usize = 20_000;
+    let mut random = Random::of_this_run();
+    let mut memory = Memory::new();
+    let (mut jobs, mut calls) = (0, 0);
+    let mut noticed = vec![0; Slip::ALL.len()];
+    // a rare slip may take more jobs
+    while jobs < JOBS || (jobs < MOST_JOBS && noticed.contains(&0)) {
+        jobs += 1;
+        let job = small::job(&mut random);
+        let walks = Walks::new(&job, None);
+        let seen: Vec<_> = cases(&mut random, &job)
+            .into_iter()
+            .map(|case| match case.compare(&mut memory, &walks) {
+                Ok(seen) => (case, seen),
+                Err(why) => panic!("job {jobs}: {why}"),
+            })
+            .collect();
+        for (&slip, noticed) in Slip::ALL.iter().zip(&mut noticed) {
+            let walks = Walks::new(&job, Some(slip));
+            let differs = seen
+                .iter()
+                .filter(|(case, seen)| case.wanted(&walks, Some(slip)) != *seen);
+            *noticed += differs.count();
+        }
+        calls += seen.len();
+    }
+    println!(
+        "{} slips on {calls} calls of {jobs} jobs; calls that differ:",
+        Slip::ALL.len()
+    );
+    for (slip, noticed) in Slip::ALL.iter().zip(&noticed) {
+        println!("{noticed:>8}   {slip:?}");
+    }
+    for (slip, &noticed) in Slip::ALL.iter().zip(&noticed) {
+        assert!(noticed > 0, "{slip:?} is not noticed");
+    }
+}

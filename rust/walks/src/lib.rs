@@ -1,0 +1,18 @@
+//! Jobs, walks and plans a second time, written from document 01 alone.
+//! It links nothing and shares nothing with the library: places of a walk are explicit, two real
+//! monitors take the walk's events, and a search ends when no new place and pair of states is left.
+pub mod call;
+pub mod features;
+pub mod job;
+pub mod large;
+pub mod listing;
+pub mod random;
+pub mod search;
+pub mod shape;
+pub mod sized;
+pub mod slip;
+pub mod small;
+pub mod spread;
+pub mod story;
+pub mod walk;
+pub mod widen;
