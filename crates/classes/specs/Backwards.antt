@@ -1,4 +1,5 @@
--- What the backward searches leave in the class rows.
+-- What the backward searches leave in the class rows, and what is read off rows at a point; a first reading may leave it out for
+-- `FoundSays.antt`.
 -- Assumes nothing.
 use mathlib.Core.Path.{_≡_}
 use mathlib.Core.Bool.{Bool, true, false, cond, not, _&&_, _||_}

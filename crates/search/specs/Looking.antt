@@ -1,4 +1,4 @@
--- What looking at rows of pairs leaves.
+-- What looking at rows of pairs leaves: the contracts of the search's parts, which a first reading may leave out but for `Searched`.
 -- Assumes nothing.
 use mathlib.Core.Path.{_≡_}
 use mathlib.Core.Logic.{_⊎_}

@@ -66,7 +66,8 @@ fn start(work: &mut [u8], nodes: usize)
     }
 }
 
-// Whether the plan in the buffer is faithful: the search ends as soon as one differing alarm is found.
+// Whether the plan in the buffer is faithful, where the class rows hold the after words of the exits: the search ends as soon as one
+// differing alarm is found.
 pub fn is_faithful(
     work: &mut [u8],
     table: &[[u8; 16]; 16],

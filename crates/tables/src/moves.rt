@@ -55,11 +55,11 @@ pub fn preimage_under(table: &[[u8; 16]; 16], states: usize, a: usize, s: u16) -
     ensures { λ r. ⌜ r ≡ preimageOf (now (table .entry)) states a s ⌝ }
 {
     let mut out = 0;
-    let mut q = 0;
-    while q < states {
+    let mut q = states;
+    while q != 0 {
+        q -= 1;
         let to = next_state(table, q, a);
-        out = out | (((s >> to) & 1) << q);
-        q += 1;
+        out = (out << 1) | ((s >> to) & 1);
     }
     out
 }
