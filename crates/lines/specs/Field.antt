@@ -9,7 +9,7 @@ use lib.ListN.{getD}
 use lib.Seq.{slice}
 use Rattle.lines.specs.Line.{fieldOf}
 
--- r is the first column from at up to end that is no space, or end
+-- r is a column from at up to end that is no space, or end, and the field reads from there as from at
 pub record PastSpaces (l : List ℕ) (at end r : ℕ) : Type 0 where
   pub from : at ≤ r
   pub within : r ≤ end
