@@ -17,14 +17,15 @@ use Rattle.job.specs.Job.{Job, Node, nodeAt}
 use Rattle.job.specs.Search.{faithful}
 use Rattle.lines.specs.Lines.{Kind}
 use Rattle.lines.specs.Written.{BadLine, ended, malformed, outside}
-use Rattle.jobfile.specs.File.{Answer, accepted, turned, maxFile, readJob}
+use Rattle.jobfile.specs.File.{Answer, maxFile, readJob}
 use Rattle.jobfile.specs.Refusal.{TurnedBack, too-long, at-head, at-rule, at-node, at-edge, bytes-follow, no-entry}
 use Rattle.jobfile.proofs.RefusalLaws.{turned-says}
-use Rattle.reader.specs.declared.head.Head.{Head}
-use Rattle.reader.specs.Layout.{nodeIn, ruleIn, workSize, cleared, SameOutside}
-use Rattle.reader.specs.Reading.{headOfAnswer, JobRead, SameRest}
+use Rattle.joblines.specs.declared.head.Head.{Head}
+use Rattle.joblines.specs.Layout.{nodeIn, workSize, cleared, SameOutside}
+use Rattle.reader.specs.Rule.{ruleIn}
+use Rattle.reader.specs.Reading.{JobRead, SameRest}
 use Rattle.reader.proofs.ClearLaws.{cleared-same}
-use Rattle.reader.proofs.KeptLaws.{kept-none, kept-both}
+use Rattle.joblines.proofs.KeptLaws.{kept-none, kept-both}
 use Rattle.checking.specs.declared.check.Verdict.{Verdict}
 use Rattle.checking.specs.declared.check.Verdict.the-variants.{Faithful, Different, Refused}
 use Rattle.tables.specs.Tables.{SearchKept}
@@ -34,6 +35,7 @@ use Rattle.classes.specs.Backwards.{AfterWords}
 use Rattle.checking.specs.Checking.{goodMark, judged, answered, checked, refusedLeft, workLeft, PlanStored, Judged}
 use Rattle.tables.proofs.JobKeptLaws.{FrontKept, front-kept, front-usable, front-job}
 use Rattle.checking.proofs.JobHeldLaws.{finals-read, usable-read, job-read}
+use Rattle.checking.proofs.AnswerReadLaws.{turned-read, accepted-read}
 
 -- ---- the answer for a job
 
@@ -204,7 +206,7 @@ left-judged j plan work =
     go false b c = refl
 
 -- buffers that differ in the bytes that a call may use are cleared to the same
-cleared-outside : (l m : List ℕ) → SameOutside l m 0 65536 → cleared m ≡ cleared l
+pub cleared-outside : (l m : List ℕ) → SameOutside l m 0 65536 → cleared m ≡ cleared l
 cleared-outside l m s = cleared-same l m (s .long) (λ k h. s .outside k (inr h))
 
 -- so is what the reader leaves, and what it was given
@@ -212,54 +214,34 @@ pub cleared-rest : (l m : List ℕ) → SameRest l m → cleared m ≡ cleared l
 cleared-rest l m s = cleared-same l m (s .long) (λ k h. s .outside k (inr (omega arith)))
 
 module _ (file l m : List ℕ) (r : Head) (short : length file ≤ maxFile) (read : JobRead (readJob file) l m r) where
-  -- the reader's number is that of the answer
-  number-read : (a : Answer) → readJob file ≡ a → r .refusal ≡ headOfAnswer a .refusal
-  number-read a e = ap (λ (h : Head). h .refusal) (read .exact ∙ ap headOfAnswer e)
-
   -- a number is the answer's refusal, and the buffer is cleared
   pub read-refused
       : (plan : List ℕ) → (r .refusal ≡ 0 → ⊥)
       → (Refused (r .refusal) ≡ answered (readJob file) plan) × (refusedLeft (r .refusal) l ≡ cleared l)
-  read-refused plan h = go (readJob file) refl
-    where
-      go
-          : (a : Answer) → readJob file ≡ a
-          → (Refused (r .refusal) ≡ answered (readJob file) plan) × (refusedLeft (r .refusal) l ≡ cleared l)
-      go (accepted j) e = absurd (h (number-read (accepted j) e))
-      go (turned k) e = (
-        ap Refused (number-read (turned k) e) ∙ sym (ap (λ (a : Answer). answered a plan) e),
-        ap (λ (n : ℕ). refusedLeft n l) (number-read (turned k) e) ∙ left-past k l (turned-past short (turned-says file k .0 e)),
+  read-refused plan h =
+      let e = turned-read file l m r read h in (
+        sym (ap (λ (a : Answer). answered a plan) e),
+        left-past (r .refusal) l (turned-past short (turned-says file (r .refusal) .0 e)),
       )
-
-  -- 0 is that of a job
-  read-accepted : r .refusal ≡ 0 → (j : Job) × (readJob file ≡ accepted j)
-  read-accepted h = go (readJob file) refl
-    where
-      go : (a : Answer) → readJob file ≡ a → (j : Job) × (readJob file ≡ accepted j)
-      go (accepted j) e = (j, e)
-      go (turned k) e =
-          let past : 3 ≤ k = turned-past short (turned-says file k .0 e) in
-          let same : r .refusal ≡ k = number-read (turned k) e in
-          absurd (omega arith)
 
   -- the final set has sixteen bits
   pub finals-fit : r .refusal ≡ 0 → r .finals < 2 ^ 16
   finals-fit h =
-      let a = read-accepted h in
+      let a = accepted-read file l m r read h in
       let rule = job-read file l m r read (a .0) (a .1) .formed .rule in
       subst (λ (s : ℕ). s < 2 ^ 16) (sym (finals-read file l m r read (a .0) (a .1)))
       (members-below 16 (a .0 .rule .finals) (λ q g. lt-of-lt-of-le (rule .finals-below q g) (rule .few-states)))
 
   -- the buffer is as the searches need it
   pub read-usable : r .refusal ≡ 0 → 65536 ≤ length m → Usable m (ruleIn m) (r .states) (r .nodes)
-  read-usable h long = let a = read-accepted h in usable-read file l m r read (a .0) (a .1) long
+  read-usable h long = let a = accepted-read file l m r read h in usable-read file l m r read (a .0) (a .1) long
 
   -- the answer for the buffer's job is the file's, and the buffer is cleared
   pub read-judged
       : (plan k : List ℕ) (v : Verdict) → r .refusal ≡ 0 → Judged (ruleIn m) (r .finals) (r .states) (r .nodes) plan m k v
       → (v ≡ answered (readJob file) plan) × (cleared k ≡ workLeft v l)
   read-judged plan k v h g =
-      let a = read-accepted h in
+      let a = accepted-read file l m r read h in
       let same : v ≡ judged (a .0) plan = g .exact (a .0) (job-read file l m r read (a .0) (a .1)) in (
         same ∙ sym (ap (λ (x : Answer). answered x plan) (a .1)),
         cleared-outside m k (g .kept)

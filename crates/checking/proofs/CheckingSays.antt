@@ -18,7 +18,7 @@ use Rattle.job.specs.Search.{faithful}
 use Rattle.job.proofs.Decide.{faithful-says, different-says}
 use Rattle.jobfile.specs.File.{Answer, accepted, turned, maxFile, readJob}
 use Rattle.jobfile.proofs.SpellableLaws.{read-written}
-use Rattle.reader.specs.Layout.{workSize}
+use Rattle.joblines.specs.Layout.{workSize}
 use Rattle.checking.specs.declared.check.Verdict.{Verdict}
 use Rattle.checking.specs.declared.check.Verdict.the-variants.{Faithful, Different, Refused}
 use Rattle.checking.specs.Checking.{goodMark, judged, answered, checked}

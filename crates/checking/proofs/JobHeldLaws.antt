@@ -17,8 +17,9 @@ use Rattle.job.specs.Job.{Job, noNode, nodeAt, leads}
 use Rattle.jobfile.specs.File.{accepted, readJob}
 use Rattle.jobfile.specs.Spellable.{Spellable}
 use Rattle.jobfile.proofs.SpellableLaws.{read-written}
-use Rattle.reader.specs.declared.head.Head.{Head}
-use Rattle.reader.specs.Layout.{nodeIn, startIn, targetIn, cellIn, ruleIn, tableIn, jobIn}
+use Rattle.joblines.specs.declared.head.Head.{Head}
+use Rattle.joblines.specs.Layout.{nodeIn, startIn, targetIn, cellIn, tableIn, jobIn}
+use Rattle.reader.specs.Rule.{ruleIn}
 use Rattle.reader.specs.Reading.{headOfAnswer, JobRead}
 use Rattle.reader.proofs.TableLaws.{rule-cell}
 use Rattle.tables.specs.Rows.{CellsBelow}

@@ -2,6 +2,7 @@
 -- Assumes nothing.
 pub mod EdgeIndexLaws
 pub mod JobHeldLaws
+pub mod AnswerReadLaws
 pub mod PlanLaws
 pub mod CheckLaws
 pub mod CheckingSays

@@ -11,7 +11,7 @@ use lib.Dec.{eqb, leb}
 use lib.ListN.{length, getD, set}
 use lib.Seq.{getD-set-same, getD-set-other}
 use Rattle.job.specs.Job.{Kind, plain, event, call}
-use Rattle.reader.proofs.KeptLaws.{kept-none, kept-both, kept-set}
+use Rattle.joblines.proofs.KeptLaws.{kept-none, kept-both, kept-set}
 use Rattle.tables.specs.Rows.{isEvent}
 use Rattle.tables.specs.Tables.{planPart}
 use Rattle.checking.specs.Checking.{goodMark, PlanStored}

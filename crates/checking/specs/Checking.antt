@@ -10,7 +10,7 @@ use Rattle.laws.specs.Bounded.{allBelow}
 use Rattle.job.specs.Job.{Kind, plain, event, call, Job, nodeAt}
 use Rattle.job.specs.Search.{faithful}
 use Rattle.jobfile.specs.File.{Answer, accepted, turned, maxFile, readJob}
-use Rattle.reader.specs.Layout.{workSize, cleared, SameOutside}
+use Rattle.joblines.specs.Layout.{workSize, cleared, SameOutside}
 use Rattle.checking.specs.declared.check.Verdict.{Verdict}
 use Rattle.checking.specs.declared.check.Verdict.the-variants.{Faithful, Different, Refused}
 use Rattle.tables.specs.Tables.{planPart}

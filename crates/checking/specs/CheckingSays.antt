@@ -8,7 +8,7 @@ use lib.ListN.{length, getD}
 use Rattle.job.specs.Job.{Kind, event, Job, nodeAt}
 use Rattle.job.specs.Plan.{enables, Faithful as FaithfulPlan, Different as DifferentPlan}
 use Rattle.jobfile.specs.File.{accepted, maxFile, readJob}
-use Rattle.reader.specs.Layout.{workSize}
+use Rattle.joblines.specs.Layout.{workSize}
 use Rattle.checking.specs.declared.check.Verdict.the-variants.{Faithful, Different}
 use Rattle.checking.specs.Checking.{checked}
 

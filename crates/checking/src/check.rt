@@ -1,14 +1,14 @@
 // The plan check: a job file, somebody's plan and a work buffer in; faithful, different or a refusal out.
 ghost use mathlib.Core.Path.{_≡_};
 ghost use lib.ListN.{length};
-ghost use Rattle.reader.specs.Layout.{ruleIn};
+ghost use Rattle.reader.specs.Rule.{ruleIn};
 ghost use Rattle.tables.specs.Held.{Usable};
 ghost use Rattle.checking.specs.Checking.{checked, workLeft, Judged};
 use super::plan::is_plan;
 use super::plan::store_plan;
 use classes::backwards::after_words;
+use joblines::layout::WORK;
 use reader::clear::clear;
-use reader::layout::WORK;
 use reader::read::LONGEST;
 use reader::read::read_job;
 use reader::table::table_in;

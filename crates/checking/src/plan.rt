@@ -3,7 +3,7 @@ ghost use mathlib.Core.Path.{_≡_};
 ghost use Prim.Native.Nat.{_<_, _≤_};
 ghost use lib.ListN.{length, getD};
 ghost use Rattle.laws.specs.Bounded.{allBelow};
-ghost use Rattle.reader.specs.Layout.{nodeIn};
+ghost use Rattle.joblines.specs.Layout.{nodeIn};
 ghost use Rattle.checking.specs.Checking.{goodMark, PlanStored};
 use tables::places::is_shadow;
 

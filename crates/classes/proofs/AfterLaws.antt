@@ -13,8 +13,8 @@ use Rattle.laws.proofs.Bits.{has-empty}
 use Rattle.automaton.specs.Automaton.{Automaton}
 use Rattle.job.specs.Job.{Node, Job, nodeAt}
 use Rattle.job.specs.Words.{WordApart, apart-here, apart-later}
-use Rattle.reader.specs.Layout.{nodeIn, SameOutside}
-use Rattle.reader.proofs.KeptLaws.{kept-none, kept-both, node-kept}
+use Rattle.joblines.specs.Layout.{nodeIn, SameOutside}
+use Rattle.joblines.proofs.KeptLaws.{kept-none, kept-both, node-kept}
 use Rattle.tables.specs.Tables.{classPart, classRowIn, HeldApart, Zeroed}
 use Rattle.tables.specs.Held.{JobHeld}
 use Rattle.classes.specs.Backwards.{RuleHeld, WordsClosed, AfterWords}

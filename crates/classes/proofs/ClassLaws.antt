@@ -25,8 +25,8 @@ use Rattle.job.proofs.Decide.{apart-at}
 use Rattle.job.proofs.Rules.{apart-true, apart-false}
 use Rattle.job.proofs.Nodes.{NoEvent, plain-no-event, call-no-event, BeforeNode, before-silent, before-event, event-splits}
 use Rattle.job.proofs.Nodes.{NodeBackwards, node-backwards, before-apart, word-apart}
-use Rattle.reader.specs.Layout.{nodeIn, startIn, targetIn, SameOutside}
-use Rattle.reader.proofs.KeptLaws.{kept-none, kept-both, number-kept}
+use Rattle.joblines.specs.Layout.{nodeIn, startIn, targetIn, SameOutside}
+use Rattle.joblines.proofs.KeptLaws.{kept-none, kept-both, number-kept}
 use Rattle.tables.specs.Rows.{CellsBelow, unlikeStates, preimageOf, callSet, isEvent}
 use Rattle.tables.specs.Tables.{classPart, classRowIn, EdgeIn, HeldApart, apartLeft, ApartGrown}
 use Rattle.tables.specs.Held.{EdgesWithin, Usable, JobHeld, AfterHeld}

@@ -22,8 +22,8 @@ use Rattle.job.specs.Words.{WordApart, apart-here, apart-later}
 use Rattle.job.specs.Search.{unlike}
 use Rattle.job.specs.Found.{setOf}
 use Rattle.job.proofs.FoundLaws.{has-set-of}
-use Rattle.reader.specs.Layout.{SameOutside}
-use Rattle.reader.proofs.KeptLaws.{kept-none, kept-both}
+use Rattle.joblines.specs.Layout.{SameOutside}
+use Rattle.joblines.proofs.KeptLaws.{kept-none, kept-both}
 use Rattle.tables.specs.Rows.{CellsBelow, unlikeStates, preimageOf}
 use Rattle.tables.specs.Tables.{classPart, classRowIn, HeldApart, ApartGrown}
 use Rattle.classes.specs.Backwards.{RuleHeld, apartBy, wordRow, WordsGrown, WordsClosed}

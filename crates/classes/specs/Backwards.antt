@@ -14,7 +14,7 @@ use Rattle.job.specs.Job.{Job}
 use Rattle.job.specs.Words.{WordApart}
 use Rattle.job.specs.Search.{apart}
 use Rattle.job.specs.Found.{setOf}
-use Rattle.reader.specs.Layout.{SameOutside}
+use Rattle.joblines.specs.Layout.{SameOutside}
 use Rattle.tables.specs.Rows.{unlikeStates}
 use Rattle.tables.specs.Tables.{classPart, pairRowIn, classRowIn, HeldApart, apartLeft}
 use Rattle.tables.specs.Held.{JobHeld, AfterHeld}

@@ -10,7 +10,7 @@ use Rattle.laws.specs.Bits.{has}
 use Rattle.automaton.specs.Automaton.{cell}
 use Rattle.job.specs.Job.{Kind, plain, event, call, Job}
 use Rattle.job.specs.Found.{Apart}
-use Rattle.reader.specs.Layout.{nodeIn, SameOutside}
+use Rattle.joblines.specs.Layout.{nodeIn, SameOutside}
 use Rattle.tables.specs.Rows.{unlikeStates, preimageOf, callSet}
 use Rattle.tables.specs.Tables.{classPart, classRowIn, EdgeIn, HeldApart, apartLeft}
 use Rattle.tables.specs.Held.{JobHeld}

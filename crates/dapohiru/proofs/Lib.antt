@@ -2,3 +2,7 @@
 -- Assumes nothing.
 pub mod EventLaws
 pub mod RunLaws
+pub mod PromiseLaws
+pub mod FormLaws
+pub mod CallsLaws
+pub mod Promise

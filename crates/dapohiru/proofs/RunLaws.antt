@@ -8,7 +8,7 @@ use lib.ListN.{take, drop, take-append-drop}
 use Rattle.monitor.specs.Run.{isEvent, RefusedStandApart}
 use Rattle.monitor.specs.declared.step.Report.{Report}
 use Rattle.monitor.specs.declared.step.Report.the-variants.{Quiet, Alarm, Refused}
-use Rattle.monitor.proofs.RunLaws.{refused-stand-apart}
+use Rattle.monitor.proofs.RunLaws.{RefusalKeeps, refused-stand-apart}
 use Rattle.dapohiru.specs.Event.{leftBy, recordLeft}
 use Rattle.dapohiru.specs.Run.{ByteCall, lent, takenOn, byteForm}
 
@@ -18,12 +18,14 @@ left-refused Quiet old new e = absurd (true≢false e)
 left-refused Alarm old new e = absurd (true≢false e)
 left-refused (Refused k) old new e = refl
 
--- the event step across the C call
-pub bytes-refused-stand-apart : RefusedStandApart byteForm
-bytes-refused-stand-apart =
-    refused-stand-apart byteForm
-    (λ c held e.
+-- a refused call leaves every byte that is held
+pub bytes-refusal-keeps : RefusalKeeps byteForm
+bytes-refusal-keeps c held e =
     ap (λ (l : List ℕ). take (c .start) held ++ (l ++ drop (c .count) (drop (c .start) held)))
     (left-refused (takenOn c held .report) (lent c held) _ e)
     ∙ ap (λ (l : List ℕ). take (c .start) held ++ l) (take-append-drop (c .count) (drop (c .start) held))
-    ∙ take-append-drop (c .start) held)
+    ∙ take-append-drop (c .start) held
+
+-- the event step across the C call
+pub bytes-refused-stand-apart : RefusedStandApart byteForm
+bytes-refused-stand-apart = refused-stand-apart byteForm bytes-refusal-keeps

@@ -2,3 +2,4 @@
 -- Assumes nothing.
 pub mod Event
 pub mod Run
+pub mod Promise

@@ -26,14 +26,18 @@ lent c held = take (c .count) (drop (c .start) held)
 abbrev pub takenOn : ByteCall → List ℕ → Taken
 takenOn c held = eventTaken (c .rule) (c .states) (c .symbols) (c .finals) (c .symbol) (lent c held)
 
--- the form across the C call: the answer is the number returned, and the bytes that are not lent stay
+-- the bytes after a call: those that are not lent stay
+abbrev pub bytesLeft : ByteCall → List ℕ → List ℕ
+bytesLeft c held = take (c .start) held ++ (recordLeft (lent c held) (takenOn c held) ++ drop (c .count) (drop (c .start) held))
+
+-- the form across the C call: the answer is the number returned
 abbrev pub byteForm : Form
 byteForm =
     record {
       Call = ByteCall;
       Held = List ℕ;
       report = λ c held. takenOn c held .report;
-      left = λ c held. take (c .start) held ++ (recordLeft (lent c held) (takenOn c held) ++ drop (c .count) (drop (c .start) held));
+      left = bytesLeft;
       Answer = ℕ;
       answerOf = numberOf;
     }

@@ -460,19 +460,19 @@ plainCalls m [] = []
 plainCalls m (e ∷ es) = walked e m m ∷ plainCalls m es
 
 -- they have these events
-plain-events : (m : Automaton) (es : List Event) → eventsIn (plainCalls m es) ≡ es
+pub plain-events : (m : Automaton) (es : List Event) → eventsIn (plainCalls m es) ≡ es
 unfolding eventsIn plainCalls
 plain-events m [] = refl
 plain-events m (e ∷ es) = ap (λ (l : List Event). e ∷ l) (plain-events m es)
 
 -- they are proper
-plain-proper : (m : Automaton) (w : Enabling) (t : Two) (es : List Event) → Proper m w t (plainCalls m es)
+pub plain-proper : (m : Automaton) (w : Enabling) (t : Two) (es : List Event) → Proper m w t (plainCalls m es)
 unfolding afterCall Proper plainCalls
 plain-proper m w t [] = tt
 plain-proper m w t (e ∷ es) = (same-rule-refl m, same-rule-refl m, plain-proper m w (afterCall w t (walked e m m)) es)
 
 -- on every walk of every job, from every total, there are calls: its events with the job's own rule
-pub calls-exist : (j : Job) (plan : List ℕ) (s : Start j) (k : WalkFrom j s) (total : ℕ) → CallsOn j plan s k total
+unfoldable pub calls-exist : (j : Job) (plan : List ℕ) (s : Start j) (k : WalkFrom j s) (total : ℕ) → CallsOn j plan s k total
 calls-exist j plan s k total =
     record {
       calls = plainCalls (j .rule) (k .events);

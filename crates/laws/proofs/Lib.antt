@@ -8,3 +8,4 @@ pub mod Walk
 pub mod Count
 pub mod Sets
 pub mod Bytes
+pub mod Parts

@@ -6,4 +6,3 @@ pub mod LinesLaws
 pub mod SpelledField
 pub mod SpelledLine
 pub mod SpelledLines
-pub mod WriteLaws

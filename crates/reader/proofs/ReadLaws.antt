@@ -15,17 +15,17 @@ use borrow.Author.Tests.{eq-eqb, ne-eqb, lt-ltb, le-ltb}
 use Rattle.laws.specs.Bounded.{sumBelow, tab, tabFrom}
 use Rattle.laws.proofs.Bounded.{length-tab}
 use Rattle.job.specs.Job.{Job}
-use Rattle.reader.specs.declared.head.Head.{Head}
+use Rattle.joblines.specs.declared.head.Head.{Head}
 use Rattle.lines.specs.declared.line.Collected.{Collected}
 use Rattle.lines.specs.Line.{lineLength, at}
 use Rattle.lines.specs.Lines.{Kind, Lines, lines, refused, linesOf}
 use Rattle.jobfile.specs.File.{maxFile, headLine, ruleLine, nodeLine, edgeLine, ruleOf, nodeOf, edgeOf, someEntry, Answer, accepted, turned, atEnd, readRest, readJob}
-use Rattle.reader.specs.Layout.{startsPart, targetsEnd, rulePart, ruleEnd, nodeIn, cellIn, jobIn, SameOutside}
+use Rattle.joblines.specs.Layout.{startsPart, targetsEnd, rulePart, ruleEnd, nodeIn, cellIn, jobIn, SameOutside}
 use Rattle.lines.specs.Places.{numbersAt, refusalIn, LinesRead}
-use Rattle.reader.specs.Reading.{refusedHead, SameRest, JobRead, FileRead}
-use Rattle.reader.specs.ReadLines.{headNumbers, headIn, HeadRead, RulesRead, NodesRead, EdgesRead}
+use Rattle.reader.specs.Reading.{SameRest, JobRead, FileRead}
+use Rattle.joblines.specs.ReadLines.{refusedHead, headNumbers, headIn, HeadRead, RulesRead, NodesRead, EdgesRead}
 use Rattle.lines.proofs.LinesLaws.{lines-all, passed-length}
-use Rattle.reader.proofs.KeptLaws.{node-kept}
+use Rattle.joblines.proofs.KeptLaws.{node-kept}
 use Rattle.reader.proofs.JobLaws.{map-tab, table-same, cell-past, nodes-same, entries-test, starts-ascend, edges-same}
 
 -- ---- the buffer

@@ -11,7 +11,8 @@ use Rattle.laws.specs.Bounded.{tab}
 use Rattle.laws.proofs.Bounded.{getD-tab}
 use Rattle.automaton.specs.Automaton.{cell}
 use Rattle.automaton.specs.Table.{rowOf, tableOf}
-use Rattle.reader.specs.Layout.{rulePart, cellIn, ruleIn, tableIn, HandsOverRule}
+use Rattle.joblines.specs.Layout.{rulePart, cellIn, tableIn}
+use Rattle.reader.specs.Rule.{ruleIn, HandsOverRule}
 
 -- a cell of a table of bytes
 table-cell : (l : List ℕ) (q a : ℕ) → q < 16 → a < 16 → cell (tableOf l) q a ≡ getD l (q * 16 + a) 0

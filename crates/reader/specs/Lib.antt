@@ -1,5 +1,4 @@
--- The job in the work buffer, what reading a file leaves, and what reading its lines does.
+-- What reading a file leaves, and the rule that it hands over.
 -- Assumes nothing.
-pub mod Layout
 pub mod Reading
-pub mod ReadLines
+pub mod Rule

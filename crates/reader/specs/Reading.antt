@@ -7,12 +7,9 @@ use Prim.Native.Nat.{ℕ, suc, _≤_, _<_}
 use lib.ListN.{length, getD}
 use Rattle.job.specs.Job.{Job}
 use Rattle.jobfile.specs.File.{Answer, accepted, turned, readJob, maxFile}
-use Rattle.reader.specs.declared.head.Head.{Head}
-use Rattle.reader.specs.Layout.{targetsEnd, rulePart, ruleEnd, startIn, cellIn, jobIn}
-
--- "every number it returns beside its own number is zero"
-abbrev pub refusedHead : ℕ → Head
-refusedHead k = record { refusal = k; states = 0; symbols = 0; finals = 0; nodes = 0; edges = 0 }
+use Rattle.joblines.specs.declared.head.Head.{Head}
+use Rattle.joblines.specs.ReadLines.{refusedHead}
+use Rattle.joblines.specs.Layout.{targetsEnd, rulePart, ruleEnd, startIn, cellIn, jobIn}
 
 -- the numbers of an answer
 abbrev pub headOfAnswer : Answer → Head

@@ -2,8 +2,8 @@
 ghost use mathlib.Core.Path.{_≡_};
 ghost use Prim.Native.Nat.{_≤_};
 ghost use lib.ListN.{length};
-ghost use Rattle.reader.specs.Layout.{workSize, cleared};
-use super::layout::WORK;
+ghost use Rattle.joblines.specs.Layout.{workSize, cleared};
+use joblines::layout::WORK;
 
 // Makes the first 65,536 bytes zero and leaves the rest.
 pub fn clear(work: &mut [u8])

@@ -1,9 +1,4 @@
 // Reading a job file into the work buffer.
-pub mod clear;
-pub mod edge;
-pub mod head;
-pub mod layout;
-pub mod node;
-pub mod read;
-pub mod rule;
-pub mod table;
+pub mod clear; // clear.rt: clearing the buffer
+pub mod read; // read.rt: the whole file
+pub mod table; // table.rt: the rule out of the buffer

@@ -5,14 +5,14 @@ ghost use Prim.Native.Nat.{_≤_};
 ghost use lib.ListN.{length, drop};
 ghost use Rattle.lines.specs.Line.{lineLength};
 ghost use Rattle.jobfile.specs.File.{readRest};
-ghost use Rattle.reader.specs.Layout.{workSize};
+ghost use Rattle.joblines.specs.Layout.{workSize};
 ghost use Rattle.reader.specs.Reading.{JobRead, FileRead};
-use super::edge::edge_lines;
-use super::head::Head;
-use super::head::head_line;
-use super::head::turned_back;
-use super::node::node_lines;
-use super::rule::rule_lines;
+use joblines::edge::edge_lines;
+use joblines::head::Head;
+use joblines::head::head_line;
+use joblines::head::turned_back;
+use joblines::node::node_lines;
+use joblines::rule::rule_lines;
 
 // The bytes of the longest file.
 pub const LONGEST: usize = 49914;

@@ -2,9 +2,10 @@
 ghost use mathlib.Core.Path.{_≡_};
 ghost use Prim.Native.Nat.{_≤_};
 ghost use lib.ListN.{length};
-ghost use Rattle.reader.specs.Layout.{workSize, ruleIn};
-use super::layout::RULE;
-use super::layout::RULE_END;
+ghost use Rattle.joblines.specs.Layout.{workSize};
+ghost use Rattle.reader.specs.Rule.{ruleIn};
+use joblines::layout::RULE;
+use joblines::layout::RULE_END;
 
 // The sixteen rows of sixteen next states that the buffer holds.
 pub fn table_in(work: &[u8]) -> [[u8; 16]; 16]

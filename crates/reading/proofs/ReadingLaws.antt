@@ -9,9 +9,9 @@ use native.Mathlib.Omega.{arith}
 use lib.ListN.{length}
 use borrow.Author.Tests.{lt-ltb, le-ltb}
 use Rattle.jobfile.specs.File.{Answer, accepted, turned, maxFile, readJob}
-use Rattle.reader.specs.Layout.{workSize, cleared}
+use Rattle.joblines.specs.Layout.{workSize, cleared}
 use Rattle.reader.specs.Reading.{headOfAnswer, FileRead}
-use Rattle.reader.specs.declared.head.Head.{Head}
+use Rattle.joblines.specs.declared.head.Head.{Head}
 use Rattle.reader.proofs.ClearLaws.{cleared-same}
 use Rattle.jobfile.specs.Refusal.{TurnedBack, RefusalNumber}
 use Rattle.jobfile.proofs.RefusalLaws.{turned-says}

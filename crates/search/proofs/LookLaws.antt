@@ -7,6 +7,7 @@ use mathlib.Core.List.{List}
 use Prim.Native.Nat.{ℕ, _%_, _^_, _≤_, _<_}
 use native.Mathlib.Nat.{mod-eq-of-lt}
 use native.Mathlib.Omega.{arith}
+use borrow.Author.Tests.{eqb-true, eqb-false}
 use lib.Dec.{eqb}
 use lib.ListN.{length}
 use lib.Bits.{bitAnd}
@@ -16,15 +17,15 @@ use Rattle.laws.proofs.Tests.{fails-of}
 use Rattle.automaton.specs.Automaton.{next, final, cell}
 use Rattle.job.specs.Job.{event, call, Job, Node, nodeAt}
 use Rattle.job.specs.Plan.{Enabling, full, enables}
-use Rattle.reader.specs.Layout.{nodeIn}
+use Rattle.joblines.specs.Layout.{nodeIn}
 use Rattle.tables.specs.declared.moves.Past.{Past}
-use Rattle.tables.specs.Rows.{CellsBelow, pastRow, callSet, isEvent}
-use Rattle.tables.specs.Tables.{pairRowIn, classRowIn, enabledIn, EdgeIn, Held}
-use Rattle.tables.specs.Held.{EdgesWithin, JobHeld, PlanHeld}
-use Rattle.search.specs.Looking.{JoinedPast, WordFrom, Spread, pastNode, Follows, over-edge, by-word}
-use Rattle.search.specs.Looking.{ClosedPair, SplitPair, split-point, split-call, split-exit, LookedAt}
+use Rattle.tables.specs.Rows.{CellsBelow, meets, pastRow, callSet, isEvent}
+use Rattle.tables.specs.Tables.{pairRowIn, classRowIn, enabledIn, Held}
+use Rattle.tables.specs.Held.{JobHeld, PlanHeld}
+use Rattle.search.specs.Looking.{WordFrom, Spread, pastNode, Follows, by-word}
+use Rattle.search.specs.Looking.{AlikePair, SplitPair, split-point, split-call, split-exit, LookedAt}
 use Rattle.tables.proofs.RowLaws.{meets-says, meets-none}
-use Rattle.tables.proofs.KeptLaws.{grown-none, grown-both, node-same, class-same, enabled-same, edge-same}
+use Rattle.tables.proofs.KeptLaws.{grown-none, node-same, class-same, enabled-same}
 use Rattle.search.proofs.SpreadLaws.{apart-meets, some-meets}
 use Rattle.search.proofs.PastLaws.{call-of, event-small, call-small, PastSays, past-says, past-state}
 
@@ -36,7 +37,6 @@ pub record RowRead (table : List (List ℕ)) (l : List ℕ) (n p s set : ℕ) : 
   pub node : n < 512
   pub row : p < 16
   pub cells : CellsBelow table
-  pub within : EdgesWithin l n
   pub short : s < 2 ^ 16
   pub some : 0 < s
   pub row-is : s ≡ pairRowIn l n p
@@ -193,80 +193,72 @@ module _ {table : List (List ℕ)} {finals : ℕ} {l m : List ℕ} {n p s set : 
         split-exit (rw (← moved-says .one, ← f .2, ← same) (t .1)),
       )
 
-  -- a pair that is joined past the node follows
-  edge-follows
-      : (k r t : ℕ) → EdgeIn m n k × ((r ≡ past .state) × (has (past .set) t ≡ true))
-      → (q : ℕ) × Held l n p q × Follows j (enables plan) n p q k r t
-  edge-follows k r t (edge, (one, h)) =
-      let f = moved-says .from t h in
-      let g : Follows j (enables plan) n p (f .0) k (pastNode j full n p) (pastNode j (enables plan) n (f .0)) =
-      over-edge
-      (held .edges n k inside .1
-      (edge-same (moved .spread .grown .kept) n k (moved .read .node) (moved .read .within) .1 edge)) in (
-        f .0,
-        row-held (moved .read) held inside (f .0) (f .1),
-        subst (λ (x : ℕ). Follows j (enables plan) n p (f .0) k x t) (sym (one ∙ moved-says .one))
-            (subst (λ (x : ℕ). Follows j (enables plan) n p (f .0) k (pastNode j full n p) x) (sym (f .2)) g),
-      )
+  -- a pair of the row has its place past the node
+  pair-past
+      : (q : ℕ) → Held l n p q → (past .state ≡ pastNode j full n p) × (has (past .set) (pastNode j (enables plan) n q) ≡ true)
+  pair-past q h = (moved-says .one, moved-says .here q (held-row (moved .read) held inside q h))
 
-  -- where nothing splits, every pair of the row is closed
-  row-closed
-      : (k : List ℕ) (row : ℕ) → past .differs ≡ false → row ≡ classRowIn m n (past .state) → bitAnd row (past .set) ≡ 0
-      → past .state < 16 → JoinedPast m k n (past .state) (past .set) → (q : ℕ) → Held l n p q
-      → ClosedPair j (enables plan) k n p q
-  row-closed k row quiet is none small joined q h =
-      let g = held-row (moved .read) held inside q h in
-      let there : has (past .set) (pastNode j (enables plan) n q) ≡ true = moved-says .here q g in
-      record {
-        edges = λ i e.
-            rw (← moved-says .one)
-            (joined .here i (pastNode j (enables plan) n q)
-            (edge-same (moved .spread .grown .kept) n i (moved .read .node) (moved .read .within) .0
-            (held .edges n i inside .0 e))
-            there);
-        words = λ t a kind of.
-            joined .grown .held n (next (j .rule) p a) (next (j .rule) q a) (moved .read .node)
-            (rw (← held .cells p a (moved .read .row) (call-small n t a (held .formed) kind of))
-            (moved .read .cells p a (moved .read .row) (call-small n t a (held .formed) kind of)))
-            (word-held (moved .read) held inside m (moved .spread) q h t a kind of);
-        at-point = λ a kind. moved-says .alike quiet a kind q g;
-        at-call = word-alike (moved .read) held inside m (moved .spread) q h;
-        at-exit =
-            fails-of (has (classRowIn k n (pastNode j full n p)) (pastNode j (enables plan) n q))
-            (λ e.
-            true≢false
-            (sym there
-            ∙ meets-none row (past .set) (pastNode j (enables plan) n q) (apart-meets row (past .set) none)
-            (rw (is, ← class-same (joined .grown .kept) n (past .state) (moved .read .node) small, moved-says .one) e)));
-      }
+  -- and every state of the row past the node comes from one
+  past-pair
+      : (t : ℕ) → has (past .set) t ≡ true
+      → (q : ℕ) × Held l n p q × ((past .state ≡ pastNode j full n p) × (t ≡ pastNode j (enables plan) n q))
+  past-pair t h =
+      let f = moved-says .from t h in
+      (f .0, row-held (moved .read) held inside (f .0) (f .1), (moved-says .one, f .2))
+
+  -- where nothing splits, the monitors alarm alike
+  row-alike
+      : (row : ℕ) → past .differs ≡ false → row ≡ classRowIn m n (past .state) → bitAnd row (past .set) ≡ 0
+      → (q : ℕ) → Held l n p q → AlikePair j (enables plan) m n p q
+  row-alike row quiet is none q h = record {
+    words = word-held (moved .read) held inside m (moved .spread) q h;
+    at-point = λ a kind. moved-says .alike quiet a kind q (held-row (moved .read) held inside q h);
+    at-call = word-alike (moved .read) held inside m (moved .spread) q h;
+    at-exit =
+        fails-of (has (classRowIn m n (pastNode j full n p)) (pastNode j (enables plan) n q))
+        (λ e.
+        true≢false
+        (sym (pair-past q h .1)
+        ∙ meets-none row (past .set) (pastNode j (enables plan) n q) (apart-meets row (past .set) none)
+        (rw (is, moved-says .one) e)));
+  }
 
 -- ---- the returns of the code
 
 -- an empty row has no pair
 pub look-empty
-    : (table : List (List ℕ)) (finals : ℕ) (l : List ℕ) (n p s : ℕ) → s ≡ pairRowIn l n p → s ≡ 0
-    → LookedAt table finals l l n p false
-look-empty table finals l n p s is none = record {
+    : (table : List (List ℕ)) (finals : ℕ) (l : List ℕ) (n p s : ℕ) → p < 16 → s ≡ pairRowIn l n p → s ≡ 0
+    → LookedAt table finals l l n p (record { state = p; set = 0; differs = false })
+look-empty table finals l n p s small is none = record {
   grown = grown-none l;
+  small = small;
   exact = λ j plan states nodes held planned inside. record {
     new = λ k r t a b h. inl h;
-    closed = λ e q h. absurd (true≢false (sym h ∙ ap (λ (x : ℕ). has x q) (sym is ∙ none) ∙ has-empty q));
+    alike = λ e q h. absurd (no-pair q h);
+    here = λ e q h. absurd (no-pair q h);
+    from = λ e t h. absurd (true≢false (sym h ∙ has-empty t));
     split = λ e. absurd (false≢true e);
   };
 }
+  where
+    no-pair : (q : ℕ) → Held l n p q → ⊥
+    no-pair q h = true≢false (sym h ∙ ap (λ (x : ℕ). has x q) (sym is ∙ none) ∙ has-empty q)
 
 -- a pair splits after the call word, or in it
 look-split
     : {table : List (List ℕ)} {finals : ℕ} {l m : List ℕ} {n p s set : ℕ} {differs : Bool} → RowRead table l n p s set
-    → Spread table finals l m n p s set differs
+    → Spread table finals l m n p s set differs → (past : Past) → past .state < 16 → past .differs ≡ true
     → ((j : Job) (plan : List ℕ) (states nodes : ℕ) → JobHeld j l table finals states nodes → PlanHeld plan l nodes → n < nodes
     → (q : ℕ) × Held l n p q × SplitPair j (enables plan) l n p q)
-    → LookedAt table finals l m n p true
-look-split {m = m} {differs = differs} read spread splits = record {
+    → LookedAt table finals l m n p past
+look-split {m = m} {differs = differs} read spread past small told splits = record {
   grown = spread .grown;
+  small = small;
   exact = λ j plan states nodes held planned inside. record {
     new = word-new read held inside (enables plan) m differs spread;
-    closed = λ e. absurd (true≢false e);
+    alike = λ e. absurd (true≢false (sym told ∙ e));
+    here = λ e. absurd (true≢false (sym told ∙ e));
+    from = λ e. absurd (true≢false (sym told ∙ e));
     split = λ e. splits j plan states nodes held planned inside;
   };
 }
@@ -274,9 +266,10 @@ look-split {m = m} {differs = differs} read spread splits = record {
 -- a symbol of the call word alarms differently
 pub look-word
     : {table : List (List ℕ)} {finals : ℕ} {l m : List ℕ} {n p s set : ℕ} → RowRead table l n p s set
-    → Spread table finals l m n p s set true → LookedAt table finals l m n p true
+    → Spread table finals l m n p s set true → LookedAt table finals l m n p (record { state = p; set = 0; differs = true })
 look-word {m = m} read spread =
-    look-split read spread (λ j plan states nodes held planned inside. word-splits read held inside (enables plan) m spread)
+    look-split read spread _ (read .row) refl
+    (λ j plan states nodes held planned inside. word-splits read held inside (enables plan) m spread)
 
 module _ {table : List (List ℕ)} {finals : ℕ} {l m : List ℕ} {n p s set : ℕ} {past : Past}
     (moved : RowMoved table finals l m n p s set past) where
@@ -292,31 +285,32 @@ module _ {table : List (List ℕ)} {finals : ℕ} {l m : List ℕ} {n p s set : 
       (moved .enabled))
 
   -- the node's own event alarms differently
-  pub look-point : past .differs ≡ true → LookedAt table finals l m n p true
+  pub look-point : past .differs ≡ true → LookedAt table finals l m n p (record { state = p; set = 0; differs = true })
   look-point differs =
-      look-split (moved .read) (moved .spread)
+      look-split (moved .read) (moved .spread) _ (moved .read .row) refl
       (λ j plan states nodes held planned inside. point-splits moved held plan planned inside differs)
 
-  -- an after word does
+  -- an after word does, or nothing does: the code's last test says which
   pub look-exit
-      : (row : ℕ) → row ≡ classRowIn m n (past .state) → (bitAnd row (past .set) ≡ 0 → ⊥) → LookedAt table finals l m n p true
-  look-exit row is some =
-      look-split (moved .read) (moved .spread)
-      (λ j plan states nodes held planned inside. exit-splits moved held plan planned inside row is some look-small)
-
-  -- nothing does, and the row is joined at the successors
-  pub look-closed
-      : (k : List ℕ) (row : ℕ) → past .differs ≡ false → row ≡ classRowIn m n (past .state) → bitAnd row (past .set) ≡ 0
-      → JoinedPast m k n (past .state) (past .set) → LookedAt table finals l k n p false
-  look-closed k row quiet is none joined = record {
-    grown = grown-both (moved .spread .grown) (joined .grown);
-    exact = λ j plan states nodes held planned inside. record {
-      new = λ x r t a b h.
-          ⊎-elim
-          (word-new (moved .read) held inside (enables plan) m false (moved .spread) x r t a b)
-          (λ y. inr (edge-follows moved held plan planned inside x r t y))
-          (joined .new x r t a b h);
-      closed = λ e. row-closed moved held plan planned inside k row quiet is none look-small joined;
-      split = λ e. absurd (false≢true e);
-    };
-  }
+      : (row : ℕ) → past .differs ≡ false → row ≡ classRowIn m n (past .state)
+      → LookedAt table finals l m n p (record { state = past .state; set = past .set; differs = meets row (past .set) })
+  look-exit row quiet is = go (eqb (bitAnd row (past .set)) 0) refl
+    where
+      go
+          : (b : Bool) → eqb (bitAnd row (past .set)) 0 ≡ b
+          → LookedAt table finals l m n p (record { state = past .state; set = past .set; differs = not b })
+      go false e =
+          look-split (moved .read) (moved .spread) _ look-small refl
+          (λ j plan states nodes held planned inside.
+          exit-splits moved held plan planned inside row is (eqb-false (bitAnd row (past .set)) 0 e) look-small)
+      go true e = record {
+        grown = moved .spread .grown;
+        small = look-small;
+        exact = λ j plan states nodes held planned inside. record {
+          new = word-new (moved .read) held inside (enables plan) m false (moved .spread);
+          alike = λ x. row-alike moved held plan planned inside row quiet is (eqb-true (bitAnd row (past .set)) 0 e);
+          here = λ x. pair-past moved held plan planned inside;
+          from = λ x. past-pair moved held plan planned inside;
+          split = λ x. absurd (false≢true x);
+        };
+      }

@@ -3,23 +3,28 @@
 use mathlib.Core.Path.{_≡_, refl, sym, ap, subst, _∙_}
 use mathlib.Core.Logic.{_⊎_, inl, inr, ⊎-elim, _≢_, by-cases}
 use mathlib.Core.Bool.{Bool, true, false}
-use mathlib.Core.List.{List}
-use Prim.Native.Nat.{ℕ, _+_, _-_, _%_, _≤_, _<_}
+use mathlib.Core.List.{List, [], _∷_}
+use Prim.Native.Nat.{ℕ, zero, suc, _+_, _-_, _*_, _/_, _%_, _^_, _≤_, _<_}
 use native.Mathlib.Decide.{ℕ-discrete}
 use native.Mathlib.Omega.{arith}
 use lib.Bits.{bitAnd, bitOr, or-lt, or-add-and, and-le-l, and-le-r}
 use lib.Count.{trailingZeros}
+use lib.ListN.{length, getD, set, length-set}
 use Rattle.laws.specs.Bits.{has}
+use Rattle.laws.proofs.Bits.{has-below}
 use Rattle.laws.proofs.Tests.{passes-or-fails}
 use Rattle.laws.proofs.Walk.{Rest, rest-start, rest-from, rest-low, rest-lt, rest-next, members-more, members-end}
 use Rattle.automaton.specs.Automaton.{next}
 use Rattle.job.specs.Job.{Kind, plain, event, call, Job, nodeAt}
 use Rattle.job.specs.Plan.{Enabling, full, enables}
-use Rattle.tables.specs.Tables.{Held, marksIn, markedIn, pairsLeft, SearchKept, Grown, MarksTaken}
+use Rattle.tables.specs.declared.moves.Past.{Past}
+use Rattle.tables.specs.Tables.{EdgeIn, Held, marksIn, markedIn, pairsLeft, SearchKept, Grown, NextMarked, MarksTaken}
+use Rattle.tables.specs.Quads.{InQuads}
 use Rattle.tables.specs.Held.{Usable, JobHeld, PlanHeld}
-use Rattle.search.specs.Looking.{pastState, pastNode, Follows, ClosedPair, SplitPair, split-point, split-call, split-exit}
-use Rattle.search.specs.Looking.{LookedAt, Following, held-first, follows, SettledRow, Settled, Rounded, RoundedAt}
+use Rattle.search.specs.Looking.{JoinedPast, pastState, pastNode, Follows, over-edge, AlikePair, ClosedPair, SplitPair, split-point, split-call, split-exit}
+use Rattle.search.specs.Looking.{Looked, LookedAt, Following, held-first, follows, SettledRow, Settled, Rounded, RoundedAt}
 use Rattle.tables.proofs.KeptLaws.{search-kept-none, search-kept-both, grown-none, grown-both, class-same, usable-same, job-same, plan-same}
+use Rattle.tables.proofs.QuadLaws.{quads-old, quads-here, quads-new}
 use Rattle.search.proofs.PastLaws.{event-small, call-small}
 use Rattle.search.proofs.SearchLaws.{has-nothing}
 
@@ -58,22 +63,26 @@ HeldIn l m = (n p q : ℕ) → n < 512 → p < 16 → Held l n p q → Held m n 
 module _
     {j : Job} {w : Enabling} {o l m : List ℕ} {table : List (List ℕ)} {finals states nodes : ℕ} (u : Usable o table states nodes)
     (job : JobHeld j o table finals states nodes) (k : SearchKept l m) where
+  -- monitors that alarm alike do so where no pair is lost
+  alike-kept : HeldIn l m → (n p q : ℕ) → n < 512 → p < 16 → AlikePair j w l n p q → AlikePair j w m n p q
+  alike-kept held n p q ln lp c = record {
+    words = λ set a e h.
+        held n (next (j .rule) p a) (next (j .rule) q a) ln
+        (next-small u job p a lp (call-small n set a (job .formed) e h)) (c .words set a e h);
+    at-point = c .at-point;
+    at-call = c .at-call;
+    at-exit =
+        ap (λ (x : ℕ). has x (pastNode j w n q)) (class-same k n (pastNode j full n p) ln (past-small u job n p lp)) ∙ c .at-exit;
+  }
+
   -- a closed pair is closed where no pair is lost
   pub closed-pair-kept : HeldIn l m → (n p q : ℕ) → n < 512 → p < 16 → ClosedPair j w l n p q → ClosedPair j w m n p q
-  closed-pair-kept held n p q ln lp c =
-      let small : pastNode j full n p < 16 = past-small u job n p lp in
-      record {
-        edges = λ a h.
-            held a (pastNode j full n p) (pastNode j w n q)
-            (omega (arith, job .formed .edges n a h .1, job .nodes-are, u .few-nodes)) small (c .edges a h);
-        words = λ set a e h.
-            held n (next (j .rule) p a) (next (j .rule) q a) ln
-            (next-small u job p a lp (call-small n set a (job .formed) e h)) (c .words set a e h);
-        at-point = c .at-point;
-        at-call = c .at-call;
-        at-exit =
-            ap (λ (x : ℕ). has x (pastNode j w n q)) (class-same k n (pastNode j full n p) ln small) ∙ c .at-exit;
-      }
+  closed-pair-kept held n p q ln lp c = record {
+    alike = alike-kept held n p q ln lp (c .alike);
+    edges = λ a h.
+        held a (pastNode j full n p) (pastNode j w n q)
+        (omega (arith, job .formed .edges n a h .1, job .nodes-are, u .few-nodes)) (past-small u job n p lp) (c .edges a h);
+  }
 
   -- a pair that splits does so in the other buffer
   pub split-kept : (n p q : ℕ) → n < 512 → p < 16 → SplitPair j w m n p q → SplitPair j w l n p q
@@ -96,97 +105,229 @@ member-same q e h = sym (ap (λ (x : ℕ). has x q) e) ∙ h
 
 -- ---- the rows of one node
 
--- the rows of node n that were due, below the number passed, were looked at, for a job and a plan
-pub record RowsFor (j : Job) (w : Enabling) (l m : List ℕ) (n due passed : ℕ) : Type 0 where
-  pub new : (k r s : ℕ) → k < 512 → r < 16 → Held m k r s → Following j w l k r s
-  pub here : (r : ℕ) → r < passed → has due r ≡ true → SettledRow j w m n r
+-- a pair past node n, and one that follows and has its place there
+pub record PastOf (j : Job) (w : Enabling) (l : List ℕ) (n r s : ℕ) : Type 0 where
+  pub one : ℕ
+  pub other : ℕ
+  pub from : Following j w l n one other
+  pub one-is : r ≡ pastNode j full n one
+  pub other-is : s ≡ pastNode j w n other
 
--- the same for every job and plan that the buffer holds; `rest` has the rows that are still due
-pub record RowsSoFar (table : List (List ℕ)) (finals states nodes : ℕ) (l m : List ℕ) (n due rest : ℕ) : Type 0 where
+-- the monitors alarm alike, and the pair's place past node n is in the sixteen rows
+abbrev pub PassedPair : Job → Enabling → List ℕ → ℕ → List ℕ → ℕ → ℕ → Type 0
+PassedPair j w work n quads p q = AlikePair j w work n p q × InQuads quads (pastNode j full n p) (pastNode j w n q)
+
+-- row p of node n is marked, or so is every pair of it
+abbrev pub PassedRow : Job → Enabling → List ℕ → ℕ → List ℕ → ℕ → Type 0
+PassedRow j w work n quads p = markedIn work n p ≡ false → (q : ℕ) → Held work n p q → PassedPair j w work n quads p q
+
+-- the rows of node n that were due, below the number passed, were looked at, for a job and a plan
+pub record RowsFor (j : Job) (w : Enabling) (l m : List ℕ) (n due passed : ℕ) (quads : List ℕ) : Type 0 where
+  pub new : (k r s : ℕ) → k < 512 → r < 16 → Held m k r s → Following j w l k r s
+  pub past : (r s : ℕ) → InQuads quads r s → PastOf j w l n r s
+  pub here : (r : ℕ) → r < passed → has due r ≡ true → PassedRow j w m n quads r
+
+-- the same for every job and plan that the buffer holds; `rest` has the rows that are still due, `quads` the rows past the node
+pub record RowsSoFar (table : List (List ℕ)) (finals states nodes : ℕ) (l m : List ℕ) (n due rest : ℕ) (quads : List ℕ) : Type 0 where
   pub short : due < 65536
   pub passed : ℕ
   pub left : Rest 16 due rest passed
+  pub four : length quads ≡ 4
   pub grown : Grown l m
-  pub first : due ≡ 0 → m ≡ l
   pub exact
       : (j : Job) (plan : List ℕ) → JobHeld j l table finals states nodes → PlanHeld plan l nodes
-      → RowsFor j (enables plan) l m n due passed
+      → RowsFor j (enables plan) l m n due passed quads
+
+-- the rows of node n that were due were looked at and joined at the successors, for a job and a plan
+pub record NodeFor (j : Job) (w : Enabling) (l m : List ℕ) (n due : ℕ) : Type 0 where
+  pub new : (k r s : ℕ) → k < 512 → r < 16 → Held m k r s → Following j w l k r s
+  pub here : (r : ℕ) → has due r ≡ true → SettledRow j w m n r
+
+-- the same for every job and plan that the buffer holds
+pub record NodeLooked (table : List (List ℕ)) (finals states nodes : ℕ) (l m : List ℕ) (n due : ℕ) : Type 0 where
+  pub short : due < 65536
+  pub grown : Grown l m
+  pub exact
+      : (j : Job) (plan : List ℕ) → JobHeld j l table finals states nodes → PlanHeld plan l nodes
+      → NodeFor j (enables plan) l m n due
+
+-- sixteen rows without pairs
+abbrev pub emptyQuads : List ℕ
+emptyQuads = 0 ∷ 0 ∷ 0 ∷ 0 ∷ []
+
+-- each four of them are 0
+pub no-quads : (i : ℕ) → getD emptyQuads i 0 ≡ 0
+no-quads zero = refl
+no-quads (suc zero) = refl
+no-quads (suc (suc zero)) = refl
+no-quads (suc (suc (suc zero))) = refl
+no-quads (suc (suc (suc (suc i)))) = refl
 
 module _ {table : List (List ℕ)} {finals states nodes : ℕ} where
   -- none yet
-  pub rows-none : (l : List ℕ) (n due : ℕ) → due < 65536 → RowsSoFar table finals states nodes l l n due due
-  rows-none l n due short =
+  pub rows-none
+      : (l : List ℕ) (n due : ℕ) (quads : List ℕ) → due < 65536 → length quads ≡ 4 → ((i : ℕ) → getD quads i 0 ≡ 0)
+      → RowsSoFar table finals states nodes l l n due due quads
+  rows-none l n due quads short four zeros =
       record {
         short = short;
         passed = 0;
         left = rest-start 16 due short;
+        four = four;
         grown = grown-none l;
-        first = λ e. refl;
-        exact = λ j plan held plan-held.
-            record { new = λ k r s lk lr h. held-first lk lr h; here = λ r lr. absurd (omega arith) };
-      }
-
-  -- a row that is due is one of sixteen
-  pub row-small
-      : {l m : List ℕ} {n due rest p : ℕ} → RowsSoFar table finals states nodes l m n due rest → 0 < rest → p ≡ trailingZeros 16 rest
-      → p < 16
-  row-small i some low = omega (arith, rest-lt (i .left) some)
-
-  -- what the pairs of a row follow, the pairs that it leads to do
-  rows-new
-      : {l m k : List ℕ} {n due rest p : ℕ} {d : Bool} → Usable l table states nodes → n < nodes → p < 16
-      → RowsSoFar table finals states nodes l m n due rest → LookedAt table finals m k n p d → (j : Job) (plan : List ℕ)
-      → JobHeld j l table finals states nodes → PlanHeld plan l nodes
-      → (a r s : ℕ) → a < 512 → r < 16 → Held k a r s → Following j (enables plan) l a r s
-  rows-new {l} {m} {k} {n} {due} {rest} {p} u ln lp i look j plan held plan-held a r s la lr h =
-      let f = i .exact j plan held plan-held in
-      let x = look .exact j plan states nodes (job-same (i .grown .kept) u held) (plan-same (i .grown .kept) plan (u .few-nodes) plan-held) ln in
-      ⊎-elim
-      (λ (old : Held m a r s). f .new a r s la lr old)
-      (λ (fresh : (q : ℕ) × Held m n p q × Follows j (enables plan) n p q a r s).
-      follows (f .new n p (fresh .0) (omega (arith, u .few-nodes)) lp (fresh .1)) (fresh .2))
-      (x .new a r s la lr h)
-
-  -- one row more
-  pub rows-more
-      : {l m k : List ℕ} {n due rest p less : ℕ} {d : Bool} → Usable l table states nodes → n < nodes → 0 < rest
-      → p ≡ trailingZeros 16 rest → less ≡ bitAnd rest (rest - 1) → d ≡ false
-      → RowsSoFar table finals states nodes l m n due rest → LookedAt table finals m k n p d
-      → RowsSoFar table finals states nodes l k n due less
-  rows-more {l} {m} {k} {n} {due} {rest} {p} {less} u ln some low without no-split i look =
-      record {
-        short = i .short;
-        passed = trailingZeros 16 rest + 1;
-        left = rw without (rest-next (i .left) some);
-        grown = grown-both (i .grown) (look .grown);
-        first = λ e. absurd (has-nothing (trailingZeros 16 rest) e (rest-low (i .left) some));
         exact = λ j plan held plan-held.
             record {
-              new = rows-new u ln (row-small i some low) i look j plan held plan-held;
-              here = members-more (i .left) (λ (r : ℕ). SettledRow j (enables plan) k n r) some (older j plan held plan-held)
-                  (subst (λ (r : ℕ). SettledRow j (enables plan) k n r) low (this j plan held plan-held));
+              new = λ k r s lk lr h. held-first lk lr h;
+              past = λ r s h. absurd (has-nothing (r % 4 * 16 + s) (zeros (r / 4)) (h .1));
+              here = λ r lr. absurd (omega arith);
             };
       }
-    where
-      small : n < 512
-      small = omega (arith, u .few-nodes)
 
-      -- the rows passed are settled as they were
-      older
+  module _ {l m : List ℕ} {n due rest : ℕ} {quads : List ℕ} (u : Usable l table states nodes) (ln : n < nodes)
+      (i : RowsSoFar table finals states nodes l m n due rest quads) where
+    -- a row that is due is one of sixteen
+    pub row-small : {p : ℕ} → 0 < rest → p ≡ trailingZeros 16 rest → p < 16
+    row-small some low = omega (arith, rest-lt (i .left) some)
+
+    -- the node is one of 512
+    small : n < 512
+    small = omega (arith, u .few-nodes)
+
+    -- the job is held after the rows so far
+    job-now : {j : Job} → JobHeld j l table finals states nodes → JobHeld j m table finals states nodes
+    job-now held = job-same (i .grown .kept) u held
+
+    module _ {k : List ℕ} {p : ℕ} {past : Past} (lp : p < 16) (look : LookedAt table finals m k n p past) where
+      -- what looking at the row says, for a job of the first buffer
+      looked
           : (j : Job) (plan : List ℕ) → JobHeld j l table finals states nodes → PlanHeld plan l nodes
-          → (r : ℕ) → r < i .passed → has due r ≡ true → SettledRow j (enables plan) k n r
-      older j plan held plan-held r lr h quiet q x =
-          let few : r < 16 = omega (arith, rest-from (i .left) some, rest-lt (i .left) some) in
-          let was = look .grown .quiet n r small few quiet in
-          closed-pair-kept u held (look .grown .kept) (look .grown .held) n r q small few
-          (i .exact j plan held plan-held .here r lr h (was .0) q (member-same q (was .1) x))
+          → Looked j (enables plan) m k n p past
+      looked j plan held plan-held =
+          look .exact j plan states nodes (job-now held) (plan-same (i .grown .kept) plan (u .few-nodes) plan-held) ln
 
-      -- and this one is closed while it does not grow
-      this
-          : (j : Job) (plan : List ℕ) → JobHeld j l table finals states nodes → PlanHeld plan l nodes → SettledRow j (enables plan) k n p
-      this j plan held plan-held quiet q x =
-          let y = look .exact j plan states nodes (job-same (i .grown .kept) u held) (plan-same (i .grown .kept) plan (u .few-nodes) plan-held) ln in
-          y .closed no-split q (member-same q (look .grown .quiet n p small (row-small i some low) quiet .1) x)
+      -- what the pairs of a row follow, the pairs that it leads to do
+      rows-new
+          : (j : Job) (plan : List ℕ) → JobHeld j l table finals states nodes → PlanHeld plan l nodes
+          → (a r s : ℕ) → a < 512 → r < 16 → Held k a r s → Following j (enables plan) l a r s
+      rows-new j plan held plan-held a r s la lr h =
+          let f = i .exact j plan held plan-held in
+          ⊎-elim
+          (λ (old : Held m a r s). f .new a r s la lr old)
+          (λ (fresh : (q : ℕ) × Held m n p q × Follows j (enables plan) n p q a r s).
+          follows (f .new n p (fresh .0) small lp (fresh .1)) (fresh .2))
+          (looked j plan held plan-held .new a r s la lr h)
+
+      module _ {word less : ℕ} (some : 0 < rest) (low : p ≡ trailingZeros 16 rest) (without : less ≡ bitAnd rest (rest - 1))
+          (alike : past .differs ≡ false) (fits : past .set < 2 ^ 16)
+          (joined : word ≡ bitOr (getD quads (past .state / 4) 0) (past .set * 2 ^ (past .state % 4 * 16))) where
+        -- the rows past the node, with that of this row
+        abbrev after : List ℕ
+        after = set quads (past .state / 4) word
+
+        -- the rows passed are as they were
+        older
+            : (j : Job) (plan : List ℕ) → JobHeld j l table finals states nodes → PlanHeld plan l nodes
+            → (r : ℕ) → r < i .passed → has due r ≡ true → PassedRow j (enables plan) k n after r
+        older j plan held plan-held r lr h quiet q x =
+            let few : r < 16 = omega (arith, rest-from (i .left) some, rest-lt (i .left) some) in
+            let was = look .grown .quiet n r small few quiet in
+            let c = i .exact j plan held plan-held .here r lr h (was .0) q (member-same q (was .1) x) in (
+              alike-kept u held (look .grown .kept) (look .grown .held) n r q small few (c .0),
+              quads-old quads (past .state) (past .set) word (i .four) (look .small) fits joined _ _ (c .1),
+            )
+
+        -- and this one is passed while it does not grow
+        this
+            : (j : Job) (plan : List ℕ) → JobHeld j l table finals states nodes → PlanHeld plan l nodes → PassedRow j (enables plan) k n after p
+        this j plan held plan-held quiet q x =
+            let y = looked j plan held plan-held in
+            let h = member-same q (look .grown .quiet n p small lp quiet .1) x in
+            let c = y .here alike q h in (
+              y .alike alike q h,
+              subst (λ (r : ℕ). InQuads after r (pastNode j (enables plan) n q)) (c .0)
+                  (quads-here quads (past .state) (past .set) word (i .four) (look .small) fits joined _ (c .1)),
+            )
+
+        -- a pair past the node comes from one of the rows
+        came
+            : (j : Job) (plan : List ℕ) → JobHeld j l table finals states nodes → PlanHeld plan l nodes
+            → (r s : ℕ) → InQuads after r s → PastOf j (enables plan) l n r s
+        came j plan held plan-held r s h =
+            let f = i .exact j plan held plan-held in
+            ⊎-elim
+            (λ (old : InQuads quads r s). f .past r s old)
+            (λ (fresh : (r ≡ past .state) × (has (past .set) s ≡ true)).
+            let c = looked j plan held plan-held .from alike s (fresh .1) in
+            record {
+              one = p;
+              other = c .0;
+              from = f .new n p (c .0) small lp (c .1);
+              one-is = fresh .0 ∙ c .2 .0;
+              other-is = c .2 .1;
+            })
+            (quads-new quads (past .state) (past .set) word (i .four) (look .small) fits joined r s h)
+
+        -- one row more
+        pub rows-more : RowsSoFar table finals states nodes l k n due less after
+        rows-more =
+            record {
+              short = i .short;
+              passed = trailingZeros 16 rest + 1;
+              left = rw without (rest-next (i .left) some);
+              four = length-set quads (past .state / 4) word ∙ i .four;
+              grown = grown-both (i .grown) (look .grown);
+              exact = λ j plan held plan-held.
+                  record {
+                    new = rows-new j plan held plan-held;
+                    past = came j plan held plan-held;
+                    here = members-more (i .left) (λ (r : ℕ). PassedRow j (enables plan) k n after r) some (older j plan held plan-held)
+                        (subst (λ (r : ℕ). PassedRow j (enables plan) k n after r) low (this j plan held plan-held));
+                  };
+            }
+
+    -- with no row left, the rows past the node are joined at its successors
+    module _ {k : List ℕ} (all : rest ≡ 0) (join : JoinedPast m k n quads) where
+      -- a pair that is joined past the node follows
+      edge-new
+          : (j : Job) (plan : List ℕ) → JobHeld j l table finals states nodes → PlanHeld plan l nodes
+          → (a r s : ℕ) → EdgeIn m n a × InQuads quads r s → Following j (enables plan) l a r s
+      edge-new j plan held plan-held a r s (edge, h) =
+          let f = i .exact j plan held plan-held .past r s h in
+          let g : Following j (enables plan) l a (pastNode j full n (f .one)) (pastNode j (enables plan) n (f .other)) =
+          follows (f .from) (over-edge (job-now held .edges n a ln .1 edge)) in
+          subst (λ (x : ℕ). Following j (enables plan) l a x s) (sym (f .one-is))
+          (subst (λ (x : ℕ). Following j (enables plan) l a (pastNode j full n (f .one)) x) (sym (f .other-is)) g)
+
+      -- a row that was due is closed while it does not grow
+      row-closed
+          : (j : Job) (plan : List ℕ) → JobHeld j l table finals states nodes → PlanHeld plan l nodes
+          → (r : ℕ) → has due r ≡ true → SettledRow j (enables plan) k n r
+      row-closed j plan held plan-held r h quiet q x =
+          let few : r < 16 = has-below 16 due r (i .short) h in
+          let was = join .grown .quiet n r small few quiet in
+          let c = members-end (i .left) (λ (z : ℕ). PassedRow j (enables plan) m n quads z) all (i .exact j plan held plan-held .here) r h
+          (was .0) q (member-same q (was .1) x) in
+          record {
+            alike = alike-kept u held (join .grown .kept) (join .grown .held) n r q small few (c .0);
+            edges = λ a e. join .here a _ _ (job-now held .edges n a ln .0 e) (past-small u held n r few) (c .1);
+          }
+
+      -- the node is done
+      pub node-looked : NodeLooked table finals states nodes l k n due
+      node-looked =
+          record {
+            short = i .short;
+            grown = grown-both (i .grown) (join .grown);
+            exact = λ j plan held plan-held.
+                record {
+                  new = λ a r s la lr h.
+                      ⊎-elim
+                      (i .exact j plan held plan-held .new a r s la lr)
+                      (edge-new j plan held plan-held a r s)
+                      (join .new a r s la lr h);
+                  here = row-closed j plan held plan-held;
+                };
+          }
 
 -- ---- the nodes so far
 
@@ -202,25 +343,26 @@ pub record RoundSoFar (table : List (List ℕ)) (finals states nodes : ℕ) (l m
   pub small : result < 65536
   pub left : pairsLeft m + result ≤ pairsLeft l
   pub none : result ≡ 0 → (k : ℕ) → k < n → marksIn m k ≡ 0
+  pub some : n < nodes → 0 < marksIn m n
   pub exact : (j : Job) (plan : List ℕ) → JobHeld j l table finals states nodes → PlanHeld plan l nodes → RoundFor j (enables plan) nodes l m
 
 module _ {table : List (List ℕ)} {finals states nodes : ℕ} where
   -- none yet
-  pub round-none : (l : List ℕ) → RoundSoFar table finals states nodes l l 0 0
-  round-none l =
+  pub round-none : (l : List ℕ) (n : ℕ) → NextMarked l 0 nodes n → RoundSoFar table finals states nodes l l n 0
+  round-none l n first =
       record {
         kept = search-kept-none l;
         held = λ n p q ln lp h. h;
         small = omega arith;
         left = omega arith;
-        none = λ z k lk. absurd (omega arith);
+        none = λ z k lk. first .none k (omega arith) lk;
+        some = first .some;
         exact = λ j plan held plan-held. record { new = λ k r s lk lr h. held-first lk lr h; settled = λ s. s };
       }
 
   module _
-      {l m k s : List ℕ} {n result due rest : ℕ} (u : Usable l table states nodes) (ln : n < nodes)
-      (i : RoundSoFar table finals states nodes l m n result) (t : MarksTaken m k n due)
-      (r : RowsSoFar table finals states nodes k s n due rest) where
+      {l m k : List ℕ} {n result due : ℕ} (u : Usable l table states nodes) (ln : n < nodes)
+      (i : RoundSoFar table finals states nodes l m n result) (t : MarksTaken m k n due) where
     -- the bytes that a search keeps
     taken-kept : SearchKept l k
     taken-kept = search-kept-both (i .kept) (t .kept)
@@ -234,50 +376,48 @@ module _ {table : List (List ℕ)} {finals states nodes : ℕ} where
         (λ a x y la lx h. i .exact j plan held plan-held .new a x y la lx (member-same y (t .rows a x la lx) h))
         f
 
-    -- the rows of one node, for a job of the first buffer
-    taken-rows
-        : (j : Job) (plan : List ℕ) → JobHeld j l table finals states nodes → PlanHeld plan l nodes
-        → RowsFor j (enables plan) k s n due (r .passed)
-    taken-rows j plan held plan-held =
-        r .exact j plan (job-same taken-kept u held) (plan-same taken-kept plan (u .few-nodes) plan-held)
-
     -- no pair is lost
-    taken-held : HeldIn m s
-    taken-held a x y la lx h = r .grown .held a x y la lx (member-same y (sym (t .rows a x la lx)) h)
+    taken-held : {s : List ℕ} → Grown k s → HeldIn m s
+    taken-held g a x y la lx h = g .held a x y la lx (member-same y (sym (t .rows a x la lx)) h)
 
     -- a row that is not marked at the end was not marked before the node's turn, or it was due in it
-    quiet-before : (a x : ℕ) → a < 512 → x < 16 → markedIn s a x ≡ false → (markedIn m a x ≡ false) ⊎ ((a ≡ n) × (has due x ≡ true))
-    quiet-before a x la lx quiet =
+    quiet-before
+        : {s : List ℕ} → Grown k s → (a x : ℕ) → a < 512 → x < 16 → markedIn s a x ≡ false
+        → (markedIn m a x ≡ false) ⊎ ((a ≡ n) × (has due x ≡ true))
+    quiet-before g a x la lx quiet =
         by-cases (ℕ-discrete a n)
         (λ (e : a ≡ n).
         ⊎-elim
         (λ (y : has due x ≡ true). inr (e, y))
         (λ (y : has due x ≡ false). inl (ap (λ (z : ℕ). has z x) (ap (marksIn m) e ∙ sym (t .were)) ∙ y))
         (passes-or-fails (has due x)))
-        (λ (ne : a ≢ n). inl (ap (λ (z : ℕ). has z x) (sym (t .others a ne)) ∙ r .grown .quiet a x la lx quiet .0))
+        (λ (ne : a ≢ n). inl (ap (λ (z : ℕ). has z x) (sym (t .others a ne)) ∙ g .quiet a x la lx quiet .0))
 
     -- one node more
-    pub round-more : {now : ℕ} → now ≡ bitOr result due → rest ≡ 0 → RoundSoFar table finals states nodes l s (n + 1) now
-    round-more {now} is all =
+    pub round-more
+        : {s : List ℕ} {now after : ℕ} → now ≡ bitOr result due → NodeLooked table finals states nodes k s n due
+        → NextMarked s (n + 1) nodes after → RoundSoFar table finals states nodes l s after now
+    round-more {s} {now} is r up =
         record {
           kept = search-kept-both taken-kept (r .grown .kept);
-          held = λ a x y la lx h. taken-held a x y la lx (i .held a x y la lx h);
+          held = λ a x y la lx h. taken-held (r .grown) a x y la lx (i .held a x y la lx h);
           small = rw is (or-lt 16 result due (i .small) (r .short));
           left = omega (arith, i .left, t .left, r .grown .left, or-sum result due);
-          none = λ z a la.
-              let o = or-none result due (sym is ∙ z) in
-              let same : s ≡ k = r .first (o .1) in
-              ap (λ (x : List ℕ). marksIn x a) same
-              ∙ by-cases (ℕ-discrete a n)
-              (λ (e : a ≡ n). ap (marksIn k) e ∙ t .here)
-              (λ (ne : a ≢ n). t .others a ne ∙ i .none (o .0) a (omega arith));
+          none = λ z. absurd (omega (arith, or-none result due (sym is ∙ z) .1, t .were, i .some ln));
+          some = up .some;
           exact = λ j plan held plan-held.
               record {
-                new = λ a x y la lx h. taken-new j plan held plan-held (taken-rows j plan held plan-held .new a x y la lx h);
+                new = λ a x y la lx h. taken-new j plan held plan-held (looked j plan held plan-held .new a x y la lx h);
                 settled = λ st a x la lx quiet y h. closed j plan held plan-held st a x la lx quiet y h;
               };
         }
       where
+        -- what the node says, for a job of the first buffer
+        looked
+            : (j : Job) (plan : List ℕ) → JobHeld j l table finals states nodes → PlanHeld plan l nodes → NodeFor j (enables plan) k s n due
+        looked j plan held plan-held =
+            r .exact j plan (job-same taken-kept u held) (plan-same taken-kept plan (u .few-nodes) plan-held)
+
         -- a row that is not marked is closed: it was before, or it has just been looked at
         closed
             : (j : Job) (plan : List ℕ) → JobHeld j l table finals states nodes → PlanHeld plan l nodes → Settled j (enables plan) l nodes
@@ -286,23 +426,22 @@ module _ {table : List (List ℕ)} {finals states nodes : ℕ} where
             let small : a < 512 = omega (arith, u .few-nodes) in
             ⊎-elim
             (λ (was : markedIn m a x ≡ false).
-            closed-pair-kept u held (search-kept-both (t .kept) (r .grown .kept)) taken-held a x y small lx
+            closed-pair-kept u held (search-kept-both (t .kept) (r .grown .kept)) (taken-held (r .grown)) a x y small lx
             (i .exact j plan held plan-held .settled st a x la lx was y
             (member-same y (t .rows a x small lx) (member-same y (r .grown .quiet a x small lx quiet .1) h))))
             (λ (turn : (a ≡ n) × (has due x ≡ true)).
-            subst (λ (z : ℕ). SettledRow j (enables plan) s z x) (sym (turn .0))
-            (members-end (r .left) (λ (z : ℕ). SettledRow j (enables plan) s n z) all (taken-rows j plan held plan-held .here) x (turn .1))
-            quiet y h)
-            (quiet-before a x small lx quiet)
+            subst (λ (z : ℕ). SettledRow j (enables plan) s z x) (sym (turn .0)) (looked j plan held plan-held .here x (turn .1)) quiet y h)
+            (quiet-before (r .grown) a x small lx quiet)
 
     -- a row that splits ends the round
     pub round-split
-        : {o : List ℕ} {p : ℕ} {d : Bool} → p < 16 → d ≡ true → LookedAt table finals s o n p d
+        : {s o : List ℕ} {p rest : ℕ} {quads : List ℕ} {past : Past} → p < 16 → past .differs ≡ true
+        → RowsSoFar table finals states nodes k s n due rest quads → LookedAt table finals s o n p past
         → RoundedAt table finals states nodes l o 65536
-    round-split {o} {p} {d} lp splits look =
+    round-split {s} {o} {p} {past = past} lp splits r look =
         record {
           kept = search-kept-both taken-kept (search-kept-both (r .grown .kept) (look .grown .kept));
-          held = λ a x y la lx h. look .grown .held a x y la lx (taken-held a x y la lx (i .held a x y la lx h));
+          held = λ a x y la lx h. look .grown .held a x y la lx (taken-held (r .grown) a x y la lx (i .held a x y la lx h));
           small = omega arith;
           left = omega (arith, i .left, t .left, r .grown .left, look .grown .left);
           none = λ z. absurd (omega arith);
@@ -314,23 +453,21 @@ module _ {table : List (List ℕ)} {finals states nodes : ℕ} where
             : (j : Job) (plan : List ℕ) → JobHeld j l table finals states nodes → PlanHeld plan l nodes
             → Rounded j (enables plan) nodes l o 65536
         rounded j plan held plan-held =
-            let few = u .few-nodes in
             let there = job-same taken-kept u held in
-            let there-plan = plan-same taken-kept plan few plan-held in
+            let there-plan = plan-same taken-kept plan (u .few-nodes) plan-held in
             let usable = usable-same taken-kept u in
-            let x = look .exact j plan states nodes (job-same (r .grown .kept) usable there) (plan-same (r .grown .kept) plan few there-plan) ln in
             record {
-              new = λ a y z la ly h. taken-new j plan held plan-held (rows-new usable ln lp r look j plan there there-plan a y z la ly h);
+              new = λ a y z la ly h. taken-new j plan held plan-held (rows-new usable ln r lp look j plan there there-plan a y z la ly h);
               settled = λ less. absurd (omega arith);
               split = λ e.
-                  let f = x .split splits in
+                  let f = looked usable ln r lp look j plan there there-plan .split splits in
                   record {
                     node = n;
                     one = p;
                     other = f .0;
                     small = ln;
-                    follows = taken-new j plan held plan-held (taken-rows j plan held plan-held .new n p (f .0) (omega arith) lp (f .1));
-                    splits = split-kept u held (search-kept-both taken-kept (r .grown .kept)) n p (f .0) (omega arith) lp (f .2);
+                    follows = taken-new j plan held plan-held (r .exact j plan there there-plan .new n p (f .0) (omega (arith, u .few-nodes)) lp (f .1));
+                    splits = split-kept u held (search-kept-both taken-kept (r .grown .kept)) n p (f .0) (omega (arith, u .few-nodes)) lp (f .2);
                   };
             }
 

@@ -155,7 +155,7 @@ module _ {j : Job} {w : Enabling} {work : List ℕ} (t : ClosedTable j w work) w
   never-apart {n} x (no-word {p = p} {q = q} h) a =
       let f = past-from h in
       let b = pair-within (t .formed) (past-pair (past-map (λ k l r. r .0) h)) in
-      let e = both-moved (λ (k l : ℕ). has (classRowIn work n k) l ≡ false) (f .one-is) (f .other-is) (closed-pair (f .from) .at-exit) in
+      let e = both-moved (λ (k l : ℕ). has (classRowIn work n k) l ≡ false) (f .one-is) (f .other-is) (closed-pair (f .from) .alike .at-exit) in
       true≢false (sym (t .after .whole n p q (b .node) (b .one) (b .other) x a) ∙ e)
   never-apart x (one-more s m h) a = never-apart x h (apart-later s m a)
 
@@ -165,7 +165,7 @@ module _ {j : Job} {w : Enabling} {work : List ℕ} (t : ClosedTable j w work) w
       record {
         starts = t .starts;
         edges = λ m n p q h l. edge-held n h l;
-        words = λ n set a p q e m h. closed-pair h .words set a e m;
+        words = λ n set a p q e m h. closed-pair h .alike .words set a e m;
       }
 
   -- and under it the monitors alarm alike
@@ -173,8 +173,8 @@ module _ {j : Job} {w : Enabling} {work : List ℕ} (t : ClosedTable j w work) w
   closed-invariant =
       record {
         kept = closed-kept;
-        at-point = λ n a p q e h. closed-pair h .at-point a e;
-        at-call = λ n set a p q e m h. closed-pair h .at-call set a e m;
+        at-point = λ n a p q e h. closed-pair h .alike .at-point a e;
+        at-call = λ n set a p q e m h. closed-pair h .alike .at-call set a e m;
         at-exit = λ n a p q x m h.
             ⊎-elim
             (λ (e : final (j .rule) (next (j .rule) p a) ≡ final (j .rule) (next (j .rule) q a)). e)
@@ -201,7 +201,7 @@ one-side {j} {w} k =
     }
 
 -- an event node is one of the job
-event-node : (j : Job) (n a : ℕ) → nodeAt j n .kind ≡ event a → n < length (j .nodes)
+pub event-node : (j : Job) (n a : ℕ) → nodeAt j n .kind ≡ event a → n < length (j .nodes)
 event-node j n a e =
     lt-of-not-le (λ l.
     plain-no-event (ap (λ (m : Node). m .kind) (List·getD-eq-default (j .nodes) noNode l)) a e)

@@ -16,7 +16,7 @@ use Rattle.laws.proofs.Bytes.{number-lt}
 use Rattle.laws.proofs.Bits.{has-empty, has-below, has-with-same, has-with-other}
 use Rattle.laws.proofs.Walk.{Rest, rest-start, rest-from, rest-lt, rest-low, rest-next, members-more, members-end}
 use Rattle.job.specs.Job.{Node}
-use Rattle.reader.specs.Layout.{nodeIn}
+use Rattle.joblines.specs.Layout.{nodeIn}
 use Rattle.tables.specs.Tables.{Held, pairRowIn, Zeroed, SearchKept, Grown, PairsJoined}
 use Rattle.search.specs.Looking.{StartedNode, Started}
 use Rattle.tables.proofs.KeptLaws.{search-kept-both, grown-none, grown-both, node-same}

@@ -14,17 +14,25 @@ use Rattle.job.specs.Walk.{shadow}
 use Rattle.job.specs.Plan.{Enabling, full, enables, stateAt, alarmAt}
 use Rattle.job.specs.Planning.{allEnabled}
 use Rattle.job.specs.Search.{faithful, arrives}
-use Rattle.reader.specs.Layout.{nodeIn}
+use Rattle.joblines.specs.Layout.{nodeIn}
 use Rattle.tables.specs.Tables.{pairRowIn, classRowIn, marksIn, markedIn, EdgeIn, Held, HeldApart, pairsLeft, SearchKept, Grown}
+use Rattle.tables.specs.Quads.{InQuads}
+use Rattle.tables.specs.declared.moves.Past.{Past}
 use Rattle.tables.specs.Held.{JobHeld, PlanHeld, AfterHeld}
 
 -- ---- leaves: rows and the table alone
 
--- a row was joined at the ends of all edges of node n
-pub record JoinedPast (l m : List ℕ) (n p s : ℕ) : Type 0 where
+-- sixteen rows were joined into those of node n
+pub record RowsJoined (l m : List ℕ) (n : ℕ) (quads : List ℕ) : Type 0 where
   pub grown : Grown l m
-  pub here : (k q : ℕ) → EdgeIn l n k → has s q ≡ true → Held m k p q
-  pub new : (k r q : ℕ) → k < 512 → r < 16 → Held m k r q → Held l k r q ⊎ (EdgeIn l n k × ((r ≡ p) × (has s q ≡ true)))
+  pub here : (p q : ℕ) → p < 16 → InQuads quads p q → Held m n p q
+  pub new : (k p q : ℕ) → k < 512 → p < 16 → Held m k p q → Held l k p q ⊎ ((k ≡ n) × InQuads quads p q)
+
+-- sixteen rows were joined at the ends of all edges of node n
+pub record JoinedPast (l m : List ℕ) (n : ℕ) (quads : List ℕ) : Type 0 where
+  pub grown : Grown l m
+  pub here : (k p q : ℕ) → EdgeIn l n k → p < 16 → InQuads quads p q → Held m k p q
+  pub new : (k p q : ℕ) → k < 512 → p < 16 → Held m k p q → Held l k p q ⊎ (EdgeIn l n k × InQuads quads p q)
 
 -- a symbol of the set and a state of the row: the pair that they lead to, at node n
 pub record WordFrom (table : List (List ℕ)) (set p s : ℕ) (k l : ℕ) : Type 0 where
@@ -83,9 +91,8 @@ pub data Follows (j : Job) (w : Enabling) (n p q : ℕ) : ℕ → ℕ → ℕ �
       : {set : ℕ} (a : ℕ) → nodeAt j n .kind ≡ call set → has set a ≡ true
       → Follows j w n p q n (next (j .rule) p a) (next (j .rule) q a)
 
--- what follows a pair is held, and at every event that may come next the monitors alarm alike
-pub record ClosedPair (j : Job) (w : Enabling) (work : List ℕ) (n p q : ℕ) : Type 0 where
-  pub edges : (m : ℕ) → leads j n m ≡ true → Held work m (pastNode j full n p) (pastNode j w n q)
+-- at every event that may come next the monitors alarm alike, and what a symbol of the call word leads to is held
+pub record AlikePair (j : Job) (w : Enabling) (work : List ℕ) (n p q : ℕ) : Type 0 where
   pub words
       : (set a : ℕ) → nodeAt j n .kind ≡ call set → has set a ≡ true → Held work n (next (j .rule) p a) (next (j .rule) q a)
   pub at-point
@@ -94,6 +101,11 @@ pub record ClosedPair (j : Job) (w : Enabling) (work : List ℕ) (n p q : ℕ) :
       : (set a : ℕ) → nodeAt j n .kind ≡ call set → has set a ≡ true
       → final (j .rule) (next (j .rule) p a) ≡ final (j .rule) (next (j .rule) q a)
   pub at-exit : has (classRowIn work n (pastNode j full n p)) (pastNode j w n q) ≡ false
+
+-- and so is what an edge leads to
+pub record ClosedPair (j : Job) (w : Enabling) (work : List ℕ) (n p q : ℕ) : Type 0 where
+  pub alike : AlikePair j w work n p q
+  pub edges : (m : ℕ) → leads j n m ≡ true → Held work m (pastNode j full n p) (pastNode j w n q)
 
 -- at some event that may come next one monitor alarms and the other does not
 pub data SplitPair (j : Job) (w : Enabling) (work : List ℕ) (n p q : ℕ) : Type 0 where
@@ -105,20 +117,27 @@ pub data SplitPair (j : Job) (w : Enabling) (work : List ℕ) (n p q : ℕ) : Ty
       → final (j .rule) (next (j .rule) p a) ≡ not (final (j .rule) (next (j .rule) q a)) → SplitPair j w work n p q
   split-exit : HeldApart work n (pastNode j full n p) (pastNode j w n q) → SplitPair j w work n p q
 
--- row p of node n was looked at
-pub record Looked (j : Job) (w : Enabling) (l m : List ℕ) (n p : ℕ) (differs : Bool) : Type 0 where
+-- row p of node n was looked at: `past` is the row past the node
+pub record Looked (j : Job) (w : Enabling) (l m : List ℕ) (n p : ℕ) (past : Past) : Type 0 where
   pub new
       : (k r s : ℕ) → k < 512 → r < 16 → Held m k r s
       → Held l k r s ⊎ ((q : ℕ) × Held l n p q × Follows j w n p q k r s)
-  pub closed : differs ≡ false → (q : ℕ) → Held l n p q → ClosedPair j w m n p q
-  pub split : differs ≡ true → (q : ℕ) × Held l n p q × SplitPair j w l n p q
+  pub alike : past .differs ≡ false → (q : ℕ) → Held l n p q → AlikePair j w m n p q
+  pub here
+      : past .differs ≡ false → (q : ℕ) → Held l n p q
+      → (past .state ≡ pastNode j full n p) × (has (past .set) (pastNode j w n q) ≡ true)
+  pub from
+      : past .differs ≡ false → (s : ℕ) → has (past .set) s ≡ true
+      → (q : ℕ) × Held l n p q × ((past .state ≡ pastNode j full n p) × (s ≡ pastNode j w n q))
+  pub split : past .differs ≡ true → (q : ℕ) × Held l n p q × SplitPair j w l n p q
 
 -- the same for every job that the buffer holds
-pub record LookedAt (table : List (List ℕ)) (finals : ℕ) (l m : List ℕ) (n p : ℕ) (differs : Bool) : Type 0 where
+pub record LookedAt (table : List (List ℕ)) (finals : ℕ) (l m : List ℕ) (n p : ℕ) (past : Past) : Type 0 where
   pub grown : Grown l m
+  pub small : past .state < 16
   pub exact
       : (j : Job) (plan : List ℕ) (states nodes : ℕ) → JobHeld j l table finals states nodes → PlanHeld plan l nodes → n < nodes
-      → Looked j (enables plan) l m n p differs
+      → Looked j (enables plan) l m n p past
 
 -- ---- one round over all nodes
 

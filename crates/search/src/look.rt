@@ -4,9 +4,10 @@ ghost use Prim.Native.Nat.{_<_, _≤_};
 ghost use lib.ListN.{length};
 ghost use Rattle.tables.specs.Rows.{CellsBelow};
 ghost use Rattle.tables.specs.Held.{EdgesWithin};
-ghost use Rattle.search.specs.Looking.{JoinedPast, Spread, LookedAt};
+ghost use Rattle.search.specs.Looking.{RowsJoined, JoinedPast, Spread, LookedAt};
 use sets::lowest;
 use sets::without_lowest;
+use tables::moves::Past;
 use tables::moves::image_under;
 use tables::moves::next_state;
 use tables::moves::past_row;
@@ -17,20 +18,33 @@ use tables::places::is_shadow;
 use tables::places::start_at;
 use tables::places::symbol_at;
 use tables::places::target_at;
+use tables::quads::join_quad;
 use tables::rows::class_row;
 use tables::rows::join_pairs;
 use tables::rows::pair_row;
 
-// Joins a set into row p of every successor of node n.
-fn join_successors(work: &mut [u8], n: usize, p: usize, s: u16)
-    requires { ⌜ (65536 ≤ length (now work)) × ((n < 512) × ((p < 16) × EdgesWithin (now work) n)) ⌝ }
-    ensures { λ _. ⌜ JoinedPast (now (work .entry)) (now (work .exit)) n p s ⌝ }
+// Joins sixteen rows, four to a number, into those of node n.
+fn join_rows(work: &mut [u8], n: usize, quads: &[u64; 4])
+    requires { ⌜ (65536 ≤ length (now work)) × (n < 512) ⌝ }
+    ensures { λ _. ⌜ RowsJoined (now (work .entry)) (now (work .exit)) n (now (quads .entry)) ⌝ }
+{
+    let mut i = 0;
+    while i < 4 {
+        join_quad(work, n, i, quads[i]);
+        i += 1;
+    }
+}
+
+// Joins sixteen rows, four to a number, into those of every successor of node n.
+pub fn join_successors(work: &mut [u8], n: usize, quads: &[u64; 4])
+    requires { ⌜ (65536 ≤ length (now work)) × ((n < 512) × EdgesWithin (now work) n) ⌝ }
+    ensures { λ _. ⌜ JoinedPast (now (work .entry)) (now (work .exit)) n (now (quads .entry)) ⌝ }
 {
     let end = start_at(work, n + 1);
     let mut i = start_at(work, n);
     while i < end {
         let m = target_at(work, i);
-        join_pairs(work, m, p, s);
+        join_rows(work, m, quads);
         i += 1;
     }
 }
@@ -62,18 +76,26 @@ fn spread(
     false
 }
 
-// Looks at row p of node n: true where some pair of it alarms differently at an event that may come next.
-pub fn look(work: &mut [u8], table: &[[u8; 16]; 16], finals: u16, n: usize, p: usize) -> bool
-    requires { ⌜ (65536 ≤ length (now work)) × ((n < 512) × ((p < 16) × (CellsBelow (now table) × EdgesWithin (now work) n))) ⌝ }
+// Looks at row p of node n: the row past the node, and whether some pair alarms differently at an event that may come next.
+pub fn look(work: &mut [u8], table: &[[u8; 16]; 16], finals: u16, n: usize, p: usize) -> Past
+    requires { ⌜ (65536 ≤ length (now work)) × ((n < 512) × ((p < 16) × CellsBelow (now table))) ⌝ }
     ensures { λ r. ⌜ LookedAt (now (table .entry)) finals (now (work .entry)) (now (work .exit)) n p r ⌝ }
 {
     let s = pair_row(work, n, p);
     if s == 0 {
-        return false;
+        return Past {
+            state: p,
+            set: 0,
+            differs: false,
+        };
     }
     let set = call_set(work, n);
     if spread(work, table, finals, n, p, s, set) {
-        return true;
+        return Past {
+            state: p,
+            set: 0,
+            differs: true,
+        };
     }
     let moved = past_row(
         table,
@@ -85,13 +107,17 @@ pub fn look(work: &mut [u8], table: &[[u8; 16]; 16], finals: u16, n: usize, p: u
         s,
     );
     if moved.differs {
-        return true;
+        return Past {
+            state: p,
+            set: 0,
+            differs: true,
+        };
     }
     let state = moved.state;
     let left = moved.set;
-    if class_row(work, n, state) & left != 0 {
-        return true;
+    Past {
+        state: state,
+        set: left,
+        differs: class_row(work, n, state) & left != 0,
     }
-    join_successors(work, n, state, left);
-    false
 }

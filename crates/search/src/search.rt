@@ -4,14 +4,17 @@ ghost use lib.ListN.{length};
 ghost use Prim.Native.Nat.{_≤_, _<_};
 ghost use Rattle.tables.specs.Held.{Usable};
 ghost use Rattle.search.specs.Looking.{StartedNode, Started, RoundedAt, SearchedAt};
+use super::look::join_successors;
 use super::look::look;
 use sets::insert;
 use sets::lowest;
 use sets::without_lowest;
 use tables::places::entry_set;
+use tables::quads::with_row;
 use tables::rows::clear_marks;
 use tables::rows::clear_pairs;
 use tables::rows::join_pairs;
+use tables::rows::next_marked;
 use tables::rows::take_marks;
 
 // Looks at all marked rows in turn, and is left at the first difference: 0 where no row is marked, 1 to 65535 where one is, 65536 at a
@@ -21,20 +24,25 @@ fn round(work: &mut [u8], table: &[[u8; 16]; 16], finals: u16, states: usize, no
     ensures { λ r. ⌜ RoundedAt (now (table .entry)) finals states nodes (now (work .entry)) (now (work .exit)) r ⌝ }
 {
     let mut result: u32 = 0;
-    let mut n = 0;
+    let mut n = next_marked(work, 0, nodes);
     'search: while n < nodes {
         let due = take_marks(work, n);
         result = result | (due as u32);
+        let mut quads: [u64; 4] = [0; 4];
         let mut rest = due;
         while rest != 0 {
             let p = lowest(rest) as usize;
-            if look(work, table, finals, n, p) {
+            let past = look(work, table, finals, n, p);
+            if past.differs {
                 result = 65536;
                 break 'search;
             }
+            let i = past.state / 4;
+            quads[i] = with_row(quads[i], past.state % 4, past.set);
             rest = without_lowest(rest);
         }
-        n += 1;
+        join_successors(work, n, &quads);
+        n = next_marked(work, n + 1, nodes);
     }
     result
 }

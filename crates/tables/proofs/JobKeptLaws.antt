@@ -1,4 +1,5 @@
--- Where the first 9,218 bytes of the buffer are as they were, so are the nodes and edges that they hold.
+-- Where the first 9,218 bytes of the buffer are as they were, so are the nodes and edges that they hold; where its class rows are, so are
+-- the after words.
 -- Assumes nothing.
 use mathlib.Core.Path.{_≡_, sym, _∙_}
 use mathlib.Core.Logic.{_↔_, inl}
@@ -9,10 +10,10 @@ use native.Mathlib.Omega.{arith}
 use lib.ListN.{length, getD}
 use Rattle.laws.specs.Bytes.{numberAt}
 use Rattle.laws.proofs.Bytes.{number-cong}
-use Rattle.job.specs.Job.{Job}
-use Rattle.reader.specs.Layout.{nodeIn, startIn, targetIn, SameOutside}
-use Rattle.tables.specs.Tables.{EdgeIn}
-use Rattle.tables.specs.Held.{EdgesWithin, Usable, JobHeld}
+use Rattle.job.specs.Job.{Job, WellFormedJob}
+use Rattle.joblines.specs.Layout.{nodeIn, startIn, targetIn, SameOutside}
+use Rattle.tables.specs.Tables.{classRowIn, EdgeIn}
+use Rattle.tables.specs.Held.{EdgesWithin, Usable, JobHeld, AfterHeld}
 
 -- the nodes and edges are as they were, and so is the length
 pub record FrontKept (l m : List ℕ) : Type 0 where
@@ -106,4 +107,20 @@ module _ {l m : List ℕ} (s : FrontKept l m) where
         let few = lt-of-lt-of-le g (u .few-nodes) in
         let e = front-edge x y few (u .edges x g) in
         (λ d. e .0 (h .edges x y g .0 d), λ d. h .edges x y g .1 (e .1 d));
+  }
+
+module _ (l m : List ℕ) (s : (k : ℕ) → 25602 ≤ k → k < 41986 → getD m k 0 ≡ getD l k 0) where
+  -- a class row
+  pub class-row-kept : (n p : ℕ) → n < 512 → p < 16 → classRowIn m n p ≡ classRowIn l n p
+  unfolding classRowIn
+  class-row-kept n p h k =
+      number-cong 2 m l (25602 + (n * 16 + p) * 2) (25602 + (n * 16 + p) * 2)
+      (λ i g. s (25602 + (n * 16 + p) * 2 + i) (omega arith) (omega arith))
+
+  -- the after words
+  pub after-words-kept : {j : Job} {nodes : ℕ} → WellFormedJob j → nodes ≤ 512 → AfterHeld j l nodes → AfterHeld j m nodes
+  after-words-kept f h a = record {
+    sound = λ n p q g b d. a .sound n p q g b (rw (class-row-kept n p (lt-of-lt-of-le g h) b) at d);
+    whole = λ n p q g b e x w.
+        rw (class-row-kept n p (lt-of-lt-of-le g h) (lt-of-lt-of-le b (f .rule .few-states))) (a .whole n p q g b e x w);
   }

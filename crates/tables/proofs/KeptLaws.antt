@@ -3,16 +3,16 @@
 use mathlib.Core.Path.{_≡_, refl, ap, _∙_}
 use mathlib.Core.Logic.{_↔_, inl, inr}
 use mathlib.Core.List.{List}
-use Prim.Native.Nat.{ℕ, _+_, _*_, _≤_, _<_}
-use native.Mathlib.Nat.{le-refl, lt-of-lt-of-le}
+use Prim.Native.Nat.{ℕ, _+_, _≤_, _<_}
+use native.Mathlib.Nat.{le-refl}
 use native.Mathlib.Omega.{arith}
 use lib.Dec.{eqb}
-use Rattle.laws.proofs.Bytes.{number-cong}
+use lib.ListN.{getD}
 use Rattle.job.specs.Job.{Job, WellFormedJob}
-use Rattle.reader.specs.Layout.{nodeIn, startIn, targetIn}
+use Rattle.joblines.specs.Layout.{nodeIn, startIn, targetIn}
 use Rattle.tables.specs.Tables.{classRowIn, enabledIn, EdgeIn, SearchKept, Grown}
 use Rattle.tables.specs.Held.{EdgesWithin, Usable, JobHeld, PlanHeld, AfterHeld}
-use Rattle.tables.proofs.JobKeptLaws.{FrontKept, front-node, front-start, front-target, front-edge, front-edges-within, front-usable, front-job}
+use Rattle.tables.proofs.JobKeptLaws.{FrontKept, front-node, front-start, front-target, front-edge, front-edges-within, front-usable, front-job, class-row-kept, after-words-kept}
 
 -- ---- composition
 
@@ -64,12 +64,13 @@ module _ {l m : List ℕ} (s : SearchKept l m) where
   pub target-same : (i : ℕ) → i < 2048 → targetIn m i ≡ targetIn l i
   target-same = front-target front
 
+  -- the class rows
+  classes : (k : ℕ) → 25602 ≤ k → k < 41986 → getD m k 0 ≡ getD l k 0
+  classes k g h = s .outside k (inr (inl (g, omega arith)))
+
   -- a class row
   pub class-same : (n p : ℕ) → n < 512 → p < 16 → classRowIn m n p ≡ classRowIn l n p
-  unfolding classRowIn
-  class-same n p h k =
-      number-cong 2 m l (25602 + (n * 16 + p) * 2) (25602 + (n * 16 + p) * 2)
-      (λ i g. s .outside (25602 + (n * 16 + p) * 2 + i) (inr (inl (omega arith, omega arith))))
+  class-same = class-row-kept l m classes
 
   -- the plan
   pub enabled-same : (n : ℕ) → n < 512 → enabledIn m n ≡ enabledIn l n
@@ -100,8 +101,4 @@ module _ {l m : List ℕ} (s : SearchKept l m) where
 
   -- the after words
   pub after-same : {j : Job} {nodes : ℕ} → WellFormedJob j → nodes ≤ 512 → AfterHeld j l nodes → AfterHeld j m nodes
-  after-same f h a = record {
-    sound = λ n p q g b d. a .sound n p q g b (rw (class-same n p (omega arith) b) at d);
-    whole = λ n p q g b e x w.
-        rw (class-same n p (omega arith) (lt-of-lt-of-le b (f .rule .few-states))) (a .whole n p q g b e x w);
-  }
+  after-same = after-words-kept l m classes

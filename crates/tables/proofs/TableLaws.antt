@@ -19,8 +19,8 @@ use Rattle.laws.proofs.Bounded.{sum-cong}
 use Rattle.laws.proofs.Bits.{has-or, has-with-same, has-with-other, with-lt}
 use Rattle.laws.proofs.Bytes.{number-lt, number-put, number-put-other, put-number, length-put, getD-put-outside}
 use Rattle.laws.proofs.Tests.{or-left, or-right, or-passes}
-use Rattle.reader.proofs.KeptLaws.{kept-none, kept-put}
-use Rattle.tables.specs.Tables.{pairRowIn, classRowIn, marksIn, markedIn, Held, joined, unmarked, apartJoined, Zeroed, pairsLeft, apartLeft, SearchKept, PairsJoined, MarksTaken, ApartGrown}
+use Rattle.joblines.proofs.KeptLaws.{kept-none, kept-put}
+use Rattle.tables.specs.Tables.{pairRowIn, classRowIn, marksIn, markedIn, Held, joined, unmarked, apartJoined, Zeroed, pairsLeft, apartLeft, SearchKept, PairsJoined, NextMarked, MarksTaken, ApartGrown}
 use Rattle.tables.proofs.KeptLaws.{grown-none}
 
 -- ---- numbers and sums
@@ -108,24 +108,24 @@ module _ (l : List ℕ) (n p s : ℕ) (long : 65536 ≤ length l) (few : n < 512
 -- ---- marks
 
 -- the marks change as those of the one node that are stored
-marks-change
+pub marks-change
     : (l m : List ℕ) (n a b : ℕ) → n < 512 → ((k : ℕ) → (k ≡ n → ⊥) → marksIn m k ≡ marksIn l k) → marksIn m n + a ≤ marksIn l n + b
     → sumBelow 512 (λ k. marksIn m k) + a ≤ sumBelow 512 (λ k. marksIn l k) + b
 marks-change l m n a b h same c = sum-change 512 (λ k. marksIn m k) (λ k. marksIn l k) n a b h (λ i x. same i) c
 
 -- the marks of another node
-marks-other : (l : List ℕ) (n v k : ℕ) → (k ≡ n → ⊥) → marksIn (putNumber 2 l (45314 + n * 2) v) k ≡ marksIn l k
+pub marks-other : (l : List ℕ) (n v k : ℕ) → (k ≡ n → ⊥) → marksIn (putNumber 2 l (45314 + n * 2) v) k ≡ marksIn l k
 unfolding marksIn
 marks-other l n v k h = number-row l 45314 k n v h
 
 -- the marks that are stored
-marks-here
+pub marks-here
     : (l : List ℕ) (n v : ℕ) → 65536 ≤ length l → n < 512 → v < 65536 → marksIn (putNumber 2 l (45314 + n * 2) v) n ≡ v
 unfolding marksIn
 marks-here l n v long h fits = number-put 2 l (45314 + n * 2) v fits (omega arith)
 
 -- a byte that a search keeps is none of the marks
-not-marks
+pub not-marks
     : (n : ℕ) → n < 512 → (k : ℕ) → (k < 9218) ⊎ (((25602 ≤ k) × (k < 45314)) ⊎ (46338 ≤ k))
     → (k < 45314 + n * 2) ⊎ (45314 + n * 2 + 2 ≤ k)
 not-marks n h k (inl o) = inl (omega arith)
@@ -141,7 +141,7 @@ not-row n p h g k (inr (inl o)) = inr (omega arith)
 not-row n p h g k (inr (inr o)) = inr (omega arith)
 
 -- the numbers in front of the marks
-number-front : (l : List ℕ) (n v i : ℕ) → i + 2 ≤ 45314 → numberAt 2 (putNumber 2 l (45314 + n * 2) v) i ≡ numberAt 2 l i
+pub number-front : (l : List ℕ) (n v i : ℕ) → i + 2 ≤ 45314 → numberAt 2 (putNumber 2 l (45314 + n * 2) v) i ≡ numberAt 2 l i
 number-front l n v i h = number-put-other 2 2 l (45314 + n * 2) i v (inl (omega arith))
 
 -- marks taken down, in the shape of the code
@@ -168,6 +168,44 @@ marks-taken l m n due long few were d =
       others = others;
       left = omega arith;
     }
+
+-- no node from n up to `next` has marks
+pub record Unmarked (work : List ℕ) (n nodes next : ℕ) : Type 0 where
+  pub from : n ≤ next
+  pub within : next ≤ nodes
+  pub none : (k : ℕ) → n ≤ k → k < next → marksIn work k ≡ 0
+
+-- none yet
+pub unmarked-start : (work : List ℕ) (n nodes : ℕ) → n ≤ nodes → Unmarked work n nodes n
+unmarked-start work n nodes h = record { from = le-refl n; within = h; none = λ k a b. absurd (omega arith) }
+
+module _ {work : List ℕ} {n nodes next : ℕ} (u : Unmarked work n nodes next) where
+  -- a node more
+  pub unmarked-more : {marks : ℕ} → next < nodes → marks ≡ numberAt 2 work (45314 + next * 2) → marks ≡ 0 → Unmarked work n nodes (next + 1)
+  unfolding marksIn
+  unmarked-more less is zero-is = record {
+    from = omega (arith, u .from);
+    within = omega arith;
+    none = λ k a b.
+        by-cases (ℕ-discrete k next)
+        (λ (e : k ≡ next). rw (e, ← is) zero-is)
+        (λ (ne : k ≡ next → ⊥). u .none k a (omega arith));
+  }
+
+  -- a node with marks
+  pub next-here : {marks : ℕ} → marks ≡ numberAt 2 work (45314 + next * 2) → (marks ≡ 0 → ⊥) → NextMarked work n nodes next
+  unfolding marksIn
+  next-here is some = record { from = u .from; within = u .within; none = u .none; some = λ h. rw (← is) (omega arith) }
+
+  -- all nodes are passed
+  pub next-none : nodes ≤ next → NextMarked work n nodes nodes
+  next-none past =
+      let e : next ≡ nodes = omega (arith, u .within) in record {
+        from = omega (arith, u .from);
+        within = le-refl nodes;
+        none = λ k a b. u .none k a (omega arith);
+        some = λ h. absurd (omega arith);
+      }
 
 -- ---- rows of pairs
 

@@ -9,7 +9,7 @@ use lib.ListN.{length, getD}
 use Rattle.automaton.specs.Automaton.{next, cell}
 use Rattle.job.specs.Job.{Job, nodeAt, leads, WellFormedJob}
 use Rattle.job.specs.Words.{WordApart}
-use Rattle.reader.specs.Layout.{nodeIn, startIn, targetIn}
+use Rattle.joblines.specs.Layout.{nodeIn, startIn, targetIn}
 use Rattle.tables.specs.Rows.{CellsBelow}
 use Rattle.tables.specs.Tables.{EdgeIn, HeldApart, planPart}
 

@@ -2,4 +2,5 @@
 -- Assumes nothing.
 pub mod Rows
 pub mod Tables
+pub mod Quads
 pub mod Held

@@ -11,7 +11,7 @@ use lib.ListN.{length, getD}
 use Rattle.laws.specs.Bounded.{sumBelow}
 use Rattle.laws.specs.Bits.{has, with}
 use Rattle.laws.specs.Bytes.{numberAt, putNumber}
-use Rattle.reader.specs.Layout.{startIn, targetIn, SameOutside}
+use Rattle.joblines.specs.Layout.{startIn, targetIn, SameOutside}
 
 -- ---- the parts, by their first bytes
 
@@ -131,6 +131,13 @@ pub record PairsJoined (l m : List ℕ) (n p s : ℕ) : Type 0 where
   pub grown : Grown l m
   pub here : (q : ℕ) → has s q ≡ true → Held m n p q
   pub new : (k r q : ℕ) → k < 512 → r < 16 → Held m k r q → Held l k r q ⊎ ((k ≡ n) × ((r ≡ p) × (has s q ≡ true)))
+
+-- the first node from n on that has marks; `nodes` where none has
+pub record NextMarked (work : List ℕ) (n nodes next : ℕ) : Type 0 where
+  pub from : n ≤ next
+  pub within : next ≤ nodes
+  pub none : (k : ℕ) → n ≤ k → k < next → marksIn work k ≡ 0
+  pub some : next < nodes → 0 < marksIn work next
 
 -- the marks of node n were taken down; they were those of the set `due`
 pub record MarksTaken (l m : List ℕ) (n due : ℕ) : Type 0 where

@@ -4,7 +4,7 @@ ghost use mathlib.Core.Bool.{cond};
 ghost use Prim.Native.Nat.{ℕ, _%_, _≤_, _<_};
 ghost use lib.ListN.{length};
 ghost use Rattle.job.specs.Job.{event};
-ghost use Rattle.reader.specs.Layout.{nodeIn, startIn, targetIn};
+ghost use Rattle.joblines.specs.Layout.{nodeIn, startIn, targetIn};
 ghost use Rattle.tables.specs.Rows.{callSet, isEvent};
 ghost use Rattle.tables.specs.Tables.{enabledIn};
 use words::read16;

@@ -2,17 +2,17 @@
 ghost use mathlib.Core.Path.{_≡_};
 ghost use Prim.Native.Nat.{_<_, _≤_};
 ghost use lib.ListN.{length};
-ghost use Rattle.tables.specs.Tables.{pairRowIn, classRowIn, Zeroed, PairsJoined, MarksTaken, ApartGrown};
+ghost use Rattle.tables.specs.Tables.{pairRowIn, classRowIn, Zeroed, PairsJoined, NextMarked, MarksTaken, ApartGrown};
 use sets::insert;
 use words::read16;
 use words::write16;
 
 // Where the rows of pairs, the class rows and the marks lie.
-const PAIRS: usize = 9218;
+pub const PAIRS: usize = 9218;
 
 const CLASSES: usize = 25602;
 
-const MARKS: usize = 45314;
+pub const MARKS: usize = 45314;
 
 // Row p of the pairs of node n.
 pub fn pair_row(work: &[u8], n: usize, p: usize) -> u16
@@ -37,6 +37,21 @@ pub fn join_pairs(work: &mut [u8], n: usize, p: usize, s: u16)
     let due = read16(work, marks);
     write16(work, at, new);
     write16(work, marks, insert(due, p as u32));
+}
+
+// The first node from n on that has marks; `nodes` where none has.
+pub fn next_marked(work: &[u8], n: usize, nodes: usize) -> usize
+    requires { ⌜ (65536 ≤ length (now work)) × ((n ≤ nodes) × (nodes ≤ 512)) ⌝ }
+    ensures { λ r. ⌜ NextMarked (now (work .entry)) n nodes r ⌝ }
+{
+    let mut next = n;
+    while next < nodes {
+        if read16(work, MARKS + next * 2) != 0 {
+            return next;
+        }
+        next += 1;
+    }
+    nodes
 }
 
 // Takes down the marks of node n: the rows that were marked.

@@ -2,7 +2,7 @@
 -- Assumes nothing.
 use mathlib.Core.Path.{sym, ap, _∙_}
 use Rattle.jobfile.specs.File.{readJob}
-use Rattle.reader.specs.declared.head.Head.{Head}
+use Rattle.joblines.specs.declared.head.Head.{Head}
 use Rattle.reading.proofs.ReadingLaws.{call-1, call-2, call-read, cleared-read, number-refused, number-accepted}
 use borrow.Author.Needs.{needs}
 use Rattle.reading.proofs.reading_job.Statement.{statement}

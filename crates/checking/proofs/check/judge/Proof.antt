@@ -4,7 +4,7 @@ use mathlib.Core.Path.{sym, _∙_}
 use mathlib.Core.Bool.{true, false}
 use borrow.Author.Needs.{needs}
 use borrow.Author.Tests.{not-true, not-false}
-use Rattle.reader.specs.Layout.{ruleIn}
+use Rattle.reader.specs.Rule.{ruleIn}
 use Rattle.checking.proofs.CheckLaws.{other-length, other-marks, stored-usable, after-usable, table-usable, search-judged}
 use Rattle.checking.proofs.check.judge.Statement.{statement}
 use Rattle.checking.proofs.check.judge.Tie as tie

@@ -2,7 +2,7 @@
 -- Assumes nothing.
 use mathlib.Core.Path.{sym, _∙_}
 use borrow.Author.Needs.{needs}
-use Rattle.reader.specs.Layout.{nodeIn}
+use Rattle.joblines.specs.Layout.{nodeIn}
 use Rattle.checking.proofs.PlanLaws.{mark-shadow, mark-other}
 use Rattle.checking.proofs.plan.is_mark.Statement.{statement}
 use Rattle.checking.proofs.plan.is_mark.Tie as tie

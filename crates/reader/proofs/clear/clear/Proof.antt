@@ -6,7 +6,7 @@ use mathlib.Core.Path.{_≡_, _∙_}
 use native.Mathlib.Omega.{arith}
 use borrow.Author.Needs.{needs}
 use lib.ListN.{length, length-set}
-use Rattle.reader.specs.Layout.{filled}
+use Rattle.joblines.specs.Layout.{filled}
 use Rattle.reader.proofs.ClearLaws.{filled-none, filled-more, filled-end}
 use Rattle.reader.proofs.clear.clear.Statement.{statement}
 use Rattle.reader.proofs.clear.clear.Tie as tie

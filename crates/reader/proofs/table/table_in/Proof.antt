@@ -1,6 +1,6 @@
 -- `reader::table::table_in` meets its contract: the table of the rule's part of the buffer.
 -- Assumes nothing.
-use Rattle.reader.specs.Layout.{ruleIn}
+use Rattle.reader.specs.Rule.{ruleIn}
 use borrow.Author.Needs.{needs}
 use Rattle.reader.proofs.table.table_in.Statement.{statement}
 use Rattle.reader.proofs.table.table_in.Tie as tie

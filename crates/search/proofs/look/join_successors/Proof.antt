@@ -1,5 +1,5 @@
 -- `search::look::join_successors` meets its contract.
--- Invariant: the row is joined at the ends of the edges of the node below i, and nothing else is new.
+-- Invariant: the rows are joined at the ends of the edges of the node below i, and nothing else is new.
 -- Measure: the edges still to be passed. Each turn is one step of `Joining`.
 -- Assumes nothing.
 use Prim.Native.Nat.{_-_}
@@ -10,10 +10,10 @@ use Rattle.search.proofs.look.join_successors.Statement.{statement}
 use Rattle.search.proofs.look.join_successors.Tie as tie
 
 abbrev Inv-loop : tie.InvT-loop
-Inv-loop work₀ n p s end i₀ work i = Joining work₀ work n p s i
+Inv-loop work₀ n quads end i₀ work i = Joining work₀ work n quads i
 
 abbrev μ-loop : tie.MeasureT-loop
-μ-loop work₀ n p s end i₀ work i = end - i
+μ-loop work₀ n quads end i₀ work i = end - i
 
 add-start-at : tie.Need-add-start-at Inv-loop μ-loop
 add-start-at c = search needs
@@ -25,25 +25,21 @@ start-at-requires-2 : tie.Need-start-at-requires-2 Inv-loop μ-loop
 start-at-requires-2 c κs = search needs
 
 loop-holds : tie.Need-loop-holds Inv-loop μ-loop
-loop-holds c = joining-start _ _ _ _ _ (c .start-at2 .ensures)
+loop-holds c = joining-start _ _ _ _ (c .start-at2 .ensures)
 
 target-at-requires : tie.Need-target-at-requires Inv-loop μ-loop
 target-at-requires c κs =
     let start = c .before .before .before .before .before .before .before .before in (
       omega (arith, c .before .before .loop .inv .grown .kept .long),
-      index-within _ _ _ _ (start .pre .1 .1 .1) (c .before .before .before .before .before .start-at .ensures) (c .before .loop-test .taken),
+      index-within _ _ _ _ (start .pre .1 .1) (c .before .before .before .before .before .start-at .ensures) (c .before .loop-test .taken),
     )
 
-join-pairs-requires : tie.Need-join-pairs-requires Inv-loop μ-loop
-join-pairs-requires c κs =
+join-rows-requires : tie.Need-join-rows-requires Inv-loop μ-loop
+join-rows-requires c κs =
     let loop = c .before .before .before .before in (
       omega (arith, loop .loop .inv .grown .kept .long),
-      (
-        target-within _ _ _ _ _ _ _ _ (loop .before .before .before .before .before .before .pre .1 .1 .1)
-            (loop .before .before .before .start-at .ensures) (loop .loop .inv) (c .before .before .before .loop-test .taken)
-            (c .before .target-at .ensures),
-        search needs,
-      ),
+      target-within (loop .before .before .before .before .before .before .pre .1 .1) (loop .before .before .before .start-at .ensures)
+          (loop .loop .inv) (c .before .before .before .loop-test .taken) (c .before .target-at .ensures),
     )
 
 add-i : tie.Need-add-i Inv-loop μ-loop
@@ -55,17 +51,16 @@ loop-less c = search needs
 loop-again : tie.Need-loop-again Inv-loop μ-loop
 loop-again c =
     let loop = c .before .before .before .before .before .before .before in
-    let pre = loop .before .before .before .before .before .before .pre in
-    joining-more _ _ _ _ _ _ _ _ _ (pre .1 .1 .0) (pre .1 .1 .1) (loop .before .before .before .start-at .ensures) (loop .loop .inv)
-    (c .before .before .before .before .before .before .loop-test .taken) (c .before .before .before .before .target-at .ensures)
-    (c .before .before .join-pairs .ensures)
+    joining-more (loop .before .before .before .before .before .before .pre .1 .1) (loop .before .before .before .start-at .ensures)
+    (loop .loop .inv) (c .before .before .before .before .before .before .loop-test .taken)
+    (c .before .before .before .before .target-at .ensures) _ (c .before .before .join-rows .ensures)
 
 same-length : tie.Need-same-length Inv-loop μ-loop
 same-length c = c .before .loop .inv .grown .kept .long
 
 returns : tie.Need-returns Inv-loop μ-loop
 returns c =
-    joining-end _ _ _ _ _ _ _ (c .before .before .before .before .start-at .ensures) (c .before .loop .inv) (omega arith)
+    joining-end _ _ _ _ _ _ (c .before .before .before .before .start-at .ensures) (c .before .loop .inv) (omega arith)
 
 pub join-successors-spec : {M : Type 1} → statement M
 join-successors-spec =
@@ -78,7 +73,7 @@ join-successors-spec =
     start-at-requires-2
     loop-holds
     target-at-requires
-    join-pairs-requires
+    join-rows-requires
     add-i
     loop-less
     loop-again

@@ -5,8 +5,7 @@
 use borrow.Author.Needs.{needs}
 use denote.Ref.{now}
 use native.Mathlib.Omega.{arith}
-use Rattle.tables.proofs.KeptLaws.{edges-within-same}
-use Rattle.search.proofs.LookLaws.{RowRead, RowMoved, spread-told, look-empty, look-word, look-long, look-small, look-point, look-exit, look-closed}
+use Rattle.search.proofs.LookLaws.{RowRead, RowMoved, spread-told, look-empty, look-word, look-long, look-small, look-point, look-exit}
 use Rattle.search.proofs.look.look.Statement.{statement}
 use Rattle.search.proofs.look.look.Tie as tie
 
@@ -29,8 +28,7 @@ row-read c =
       long = pre .0;
       node = pre .1 .0;
       row = pre .1 .1 .0;
-      cells = pre .1 .1 .1 .0;
-      within = pre .1 .1 .1 .1;
+      cells = pre .1 .1 .1;
       short = c .before .before .before .pair-row .ok;
       some = omega arith;
       row-is = c .before .before .before .pair-row .ensures;
@@ -66,7 +64,7 @@ same-length : tie.Need-same-length
 same-length c = search needs
 
 returns : tie.Need-returns
-returns c = look-empty _ _ _ _ _ _ (c .before .pair-row .ensures) (c .if1 .taken)
+returns c = look-empty _ _ _ _ _ _ (c .before .before .before .before .pre .1 .1 .0) (c .before .pair-row .ensures) (c .if1 .taken)
 
 call-set-requires : tie.Need-call-set-requires
 call-set-requires c κs = search needs
@@ -109,22 +107,7 @@ same-length-4 : tie.Need-same-length-4
 same-length-4 c = search needs
 
 returns-4 : tie.Need-returns-4
-returns-4 c = look-exit (row-moved (c .before .before .before .before)) _ (c .before .class-row .ensures) (c .if4 .taken)
-
-join-successors-requires : tie.Need-join-successors-requires
-join-successors-requires c κs =
-    let moved = row-moved (c .before .before .before .before .before) in
-    let within = edges-within-same (moved .spread .grown .kept) _ (moved .read .node) (moved .read .within) in
-    (look-long moved, (moved .read .node, (look-small moved, within)))
-
-same-length-5 : tie.Need-same-length-5
-same-length-5 c = search needs
-
-returns-5 : tie.Need-returns-5
-returns-5 c =
-    let other = c .before .before .before .before in
-    look-closed (row-moved (other .before .before .before .before)) _ _ (other .before .before .before .if3 .left)
-    (other .before .class-row .ensures) (other .if4 .left) (c .before .before .join-successors .ensures)
+returns-4 c = look-exit (row-moved (c .before .before .before)) _ (c .before .before .if3 .left) (c .class-row .ensures)
 
 pub look-spec : {M : Type 1} → statement M
 look-spec =
@@ -145,7 +128,4 @@ look-spec =
     returns-3
     class-row-requires
     same-length-4
-    returns-4
-    join-successors-requires
-    same-length-5
-    returns-5)
+    returns-4)

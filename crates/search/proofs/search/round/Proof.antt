@@ -1,5 +1,6 @@
 -- `search::search::round` meets its contract.
--- Invariant: every pair held follows the first ones, and rows that are not marked are closed if they were; within a node, so are the rows looked at.
+-- Invariant: every pair held follows the first ones, and rows that are not marked are closed if they were; within a node the rows looked at
+-- are closed but for its edges, and `quads` has their pairs past the node, which the edges then get.
 -- Measure: the nodes, and within a node the set of rows, still to be looked at.
 -- Assumes nothing.
 use Prim.Native.Nat.{ℕ, _-_, _<_}
@@ -8,17 +9,17 @@ use native.Mathlib.Omega.{arith}
 use borrow.Author.Needs.{needs}
 use Rattle.laws.proofs.Walk.{clear-lt}
 use Rattle.tables.proofs.KeptLaws.{usable-same}
-use Rattle.search.proofs.RoundLaws.{RowsSoFar, rows-none, row-small, rows-more}
+use Rattle.search.proofs.RoundLaws.{RowsSoFar, rows-none, no-quads, row-small, rows-more, node-looked}
 use Rattle.search.proofs.RoundLaws.{RoundSoFar, round-none, round-more, round-split, round-end}
 use Rattle.search.proofs.search.round.Statement.{statement}
 use Rattle.search.proofs.search.round.Tie as tie
 
 abbrev Inv-loop : tie.InvT-loop
-Inv-loop work₀ table finals states nodes result₀ n due rest₀ work result rest =
-    (result ≡ result₀) × RowsSoFar table finals states nodes work₀ work n due rest
+Inv-loop work₀ table finals states nodes result₀ n due quads₀ rest₀ work result quads rest =
+    (result ≡ result₀) × RowsSoFar table finals states nodes work₀ work n due rest quads
 
 abbrev μ-loop : tie.MeasureT-loop
-μ-loop work₀ table finals states nodes result₀ n due rest₀ work result rest = rest
+μ-loop work₀ table finals states nodes result₀ n due quads₀ rest₀ work result quads rest = rest
 
 abbrev Inv-search : tie.InvT-search
 Inv-search work₀ table finals states nodes result₀ n₀ work result n = RoundSoFar table finals states nodes work₀ work n result
@@ -26,19 +27,24 @@ Inv-search work₀ table finals states nodes result₀ n₀ work result n = Roun
 abbrev μ-search : tie.MeasureT-search
 μ-search work₀ table finals states nodes result₀ n₀ work result n = nodes - n
 
+next-marked-requires : tie.Need-next-marked-requires Inv-loop μ-loop Inv-search μ-search
+next-marked-requires c κs =
+    let u = c .before .before .pre in
+    (u .long, (omega arith, u .few-nodes))
+
 search-holds : tie.Need-search-holds Inv-loop μ-loop Inv-search μ-search
-search-holds c = round-none _
+search-holds c = round-none _ _ (c .next-marked .ensures)
 
 take-marks-requires : tie.Need-take-marks-requires Inv-loop μ-loop Inv-search μ-search
 take-marks-requires c κs =
-    let u = c .before .before .before .before .pre in
+    let u = c .before .before .before .before .before .before .pre in
     (omega (arith, u .long, c .before .before .search .inv .kept .long), omega (arith, u .few-nodes))
 
 cast-result : tie.Need-cast-result Inv-loop μ-loop Inv-search μ-search
 cast-result c = search needs
 
 loop-holds : tie.Need-loop-holds Inv-loop μ-loop Inv-search μ-search
-loop-holds c = (refl, rows-none _ _ _ (omega arith))
+loop-holds c = (refl, rows-none _ _ _ _ (omega arith) refl no-quads)
 
 lowest-requires : tie.Need-lowest-requires Inv-loop μ-loop Inv-search μ-search
 lowest-requires c κs = search needs
@@ -48,48 +54,85 @@ cast-p c = search needs
 
 look-requires : tie.Need-look-requires Inv-loop μ-loop Inv-search μ-search
 look-requires c κs =
-    let start = c .before .before .before .before .before .before .before .before .before .before .before in
+    let start = c .before .before .before .before .before .before .before .before .before .before .before .before .before in
     let search = c .before .before .before .before .before .before .before .before .before .search in
     let t = c .before .before .before .before .before .before .take-marks .ensures in
     let r = c .before .before .before .loop .inv .1 in
-    let u = usable-same (r .grown .kept) (usable-same (t .kept) (usable-same (search .inv .kept) (start .pre))) in
-    let ln : search .n < start .args .nodes = omega arith in (
-      u .long,
-      (omega (arith, u .few-nodes), (row-small r (omega arith) (c .before .lowest .ensures), (u .cells, u .edges (search .n) ln))),
-    )
+    let taken = usable-same (t .kept) (usable-same (search .inv .kept) (start .pre)) in
+    let u = usable-same (r .grown .kept) taken in
+    (u .long, (omega (arith, u .few-nodes), (row-small taken (omega arith) r (omega arith) (c .before .lowest .ensures), u .cells)))
+
+mul-with-row : tie.Need-mul-with-row Inv-loop μ-loop Inv-search μ-search
+mul-with-row c = search needs
+
+array-read-with-row : tie.Need-array-read-with-row Inv-loop μ-loop Inv-search μ-search
+array-read-with-row c = omega (arith, c .before .before .before .before .look .ensures .small)
+
+with-row-requires : tie.Need-with-row-requires Inv-loop μ-loop Inv-search μ-search
+with-row-requires c κs = search needs
+
+mul-quads : tie.Need-mul-quads Inv-loop μ-loop Inv-search μ-search
+mul-quads c = search needs
+
+array-write-quads : tie.Need-array-write-quads Inv-loop μ-loop Inv-search μ-search
+array-write-quads c = omega (arith, c .before .before .before .before .before .before .look .ensures .small)
 
 without-lowest-requires : tie.Need-without-lowest-requires Inv-loop μ-loop Inv-search μ-search
 without-lowest-requires c κs = omega arith
 
 loop-less : tie.Need-loop-less Inv-loop μ-loop Inv-search μ-search
 loop-less c =
-    let l = c .before .before .before .before .before .before .before .before .loop in
+    let l = c .before .before .before .before .before .before .before .before .before .before .before .loop in
     rw (c .without-lowest .ensures) (clear-lt (l .rest) (omega arith))
 
 loop-again : tie.Need-loop-again Inv-loop μ-loop Inv-search μ-search
 loop-again c =
-    let start = c .before .before .before .before .before .before .before .before .before .before .before .before .before .before .before .before in
-    let i = c .before .before .before .before .before .before .before .before .before .before .before .before .before .before .search .inv in
-    let t = c .before .before .before .before .before .before .before .before .before .before .before .take-marks .ensures in
-    let r = c .before .before .before .before .before .before .before .before .loop .inv in
+    let start = c .before .before .before .before .before .before .before .before .before .before .before .before .before .before .before .before .before .before .before .before .before in
+    let i = c .before .before .before .before .before .before .before .before .before .before .before .before .before .before .before .before .before .search .inv in
+    let t = c .before .before .before .before .before .before .before .before .before .before .before .before .before .before .take-marks .ensures in
+    let r = c .before .before .before .before .before .before .before .before .before .before .before .loop .inv in
+    let look = c .before .before .before .before .before .before .before .look .ensures in
+    let low = c .before .before .before .before .before .before .before .before .before .lowest .ensures in
     let u = usable-same (t .kept) (usable-same (i .kept) (start .pre)) in (
       r .0,
-      rows-more u (omega arith) (omega arith) (c .before .before .before .before .before .before .lowest .ensures) (c .without-lowest .ensures) (c .before .if1 .left) (r .1)
-          (c .before .before .before .before .look .ensures),
+      rows-more u (omega arith) (r .1) (row-small u (omega arith) (r .1) (omega arith) low) look (omega arith) low (c .without-lowest .ensures)
+          (c .before .before .before .before .if1 .left) (omega (arith, c .before .before .struct-known2 .given)) (c .before .with-row .ensures),
     )
 
-add-n : tie.Need-add-n Inv-loop μ-loop Inv-search μ-search
-add-n c = search needs
+join-successors-requires : tie.Need-join-successors-requires Inv-loop μ-loop Inv-search μ-search
+join-successors-requires c κs =
+    let start = c .before .before .before .before .before .before .before .before .before .before .before .before .before in
+    let i = c .before .before .before .before .before .before .before .before .before .search .inv in
+    let t = c .before .before .before .before .before .before .take-marks .ensures in
+    let r = c .before .before .before .loop .inv .1 in
+    let u = usable-same (r .grown .kept) (usable-same (t .kept) (usable-same (i .kept) (start .pre))) in
+    (u .long, (omega (arith, u .few-nodes), u .edges _ (omega arith)))
+
+add-next-marked : tie.Need-add-next-marked Inv-loop μ-loop Inv-search μ-search
+add-next-marked c = search needs
+
+next-marked-requires-2 : tie.Need-next-marked-requires-2 Inv-loop μ-loop Inv-search μ-search
+next-marked-requires-2 c κs =
+    let start = c .before .before .before .before .before .before .before .before .before .before .before .before .before .before .before .before .before in
+    let i = c .before .before .before .before .before .before .before .before .before .before .before .before .before .search .inv in
+    let t = c .before .before .before .before .before .before .before .before .before .before .take-marks .ensures in
+    let r = c .before .before .before .before .before .before .before .loop .inv .1 in
+    let j = c .before .before .before .join-successors .ensures in
+    let u = usable-same (j .grown .kept) (usable-same (r .grown .kept) (usable-same (t .kept) (usable-same (i .kept) (start .pre)))) in
+    (u .long, (omega arith, u .few-nodes))
 
 search-less : tie.Need-search-less Inv-loop μ-loop Inv-search μ-search
-search-less c = search needs
+search-less c = omega (arith, c .next-marked2 .ensures .from)
 
 search-again : tie.Need-search-again Inv-loop μ-loop Inv-search μ-search
 search-again c =
-    let i = c .before .before .before .before .before .before .before .search .inv in
-    let t = c .before .before .before .before .take-marks .ensures in
-    let r = c .before .loop .inv in
-    round-more (c .before .before .before .before .before .before .before .before .before .pre) (omega arith) i t (r .1) (r .0) (omega arith)
+    let start = c .before .before .before .before .before .before .before .before .before .before .before .before .before .before .before .before .before .before in
+    let i = c .before .before .before .before .before .before .before .before .before .before .before .before .before .before .search .inv in
+    let t = c .before .before .before .before .before .before .before .before .before .before .before .take-marks .ensures in
+    let r = c .before .before .before .before .before .before .before .before .loop .inv in
+    let u = usable-same (t .kept) (usable-same (i .kept) (start .pre)) in
+    round-more (start .pre) (omega arith) i t (r .0) (node-looked u (omega arith) (r .1) (omega arith) (c .before .before .before .before .join-successors .ensures))
+    (c .next-marked2 .ensures)
 
 same-length : tie.Need-same-length Inv-loop μ-loop Inv-search μ-search
 same-length c = c .before .search .inv .kept .long
@@ -106,10 +149,12 @@ same-length-2 c =
 
 returns-2 : tie.Need-returns-2 Inv-loop μ-loop Inv-search μ-search
 returns-2 c =
+    let start = c .before .before .before .before .before .before .before .before .before .before .before .before .before .before .before .before .before in
     let i = c .before .before .before .before .before .before .before .before .before .before .before .before .before .search .inv in
     let t = c .before .before .before .before .before .before .before .before .before .before .take-marks .ensures in
     let r = c .before .before .before .before .before .before .before .loop .inv .1 in
-    round-split (c .before .before .before .before .before .before .before .before .before .before .before .before .before .before .before .pre) (omega arith) i t r (row-small r (omega arith) (c .before .before .before .before .before .lowest .ensures)) (c .if1 .taken)
+    let u = usable-same (t .kept) (usable-same (i .kept) (start .pre)) in
+    round-split (start .pre) (omega arith) i t (row-small u (omega arith) r (omega arith) (c .before .before .before .before .before .lowest .ensures)) (c .if1 .taken) r
     (c .before .before .before .look .ensures)
 
 pub round-spec : {M : Type 1} → statement M
@@ -120,6 +165,7 @@ round-spec =
     μ-loop
     Inv-search
     μ-search
+    next-marked-requires
     search-holds
     take-marks-requires
     cast-result
@@ -127,10 +173,17 @@ round-spec =
     lowest-requires
     cast-p
     look-requires
+    mul-with-row
+    array-read-with-row
+    with-row-requires
+    mul-quads
+    array-write-quads
     without-lowest-requires
     loop-less
     loop-again
-    add-n
+    join-successors-requires
+    add-next-marked
+    next-marked-requires-2
     search-less
     search-again
     same-length

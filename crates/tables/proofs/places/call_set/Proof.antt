@@ -7,7 +7,7 @@ use lib.ListN.{getD}
 use borrow.Author.Needs.{needs}
 use Rattle.laws.specs.Bytes.{numberAt}
 use Rattle.jobfile.specs.File.{kindOf}
-use Rattle.reader.specs.Layout.{nodeIn}
+use Rattle.joblines.specs.Layout.{nodeIn}
 use Rattle.tables.specs.Rows.{callSet}
 use Rattle.tables.proofs.places.call_set.Statement.{statement}
 use Rattle.tables.proofs.places.call_set.Tie as tie

@@ -1,7 +1,7 @@
 -- `tables::places::entry_set` meets its contract: the set is the number in its two bytes.
 -- Assumes nothing.
 use borrow.Author.Needs.{needs}
-use Rattle.reader.specs.Layout.{nodeIn}
+use Rattle.joblines.specs.Layout.{nodeIn}
 use Rattle.tables.proofs.places.entry_set.Statement.{statement}
 use Rattle.tables.proofs.places.entry_set.Tie as tie
 

@@ -9,7 +9,7 @@ use borrow.Author.Tests.{ne-eqb}
 use borrow.Author.Needs.{needs}
 use Rattle.laws.specs.Bytes.{numberAt}
 use Rattle.jobfile.specs.File.{kindOf}
-use Rattle.reader.specs.Layout.{nodeIn}
+use Rattle.joblines.specs.Layout.{nodeIn}
 use Rattle.tables.specs.Rows.{isEvent}
 use Rattle.tables.proofs.places.is_shadow.Statement.{statement}
 use Rattle.tables.proofs.places.is_shadow.Tie as tie

@@ -1,7 +1,7 @@
 -- `tables::places::start_at` meets its contract: the index is the number in its two bytes.
 -- Assumes nothing.
 use borrow.Author.Needs.{needs}
-use Rattle.reader.specs.Layout.{startIn}
+use Rattle.joblines.specs.Layout.{startIn}
 use Rattle.tables.proofs.places.start_at.Statement.{statement}
 use Rattle.tables.proofs.places.start_at.Tie as tie
 

@@ -8,7 +8,7 @@ use borrow.Author.Needs.{needs}
 use Rattle.laws.specs.Bytes.{numberAt}
 use Rattle.job.specs.Job.{event}
 use Rattle.jobfile.specs.File.{kindOf}
-use Rattle.reader.specs.Layout.{nodeIn}
+use Rattle.joblines.specs.Layout.{nodeIn}
 use Rattle.tables.proofs.places.symbol_at.Statement.{statement}
 use Rattle.tables.proofs.places.symbol_at.Tie as tie
 

@@ -1,7 +1,7 @@
 -- `tables::places::target_at` meets its contract: the end is the number in its two bytes.
 -- Assumes nothing.
 use borrow.Author.Needs.{needs}
-use Rattle.reader.specs.Layout.{targetIn}
+use Rattle.joblines.specs.Layout.{targetIn}
 use Rattle.tables.proofs.places.target_at.Statement.{statement}
 use Rattle.tables.proofs.places.target_at.Tie as tie
 

@@ -1,0 +1,200 @@
+-- Laws of what is found at all points together: the before sets as they are stored, and what each part of the search for them leaves.
+-- Assumes nothing.
+use mathlib.Core.Path.{_≡_, sym, ap, subst, _∙_}
+use mathlib.Core.Logic.{_⊎_, inl, inr, ⊎-elim}
+use mathlib.Core.Bool.{Bool, not}
+use mathlib.Core.List.{List}
+use Prim.Native.Nat.{ℕ, _+_, _-_, _*_, _^_, _≤_, _<_}
+use native.Mathlib.Nat.{eq-or-lt-of-le, le-of-suc-le-suc, le-add-right}
+use native.Mathlib.Numerals.{add-one}
+use native.Mathlib.Omega.{arith}
+use lib.Dec.{eqb}
+use lib.ListN.{length, getD, take, drop, length-drop}
+use lib.Seq.{getD-drop, ext-getD}
+use Rattle.laws.specs.Bytes.{putNumber}
+use Rattle.laws.proofs.Bytes.{number-cong, number-put, number-put-other}
+use Rattle.job.specs.Job.{Job}
+use Rattle.job.specs.Planning.{allEnabled}
+use Rattle.joblines.specs.Layout.{SameOutside}
+use Rattle.joblines.proofs.KeptLaws.{kept-none, kept-both, kept-put, number-kept}
+use Rattle.tables.specs.Tables.{pairRowIn}
+use Rattle.tables.specs.Held.{Usable, JobHeld, PlanHeld, AfterHeld}
+use Rattle.tables.proofs.JobKeptLaws.{front-kept, front-usable, front-job, after-words-kept}
+use Rattle.tables.proofs.SetLaws.{set-of-lt, set-of-cong}
+use Rattle.search.specs.Looking.{SearchedAt}
+use Rattle.search.proofs.SearchLaws.{event-node}
+use Rattle.search.proofs.AllEnabled.{all-enabled-finds}
+use Rattle.classes.specs.Backwards.{AfterWords, ClassesFound, heldStates}
+use Rattle.classes.proofs.FoundSays.{before-found}
+use Rattle.planning.specs.declared.passes.Counts.{Counts}
+use Rattle.planning.specs.Passes.{planIn, AllEnabled, PlanMade}
+use Rattle.plans.specs.Called.{countsOf}
+use Rattle.planning.proofs.PlanInLaws.{plan-in-held, planning-plan, usable-kept, job-kept, after-kept}
+use Rattle.findings.specs.Findings.{beforeIn, BeforeHeld, BeforeStored, BeforeFound, FoundHeld, Found}
+
+-- ---- the before sets as they are stored
+
+-- the states whose rows hold pairs are a set of sixteen bits
+pub held-states-small : (l : List ℕ) (n states : ℕ) → states ≤ 16 → heldStates l n states < 256 ^ 2
+unfolding heldStates
+held-states-small l n states h = set-of-lt 16 states (λ q. not (eqb (pairRowIn l n q) 0)) h
+
+-- a store past the rows of pairs leaves them
+held-states-kept
+    : {l m : List ℕ} {i j : ℕ} → SameOutside l m i j → 25602 ≤ i → (n states : ℕ) → n < 512 → states ≤ 16
+    → heldStates m n states ≡ heldStates l n states
+unfolding heldStates pairRowIn
+held-states-kept {l} {m} {i} {j} s far n states h few =
+    set-of-cong states (λ q. not (eqb (pairRowIn m n q) 0)) (λ q. not (eqb (pairRowIn l n q) 0))
+    (λ q g. ap (λ (x : ℕ). not (eqb x 0)) (number-kept l m i j s (9218 + (n * 16 + q) * 2) (inl (omega arith))))
+
+-- the before sets of the first n nodes are stored
+pub record StoredSoFar (l m : List ℕ) (states n : ℕ) : Type 0 where
+  pub kept : SameOutside l m 41986 44034
+  pub here : (k : ℕ) → k < n → beforeIn m k ≡ heldStates l k states
+
+-- none
+pub stored-start : (l : List ℕ) (states : ℕ) → StoredSoFar l l states 0
+stored-start l states = record { kept = kept-none l 41986 44034; here = λ k h. absurd (omega arith) }
+
+-- one more
+pub stored-more
+    : {l m r : List ℕ} {states n s : ℕ} → 65536 ≤ length l → states ≤ 16 → n < 512 → StoredSoFar l m states n
+    → s ≡ heldStates m n states → r ≡ putNumber 2 m (41986 + n * 4) s → StoredSoFar l r states (n + 1)
+unfolding beforeIn
+stored-more {l} {m} {r} {states} {n} {s} long few h g e put =
+    let long′ : 65536 ≤ length m = omega (arith, g .kept .long) in
+    let is : s ≡ heldStates l n states = e ∙ held-states-kept (g .kept) (omega arith) n states h few in
+    let small : s < 256 ^ 2 = subst (λ (x : ℕ). x < 256 ^ 2) (sym is) (held-states-small l n states few) in
+    record {
+      kept = kept-both l m r 41986 44034 (41986 + n * 4) (41986 + n * 4 + 2) (g .kept) (kept-put m r (41986 + n * 4) s put) (omega arith) (omega arith);
+      here = λ k b.
+          ⊎-elim
+          (λ (q : k ≡ n). rw (q, put) (number-put 2 m (41986 + n * 4) s small (omega arith) ∙ is))
+          (λ (q : k < n).
+          rw put (number-put-other 2 2 m (41986 + n * 4) (41986 + k * 4) s (inl (omega arith)) ∙ g .here k q))
+          (eq-or-lt-of-le (le-of-suc-le-suc (rw add-one at b)));
+    }
+
+-- all
+pub stored-end : {l m : List ℕ} {states n nodes : ℕ} → n ≡ nodes → StoredSoFar l m states n → BeforeStored l m states nodes
+stored-end {l} {m} {states} is g =
+    let g′ = subst (λ (k : ℕ). StoredSoFar l m states k) is g in record { kept = g′ .kept; here = g′ .here }
+
+-- ---- before sets and plan in buffers that agree where they lie
+
+-- the before set of a node
+before-cong
+    : (l m : List ℕ) → ((k : ℕ) → 41986 ≤ k → k < 44034 → getD m k 0 ≡ getD l k 0) → (n : ℕ) → n < 512 → beforeIn m n ≡ beforeIn l n
+unfolding beforeIn
+before-cong l m s n h =
+    number-cong 2 m l (41986 + n * 4) (41986 + n * 4) (λ k g. s (41986 + n * 4 + k) (omega arith) (omega arith))
+
+-- the plan
+plan-cong
+    : (l m : List ℕ) (nodes : ℕ) → length m ≡ length l → ((k : ℕ) → 44034 ≤ k → getD m k 0 ≡ getD l k 0) → planIn m nodes ≡ planIn l nodes
+unfolding planIn
+plan-cong l m nodes long s =
+    ap (take nodes)
+    (ext-getD 0 (drop 44034 m) (drop 44034 l) (length-drop 44034 m ∙ ap (λ (k : ℕ). k - 44034) long ∙ sym (length-drop 44034 l))
+    (λ i _. getD-drop 44034 m i 0 ∙ s (44034 + i) (le-add-right 44034 i) ∙ sym (getD-drop 44034 l i 0)))
+
+-- ---- the search for the before sets
+
+module _ {table : List (List ℕ)} {states nodes : ℕ} {l a : List ℕ} {count : ℕ} (u : Usable l table states nodes)
+    (all : AllEnabled l a nodes count) where
+  -- the buffer with all points watched may be searched
+  pub all-usable : Usable a table states nodes
+  all-usable = usable-kept (planning-plan (all .kept)) u
+
+  module _ {finals : ℕ} {b m : List ℕ} {answer : Bool} (s : SearchedAt table finals states nodes a b answer)
+      (stored : BeforeStored b m states nodes) where
+    -- the rows that the search leaves at a point give its before set
+    before-held : (j : Job) → JobHeld j l table finals states nodes → AfterHeld j l nodes → BeforeHeld j m
+    before-held j h r n x e =
+        let job = job-kept (planning-plan (all .kept)) u h in
+        let plan = subst (λ (p : List ℕ). PlanHeld p a nodes) (all .exact j table finals states h .0) (plan-in-held a nodes) in
+        let found = all-enabled-finds j a b answer (h .formed) (s .exact j (allEnabled j) job plan (after-kept (planning-plan (all .kept)) u h r)) in
+        let here : n < nodes = omega (arith, event-node j n x e, h .nodes-are) in
+        stored .here n here ∙ ap (heldStates b n) (h .states-are) ∙ before-found j b n (λ q g. found .1 n x q e g)
+
+    -- the before sets were found
+    pub before-searched : BeforeFound table finals states nodes l m
+    before-searched =
+        record {
+          front = kept-both l b m 9218 65536 41986 44034
+              (kept-both l a b 9218 65536 9218 65536
+              (kept-both l l a 9218 65536 44034 44546 (kept-none l 9218 65536) (all .kept) (omega arith) (omega arith))
+              (record { long = s .kept .long; outside = λ k o. s .kept .outside k (beside k o) }) (omega arith) (omega arith))
+              (stored .kept) (omega arith) (omega arith);
+          classes = λ k g h.
+              stored .kept .outside k (inl h) ∙ s .kept .outside k (inr (inl (g, omega arith))) ∙ all .kept .outside k (inl (omega arith));
+          exact = before-held;
+        }
+      where
+        beside : (k : ℕ) → (k < 9218) ⊎ (65536 ≤ k) → (k < 9218) ⊎ (((25602 ≤ k) × (k < 45314)) ⊎ (46338 ≤ k))
+        beside k (inl o) = inl o
+        beside k (inr o) = inr (inr (omega arith))
+
+-- ---- before sets, plan and classes
+
+module _ {table : List (List ℕ)} {finals states nodes : ℕ} {l a : List ℕ} (u : Usable l table states nodes)
+    (after : AfterWords table finals states nodes l a) where
+  -- the buffer with the after words may be searched
+  pub after-usable : Usable a table states nodes
+  after-usable = front-usable (front-kept (omega arith) (after .kept)) u
+
+  module _ {b : List ℕ} (found : BeforeFound table finals states nodes a b) where
+    -- with the before sets
+    pub before-usable : Usable b table states nodes
+    before-usable = front-usable (front-kept (omega arith) (found .front)) after-usable
+
+    module _ {c : List ℕ} {counts : Counts} (made : PlanMade table finals states nodes b c counts) where
+      -- with the plan
+      pub plan-usable : Usable c table states nodes
+      plan-usable = usable-kept (made .kept) before-usable
+
+      module _ {m : List ℕ} (grown : ClassesFound table finals states nodes c m) where
+        -- the bytes in front of the rows of pairs and past the buffer's part
+        all-kept : SameOutside l m 9218 65536
+        all-kept =
+            kept-both l c m 9218 65536 25602 41986
+            (kept-both l b c 9218 65536 9218 65536
+            (kept-both l a b 9218 65536 9218 65536
+            (kept-both l l a 9218 65536 25602 41986 (kept-none l 9218 65536) (after .kept) (omega arith) (omega arith))
+            (found .front) (omega arith) (omega arith))
+            (record { long = made .kept .long; outside = λ k o. made .kept .outside k (beside k o) }) (omega arith) (omega arith))
+            (grown .kept) (omega arith) (omega arith)
+          where
+            beside : (k : ℕ) → (k < 9218) ⊎ (65536 ≤ k) → (k < 9218) ⊎ (((25602 ≤ k) × (k < 44034)) ⊎ (46338 ≤ k))
+            beside k (inl o) = inl o
+            beside k (inr o) = inr (inr (omega arith))
+
+        -- the before sets stay
+        before-stays : (n : ℕ) → n < 512 → beforeIn m n ≡ beforeIn b n
+        before-stays =
+            before-cong b m (λ k g h. grown .kept .outside k (inr g) ∙ made .kept .outside k (inr (inl (omega arith, h))))
+
+        -- what is found is the job's
+        found-held
+            : (j : Job) → JobHeld j l table finals states nodes → FoundHeld j m table finals states nodes × (counts ≡ countsOf j)
+        found-held j h =
+            let first = front-job (front-kept (omega arith) (after .kept)) u h in
+            let words = after .exact j h in
+            let second = front-job (front-kept (omega arith) (found .front)) after-usable first in
+            let words′ = after-words-kept a b (found .classes) (h .formed) (u .few-nodes) words in
+            let third = job-kept (made .kept) before-usable second in
+            let words″ = after-kept (made .kept) before-usable second words′ in (
+              record {
+                job = front-job (front-kept (omega arith) (grown .kept)) plan-usable third;
+                before = λ n x e.
+                    before-stays n (omega (arith, event-node j n x e, h .nodes-are, u .few-nodes)) ∙ found .exact j first words n x e;
+                plan = plan-cong c m nodes (grown .kept .long) (λ k g. grown .kept .outside k (inr (omega arith))) ∙ made .plan j second words′;
+                classes = grown .exact j third words″;
+              },
+              λ i. record { shadows = made .shadows j second words′ i; enabled = made .enabled j second words′ i; passes = made .passes j second words′ i },
+            )
+
+        -- they were found
+        pub all-found : Found table finals states nodes l m counts
+        all-found = record { kept = all-kept; exact = found-held }

@@ -1,0 +1,49 @@
+-- What is found at all points together: the contracts of the parts, which a first reading may leave out.
+-- Assumes nothing.
+use mathlib.Core.Path.{_≡_}
+use mathlib.Core.List.{List}
+use Prim.Native.Nat.{ℕ, _+_, _*_, _≤_, _<_}
+use lib.ListN.{getD}
+use Rattle.laws.specs.Bytes.{numberAt}
+use Rattle.job.specs.Job.{event, Job, nodeAt}
+use Rattle.job.specs.Found.{statesBefore}
+use Rattle.job.specs.Listing.{planOf}
+use Rattle.joblines.specs.Layout.{SameOutside}
+use Rattle.tables.specs.Tables.{foundPart}
+use Rattle.tables.specs.Held.{JobHeld, AfterHeld}
+use Rattle.classes.specs.Backwards.{ClassesHeld, heldStates}
+use Rattle.planning.specs.declared.passes.Counts.{Counts}
+use Rattle.planning.specs.Passes.{planIn}
+use Rattle.plans.specs.Called.{countsOf}
+
+-- the before set that the buffer holds for node n
+unfoldable pub beforeIn : List ℕ → ℕ → ℕ
+beforeIn work n = numberAt 2 work (foundPart + n * 4)
+
+-- the before sets of the points are held
+abbrev pub BeforeHeld : Job → List ℕ → Type 0
+BeforeHeld j work = (n a : ℕ) → nodeAt j n .kind ≡ event a → beforeIn work n ≡ statesBefore j n
+
+-- for each node the states whose rows hold pairs were stored
+pub record BeforeStored (l m : List ℕ) (states nodes : ℕ) : Type 0 where
+  pub kept : SameOutside l m 41986 44034
+  pub here : (n : ℕ) → n < nodes → beforeIn m n ≡ heldStates l n states
+
+-- the before sets were found; rows of pairs, plan and marks are free
+pub record BeforeFound (table : List (List ℕ)) (finals states nodes : ℕ) (l m : List ℕ) : Type 0 where
+  pub front : SameOutside l m 9218 65536
+  pub classes : (k : ℕ) → 25602 ≤ k → k < 41986 → getD m k 0 ≡ getD l k 0
+  pub exact : (j : Job) → JobHeld j l table finals states nodes → AfterHeld j l nodes → BeforeHeld j m
+
+-- before sets, plan and classes of the job are held
+pub record FoundHeld (j : Job) (work : List ℕ) (table : List (List ℕ)) (finals states nodes : ℕ) : Type 0 where
+  pub job : JobHeld j work table finals states nodes
+  pub before : BeforeHeld j work
+  pub plan : planIn work nodes ≡ planOf j .plan
+  pub classes : ClassesHeld j work nodes
+
+-- they were found for every job that the buffer holds, and the counts are the plan's
+pub record Found (table : List (List ℕ)) (finals states nodes : ℕ) (l m : List ℕ) (counts : Counts) : Type 0 where
+  pub kept : SameOutside l m 9218 65536
+  pub exact
+      : (j : Job) → JobHeld j l table finals states nodes → FoundHeld j m table finals states nodes × (counts ≡ countsOf j)

@@ -1,0 +1,73 @@
+-- Laws of what stores leave: parts of the buffer apart from them are as before.
+-- Assumes nothing.
+use mathlib.Core.Path.{_≡_, refl, _∙_}
+use mathlib.Core.Logic.{_⊎_, inl, inr}
+use mathlib.Core.List.{List}
+use Prim.Native.Nat.{ℕ, _+_, _*_, _≤_, _<_}
+use native.Mathlib.Omega.{arith}
+use lib.ListN.{set, length-set}
+use lib.Seq.{getD-set-other}
+use Rattle.laws.specs.Bytes.{numberAt, putNumber}
+use Rattle.laws.proofs.Bytes.{number-cong, length-put, getD-put-outside}
+use Rattle.joblines.specs.Layout.{nodeIn, SameOutside}
+
+-- nothing is stored
+pub kept-none : (l : List ℕ) (i j : ℕ) → SameOutside l l i j
+kept-none l i j = record { long = refl; outside = λ k p. refl }
+
+-- a store after another, in a wider part
+pub kept-both
+    : (l m k : List ℕ) (i j a b : ℕ) → SameOutside l m i j → SameOutside m k a b → i ≤ a → b ≤ j → SameOutside l k i j
+kept-both l m k i j a b p q h g = record {
+  long = q .long ∙ p .long;
+  outside = λ x o. q .outside x (wider x o) ∙ p .outside x o;
+}
+  where
+    wider : (x : ℕ) → (x < i) ⊎ (j ≤ x) → (x < a) ⊎ (b ≤ x)
+    wider x (inl o) = inl (omega arith)
+    wider x (inr o) = inr (omega arith)
+
+-- one byte is stored
+pub kept-set : (l : List ℕ) (i v : ℕ) → SameOutside l (set l i v) i (i + 1)
+kept-set l i v = record { long = length-set l i v; outside = λ k o. getD-set-other l i k v 0 (other k o) }
+  where
+    other : (k : ℕ) → (k < i) ⊎ (i + 1 ≤ k) → k ≡ i → ⊥
+    other k (inl o) e = absurd (omega arith)
+    other k (inr o) e = absurd (omega arith)
+
+-- a number of two bytes is stored
+pub kept-put : (l m : List ℕ) (i v : ℕ) → m ≡ putNumber 2 l i v → SameOutside l m i (i + 2)
+kept-put l m i v e = rw e (record { long = length-put 2 l i v; outside = λ k o. getD-put-outside 2 l i v k 0 o })
+
+module _ (l m : List ℕ) (i j : ℕ) (p : SameOutside l m i j) where
+  -- a number of two bytes apart
+  pub number-kept : (x : ℕ) → (x + 2 ≤ i) ⊎ (j ≤ x) → numberAt 2 m x ≡ numberAt 2 l x
+  number-kept x o = number-cong 2 m l x x (λ k h. p .outside (x + k) (apart k h o))
+    where
+      apart : (k : ℕ) → k < 2 → (x + 2 ≤ i) ⊎ (j ≤ x) → (x + k < i) ⊎ (j ≤ x + k)
+      apart k h (inl q) = inl (omega arith)
+      apart k h (inr q) = inr (omega arith)
+
+  -- a node apart
+  pub node-kept : (n : ℕ) → (n * 8 + 8 ≤ i) ⊎ (j ≤ n * 8) → nodeIn m n ≡ nodeIn l n
+  unfolding nodeIn
+  node-kept n o =
+      rw (
+        number-kept (n * 8) (first o),
+        number-kept (n * 8 + 2) (far 2 2 o (omega arith)),
+        number-kept (n * 8 + 4) (far 4 2 o (omega arith)),
+        p .outside (n * 8 + 6) (near 6 o (omega arith)),
+        p .outside (n * 8 + 7) (near 7 o (omega arith)),
+      )
+    where
+      far : (a b : ℕ) → (n * 8 + 8 ≤ i) ⊎ (j ≤ n * 8) → a + b ≤ 8 → (n * 8 + a + b ≤ i) ⊎ (j ≤ n * 8 + a)
+      far a b (inl q) h = inl (omega arith)
+      far a b (inr q) h = inr (omega arith)
+
+      first : (n * 8 + 8 ≤ i) ⊎ (j ≤ n * 8) → (n * 8 + 2 ≤ i) ⊎ (j ≤ n * 8)
+      first (inl q) = inl (omega arith)
+      first (inr q) = inr q
+
+      near : (a : ℕ) → (n * 8 + 8 ≤ i) ⊎ (j ≤ n * 8) → a < 8 → (n * 8 + a < i) ⊎ (j ≤ n * 8 + a)
+      near a (inl q) h = inl (omega arith)
+      near a (inr q) h = inr (omega arith)

@@ -1,0 +1,4 @@
+-- The listing as a call.
+-- Assumes nothing.
+pub mod ListCall
+pub mod ListTrials

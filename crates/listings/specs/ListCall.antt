@@ -1,0 +1,60 @@
+-- Listing as a call (document 01, "The job file", "Turned back, by number" and "One listing in full"): its answer, and what it leaves of the
+-- lent bytes.
+-- Assumes nothing.
+use mathlib.Core.Path.{_≡_}
+use mathlib.Core.Bool.{_||_}
+use mathlib.Core.List.{List}
+use Prim.Native.Nat.{ℕ, _+_, _^_}
+use lib.Dec.{ltb}
+use lib.ListN.{length}
+use lib.Seq.{sets}
+use Rattle.job.specs.Job.{Job}
+use Rattle.job.specs.Listing.{listingOf}
+use Rattle.jobfile.specs.File.{Answer, accepted, turned}
+use Rattle.jobfile.specs.ListingLines.{listingBytes}
+use Rattle.joblines.specs.Layout.{workSize, SameOutside}
+use Rattle.tables.specs.Held.{JobHeld}
+use Rattle.plans.specs.Called.{admitted}
+use Rattle.listings.specs.declared.list.Listed.{Listed}
+use Rattle.listings.specs.declared.list.Listed.the-variants.{Length, Refused}
+
+-- "a listing buffer of at least 32,768 bytes", also where the text is shorter
+abbrev pub listingSize : ℕ
+listingSize = 32768
+
+-- for a work buffer and a listing buffer of these lengths
+abbrev pub listAnswer : List ℕ → ℕ → ℕ → Answer
+listAnswer file work listing = admitted file (ltb work workSize || ltb listing listingSize)
+
+-- the listing of a job, as bytes
+abbrev pub bytesFor : Job → List ℕ
+bytesFor j = listingBytes (listingOf j)
+
+-- what listing answers: "returns their length"
+abbrev pub listedOf : Answer → Listed
+listedOf (accepted j) = Length (length (bytesFor j))
+listedOf (turned k) = Refused k
+
+-- "writes the W and T lines from the buffer's start, changes no other byte of it"; "a refusal leaves plan, listing buffer and record
+-- unchanged"
+abbrev pub listingAfter : Answer → List ℕ → List ℕ
+listingAfter (accepted j) listing = sets listing 0 (bytesFor j)
+listingAfter (turned k) listing = listing
+
+-- across the C call: 2^48 plus the length, or the refusal's number
+abbrev pub numberOf : Listed → ℕ
+numberOf (Length n) = 2 ^ 48 + n
+numberOf (Refused k) = k
+
+-- ---- what the parts of the call leave
+
+-- the work buffer holds some job
+abbrev pub SomeJob : List ℕ → List (List ℕ) → ℕ → ℕ → ℕ → Type 0
+SomeJob work table finals states nodes = (j : Job) × JobHeld j work table finals states nodes
+
+-- the listing buffer holds the listing of every job that the work buffer holds; the work buffer's bytes past the first 65,536 are as they
+-- were
+pub record ListedHeld (table : List (List ℕ)) (finals states nodes : ℕ) (l m before after : List ℕ) (long : ℕ) : Type 0 where
+  pub kept : SameOutside l m 0 65536
+  pub exact
+      : (j : Job) → JobHeld j l table finals states nodes → (long ≡ length (bytesFor j)) × (after ≡ sets before 0 (bytesFor j))

@@ -1,0 +1,3 @@
+-- Planning in the work buffer.
+-- Assumes nothing.
+pub mod Passes

@@ -1,0 +1,4 @@
+-- Planning as a call.
+-- Assumes nothing.
+pub mod Called
+pub mod PlanCall

@@ -1,0 +1,55 @@
+-- Planning as a call (document 01, "Planning", "The job file" and "Turned back, by number"): its answer, and what it leaves of the lent bytes.
+-- Assumes nothing.
+use mathlib.Core.Path.{_≡_}
+use mathlib.Core.Logic.{_↔_}
+use mathlib.Core.Bool.{_||_}
+use mathlib.Core.List.{List}
+use Prim.Native.Nat.{ℕ, _+_, _*_, _^_, _≤_}
+use lib.Dec.{ltb}
+use lib.Seq.{sets}
+use Rattle.job.specs.Job.{Job}
+use Rattle.job.specs.Listing.{planOf}
+use Rattle.jobfile.specs.File.{Answer, accepted, turned}
+use Rattle.joblines.specs.Layout.{workSize, SameOutside}
+use Rattle.tables.specs.Held.{JobHeld}
+use Rattle.planning.specs.declared.passes.Counts.{Counts}
+use Rattle.plans.specs.Called.{admitted, countsOf}
+use Rattle.plans.specs.declared.plan.Outcome.{Outcome}
+use Rattle.plans.specs.declared.plan.Outcome.the-variants.{Planned, Refused}
+
+-- "a plan buffer of at least 512 bytes", also where N is smaller
+abbrev pub planSize : ℕ
+planSize = 512
+
+-- for a work buffer and a plan buffer of these lengths
+abbrev pub planAnswer : List ℕ → ℕ → ℕ → Answer
+planAnswer file work plan = admitted file (ltb work workSize || ltb plan planSize)
+
+-- what planning answers
+abbrev pub outcomeOf : Answer → Outcome
+outcomeOf (accepted j) = Planned (countsOf j)
+outcomeOf (turned k) = Refused k
+
+-- "accepted planning writes N plan bytes and no others"; "a refusal leaves plan, listing buffer and record unchanged"
+abbrev pub planAfter : Answer → List ℕ → List ℕ
+planAfter (accepted j) plan = sets plan 0 (planOf j .plan)
+planAfter (turned k) plan = plan
+
+-- "accepted planning is 2^48 plus event nodes times 2^32, watched points times 2^16, and passes; a refusal is its number"
+abbrev pub numberOf : Outcome → ℕ
+numberOf (Planned c) = 2 ^ 48 + c .shadows * 2 ^ 32 + c .enabled * 2 ^ 16 + c .passes
+numberOf (Refused k) = k
+
+-- the statement: a caller sees by the number whether the job was planned
+abbrev pub SeenByNumber : Type 0
+SeenByNumber =
+    (file : List ℕ) (work plan : ℕ)
+    → (2 ^ 48 ≤ numberOf (outcomeOf (planAnswer file work plan))) ↔ ((j : Job) × (planAnswer file work plan ≡ accepted j))
+
+-- ---- what the parts of the call leave
+
+-- the plan buffer holds the plan of every job that the work buffer holds; the work buffer's bytes past the first 65,536 are as they were
+pub record PlannedHeld (table : List (List ℕ)) (finals states nodes : ℕ) (l m before after : List ℕ) (counts : Counts) : Type 0 where
+  pub kept : SameOutside l m 0 65536
+  pub exact
+      : (j : Job) → JobHeld j l table finals states nodes → (counts ≡ countsOf j) × (after ≡ sets before 0 (planOf j .plan))

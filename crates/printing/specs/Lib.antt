@@ -1,0 +1,3 @@
+-- The lines of the listing, as they are written.
+-- Assumes nothing.
+pub mod Printing
