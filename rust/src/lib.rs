@@ -1,5 +1,5 @@
-//! The plan check and the event step of the monitor, for Rust: safe forms of the C calls in the proved
-//! static library.
+//! Planning, listing, the plan check and the event step of the monitor, for Rust: safe forms of the C
+//! calls in the proved static library.
 //! A refusal carries its number in document 01, "Turned back, by number".
 use std::{error, fmt};
 
@@ -27,8 +27,37 @@ mod ffi {
             rec: *mut u8,
             rec_len: usize,
         ) -> u64;
+
+        /// `#[no_mangle] pub extern "C" fn dapohiru_plan(job: &[u8], work: &mut [u8], plan: &mut [u8]) -> u64`
+        pub fn dapohiru_plan(
+            job: *const u8,
+            job_len: usize,
+            work: *mut u8,
+            work_len: usize,
+            plan: *mut u8,
+            plan_len: usize,
+        ) -> u64;
+
+        /// `#[no_mangle] pub extern "C" fn dapohiru_list(job: &[u8], work: &mut [u8], listing: &mut [u8]) -> u64`
+        pub fn dapohiru_list(
+            job: *const u8,
+            job_len: usize,
+            work: *mut u8,
+            work_len: usize,
+            listing: *mut u8,
+            listing_len: usize,
+        ) -> u64;
     }
 }
+
+/// The greatest length of a job file.
+pub const JOB_LEN: usize = 49_914;
+/// The least length of a work buffer, and the bytes of it that an answer clears.
+pub const WORK_LEN: usize = 65_536;
+/// The least length of a plan buffer.
+pub const PLAN_LEN: usize = 512;
+/// The least length of a listing buffer.
+pub const LISTING_LEN: usize = 32_768;
 
 /// The number of an accepted event without an alarm.
 const QUIET: u64 = 1 << 48;
@@ -96,6 +125,78 @@ pub fn check(job: &[u8], plan: &[u8], work: &mut [u8]) -> Result<Verdict, Refusa
         DIFFERENT => Ok(Verdict::Different),
         1..=12 => Err(Refusal(number)),
         _ => unreachable!("dapohiru_check returned {number}, which is none of its answers"),
+    }
+}
+
+/// What is added to the counts of accepted planning, and to the length of a listing.
+const ACCEPTED: u64 = 1 << 48;
+
+/// What planning counts.
+#[derive(Clone, Copy, Debug, PartialEq, Eq)]
+pub struct Counts {
+    /// The event nodes of the job ("points").
+    pub points: u64,
+    /// The points that the plan has watched.
+    pub watched: u64,
+    /// The passes over the points, with the last, which changes nothing.
+    pub passes: u64,
+}
+
+/// Plans: writes the plan of the job of a job file to the start of `plan`, and gives the counts.
+///
+/// The plan is one byte for each node, 1 at a watched point and 0 at all else; bytes of `plan` past
+/// them are as they were. `plan` is at least 512 bytes, and `work` at least 65,536. A refusal leaves
+/// `plan` as it was. Refusals 1 and 2 leave `work` as it was; after any other answer its first 65,536
+/// bytes are zero, and the rest is as it was.
+#[inline]
+pub fn plan(job: &[u8], plan: &mut [u8], work: &mut [u8]) -> Result<Counts, Refusal> {
+    // SAFETY: each pointer and length are of one slice, `job` is only read, and nothing else holds
+    // `plan` and `work` during the call.
+    let number = unsafe {
+        ffi::dapohiru_plan(
+            job.as_ptr(),
+            job.len(),
+            work.as_mut_ptr(),
+            work.len(),
+            plan.as_mut_ptr(),
+            plan.len(),
+        )
+    };
+    match number {
+        1..=10 => Err(Refusal(number)),
+        _ if number & !0xffff_ffff_ffff == ACCEPTED => Ok(Counts {
+            points: number >> 32 & 0xffff,
+            watched: number >> 16 & 0xffff,
+            passes: number & 0xffff,
+        }),
+        _ => unreachable!("dapohiru_plan returned {number}, which is none of its answers"),
+    }
+}
+
+/// Lists: writes the W and T lines of the job of a job file to the start of `listing`, and gives their
+/// length.
+///
+/// Bytes of `listing` past the lines are as they were. `listing` is at least 32,768 bytes, and `work`
+/// at least 65,536. A refusal leaves `listing` as it was. Refusals 1 and 2 leave `work` as it was;
+/// after any other answer its first 65,536 bytes are zero, and the rest is as it was.
+#[inline]
+pub fn list(job: &[u8], listing: &mut [u8], work: &mut [u8]) -> Result<usize, Refusal> {
+    // SAFETY: each pointer and length are of one slice, `job` is only read, and nothing else holds
+    // `listing` and `work` during the call.
+    let number = unsafe {
+        ffi::dapohiru_list(
+            job.as_ptr(),
+            job.len(),
+            work.as_mut_ptr(),
+            work.len(),
+            listing.as_mut_ptr(),
+            listing.len(),
+        )
+    };
+    match number.checked_sub(ACCEPTED) {
+        None if (1..=10).contains(&number) => Err(Refusal(number)),
+        Some(len) if len <= listing.len() as u64 => Ok(len as usize),
+        _ => unreachable!("dapohiru_list returned {number}, which is none of its answers"),
     }
 }
 

@@ -341,6 +341,13 @@ fn command_line_that_asks_for_nothing_known_ends_with_status_2() {
         (&["watch", &job], "watch is no command"),
         (&["monitor"], "no job file is given"),
         (&["monitor", &job, "-", "-"], "- is one name too many"),
+        (&["plan", &job, "-"], "- is one name too many"),
+        (
+            &["list", &job, &job, "-"],
+            &format!("{job} is one name too many"),
+        ),
+        (&["plan", &job, "--state=1"], "plan takes no --state"),
+        (&["list", "--state", "0", &job], "list takes no --state"),
         (&["monitor", "--quick", &job], "--quick is no option"),
         (
             &["monitor", &job, "--state"],
@@ -373,6 +380,8 @@ fn file_that_is_not_there_is_named_and_ends_with_status_2() {
     for words in [
         &["monitor", "/no/such/file"][..],
         &["monitor", &job, "/no/such/file"],
+        &["plan", "/no/such/file"],
+        &["list", "/no/such/file"],
     ] {
         let (status, printed, wrong) = monitor(words, "");
         assert_eq!((status, printed.as_str()), (2, ""));
@@ -382,9 +391,110 @@ fn file_that_is_not_there_is_named_and_ends_with_status_2() {
 
 #[test]
 fn help_prints_the_usage_and_ends_with_status_0() {
-    for words in [&["--help"][..], &["-h"], &["monitor", "--help"]] {
+    for words in [
+        &["--help"][..],
+        &["-h"],
+        &["monitor", "--help"],
+        &["plan", "-h"],
+    ] {
         let (status, printed, wrong) = monitor(words, "");
         assert_eq!((status, wrong.as_str()), (0, ""));
         assert!(printed.starts_with("usage: dapohiru monitor "));
     }
+}
+
+/// Each damaged file, with the refusal that it deserves.
+fn damaged_jobs() -> Vec<(Vec<u8>, u64)> {
+    let with = |old: &str, new: &str| {
+        assert_eq!(JOB.matches(old).count(), 1, "{old}");
+        JOB.replace(old, new).into_bytes()
+    };
+    let j = "J     3     3     3     2\n";
+    vec![
+        (vec![b' '; 49_915], 1),
+        (vec![b' '; 200_000], 1),
+        (b"".to_vec(), 3),
+        (JOB.as_bytes()[..JOB.len() - 14].to_vec(), 3),
+        (JOB.as_bytes()[..JOB.len() - 1].to_vec(), 4),
+        (vec![b' '; 49_914], 4),
+        (with(j, "J    17     3     3     2\n"), 5),
+        (
+            with(
+                "R     2     1     1     0     2\n",
+                "R     2     1     1     0     3\n",
+            ),
+            6,
+        ),
+        (with("P     2     1     2", "P     2     1     3"), 7),
+        (with("F     1     2\n", "F     0     1\n"), 8),
+        ([JOB.as_bytes(), b"\n"].concat(), 9),
+        (
+            with("P     0     1     0     1", "P     0     1     0     0"),
+            10,
+        ),
+    ]
+}
+
+#[test]
+fn plan_is_a_line_of_digits_with_counts_on_standard_error() {
+    let counts = "event nodes 3   watched 2   passes 2\n";
+    for (words, input) in [
+        (&["plan", &pair()][..], ""),
+        (&["plan", "-"], JOB),
+        (&["plan"], JOB),
+    ] {
+        let wanted = (0, "011\n".to_string(), counts.to_string());
+        assert_eq!(monitor(words, input), wanted, "{words:?}");
+    }
+}
+
+#[test]
+fn listing_is_printed_as_document_01_has_it() {
+    let printed = include_str!("expected/pair.txt");
+    for (words, input) in [
+        (&["list", &pair()][..], ""),
+        (&["list", "-"], JOB),
+        (&["list"], JOB),
+    ] {
+        let wanted = (0, printed.to_string(), String::new());
+        assert_eq!(monitor(words, input), wanted, "{words:?}");
+    }
+}
+
+#[test]
+fn listing_of_a_refused_job_is_x_and_the_number_and_ends_with_status_2() {
+    for (number, (bytes, refusal)) in damaged_jobs().into_iter().enumerate() {
+        let job = file(&format!("unlisted{number}.job"), &bytes);
+        let printed = format!("X{refusal:>6}\n");
+        let done = monitor(&["list", job.to_str().unwrap()], "");
+        assert_eq!(done, (2, printed, String::new()), "file {number}");
+    }
+}
+
+#[test]
+fn refused_job_has_no_plan_and_ends_with_status_2() {
+    for (number, (bytes, refusal)) in damaged_jobs().into_iter().enumerate() {
+        let job = file(&format!("unplanned{number}.job"), &bytes);
+        let job = job.to_str().unwrap();
+        let wrong = format!("dapohiru: {job}: refused {refusal}\n");
+        let done = monitor(&["plan", job], "");
+        assert_eq!(done, (2, String::new(), wrong), "file {number}");
+    }
+    let wrong = "dapohiru: standard input: refused 3\n".to_string();
+    assert_eq!(monitor(&["plan"], ""), (2, String::new(), wrong));
+}
+
+#[test]
+fn plan_has_a_digit_for_each_of_512_nodes() {
+    let mut job = "J     1     1   512     0\nR     0     0     0\n".to_string();
+    for node in 0..512 {
+        let kind = u8::from(node != 7);
+        job += &format!("P{node:>6}{kind:>6}     0     1     0     0\n");
+    }
+    let (status, printed, wrong) = monitor(&["plan"], &job);
+    assert_eq!(
+        (status, wrong.as_str()),
+        (0, "event nodes 511   watched 0   passes 2\n")
+    );
+    assert_eq!(printed, "0".repeat(512) + "\n");
 }

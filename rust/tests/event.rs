@@ -107,7 +107,7 @@ fn random_calls_agree_with_the_second_implementation() {
 fn every_slip_of_the_second_implementation_is_noticed() {
     const LIMIT: u64 = 2_000_000;
     let mut random = Random::of_this_run();
-    for slip in Slip::ALL {
+    for &slip in Slip::ALL {
         let mut differs = || {
             let call = Call::any(&mut random);
             let noticed = compare(Second { slip: Some(slip) }, &call).is_err();

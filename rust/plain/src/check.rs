@@ -5,9 +5,9 @@ use crate::read::{Decoded, Node};
 type Rows = [u16; 16];
 
 /// The greatest length of a file.
-const LONGEST: usize = 49_914;
+pub const LONGEST: usize = 49_914;
 /// The least length of a work buffer, and the bytes of it that are cleared.
-const WORK: usize = 65_536;
+pub const WORK: usize = 65_536;
 
 /// The buffers that checks use again and again.
 pub struct Checker {
@@ -65,11 +65,9 @@ impl Checker {
         self.job.node_count
     }
 
-    /// The event nodes of the job.
-    pub fn points(&self) -> impl Iterator<Item = usize> + '_ {
-        let nodes = self.job.nodes[..self.job.node_count].iter();
-        let numbered = nodes.enumerate();
-        numbered.filter_map(|(number, node)| (node.kind == 1).then_some(number))
+    /// Whether a node of the job is an event node.
+    pub fn is_point(&self, node: usize) -> bool {
+        self.job.nodes[node].kind == 1
     }
 
     /// The tests of refusals 11 and 12.

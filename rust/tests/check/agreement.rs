@@ -1,11 +1,12 @@
 //! The library and the second implementation on the same calls.
 use crate::cases::{cases, Case};
-use crate::memory::{Counts, Memory, Said};
+use crate::memory::{Memory, Said};
 use plain::check::Checker;
 use walks::call::WORK;
 use walks::features::Features;
 use walks::job::Job;
 use walks::large::{self, Order};
+use walks::memory::Counts;
 use walks::random::Random;
 use walks::search::difference;
 use walks::sized::FULL;
@@ -56,7 +57,7 @@ fn small_jobs_with_all_their_plans_agree_with_the_walks() {
     counts.print(&format!("{JOBS} jobs"));
     println!("several entries, calls, exits with a word and an edge, loops, unreached nodes: {features:?}");
     println!("a difference that needs a call word of two events or more: {long_words}");
-    counts.all_came();
+    counts.came(Said::all());
     assert!(long_words >= 5);
     assert!(
         features.iter().all(|&count| count * 10 >= JOBS),
@@ -119,8 +120,18 @@ fn plain_check_and_planner_of_the_benchmark_agree_with_the_walks() {
             plans += 1;
         }
         let found = plain::plan::plan(&mut checker, &file).expect("the job is read");
-        let wanted = walks::listing::plan(&walks);
-        assert_eq!((found.bytes, found.passes), (wanted.plan, wanted.passes));
+        let wanted = walks::planning::plan(&walks);
+        assert_eq!((&found.bytes, found.passes), (&wanted.plan, wanted.passes));
+        assert_eq!(found.points as u64, wanted.points);
+        assert_eq!(found.watched as u64, wanted.watched);
+        let mut lent = [7; 512];
+        let counts = checker.plan(&file, &mut lent, &mut vec![0; WORK]);
+        let counts = counts.map(|counts| (counts.points, counts.watched, counts.passes));
+        assert_eq!(counts, Ok((found.points, found.watched, found.passes)));
+        assert!(
+            lent.starts_with(&found.bytes)
+                && lent[found.bytes.len()..].iter().all(|&byte| byte == 7)
+        );
     }
     println!("{plans} plans");
 }

@@ -1,7 +1,7 @@
 //! Random calls: small jobs with all kinds of plans, and calls with faults.
-use crate::faults::{faulty, NUMBERS};
 use crate::memory::{Memory, Seen, MOST_WORK};
 use walks::call::{self, Call, Outcome, LONGEST, WORK};
+use walks::faults::{refused, NUMBERS};
 use walks::job::{Job, EVENT};
 use walks::random::Random;
 use walks::slip::Slip;
@@ -33,7 +33,7 @@ impl Case {
 
     /// Replaces the file by one that deserves this refusal.
     pub fn with_file_fault(mut self, random: &mut Random, number: u64) -> Self {
-        self.file = faulty(random, &self.job, number);
+        self.file = refused(random, &self.job, number);
         self.unread = Some(number);
         self
     }

@@ -1,11 +1,11 @@
 //! The plan check of the library, beside a second implementation that walks, and by itself.
 mod agreement;
 mod cases;
-mod faults;
 mod memory;
+#[path = "../records/mod.rs"]
+mod records;
 mod refusals;
 mod replay;
-mod samples;
 mod sizes;
 mod slips;
 mod trials;

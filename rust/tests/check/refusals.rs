@@ -1,11 +1,12 @@
 //! Every refusal, alone and beside another fault.
 use crate::cases::Case;
-use crate::faults::NUMBERS;
-use crate::memory::{Counts, Memory, Said};
-use crate::samples::{in_loop, pair, turn, PLAIN_NODE};
+use crate::memory::{Memory, Said};
 use walks::call::{LONGEST, WORK};
+use walks::faults::NUMBERS;
 use walks::job::Job;
+use walks::memory::Counts;
 use walks::random::Random;
+use walks::samples::{in_loop, pair, turn, PLAIN_NODE};
 use walks::walk::Walks;
 
 /// PAIR with a plain node after it.

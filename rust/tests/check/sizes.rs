@@ -1,10 +1,11 @@
 //! Jobs of full size in which the last nodes, edges or rounds decide.
-use crate::memory::{Counts, Memory, Said};
-use crate::samples::{event, PLAIN_NODE};
+use crate::memory::{Memory, Said};
 use walks::call::WORK;
 use walks::job::{Job, Node};
 use walks::large::{self, Order};
+use walks::memory::Counts;
 use walks::random::Random;
+use walks::samples::{event, PLAIN_NODE};
 use walks::search::difference;
 use walks::shape::Shape;
 use walks::small;

@@ -1,12 +1,13 @@
 //! The trials of document 01 that concern plans, with the answers by hand.
 use crate::memory::{Memory, Said};
-use crate::samples::{
+use walks::call::WORK;
+use walks::job::Job;
+use walks::listing::listing;
+use walks::planning::plan;
+use walks::samples::{
     call, event, exit, in_loop, one_seal, pair, turn, two_writes, LOCK, PAIR, PLAIN_NODE, REOPEN,
     SEAL, WRITE,
 };
-use walks::call::WORK;
-use walks::job::Job;
-use walks::listing::{listing, plan};
 use walks::walk::Walks;
 use Said::{Different, Faithful};
 

@@ -1,11 +1,12 @@
 //! What a call leaves in the work buffer, and that it does not depend on what is there.
 use crate::cases::{cases, Case};
-use crate::faults::{faulty, NUMBERS};
-use crate::memory::{Counts, Said};
-use crate::samples::{pair, turn};
+use crate::memory::Said;
 use dapohiru::check;
 use walks::call::{LONGEST, WORK};
+use walks::faults::{refused, NUMBERS};
+use walks::memory::Counts;
 use walks::random::Random;
+use walks::samples::{pair, turn};
 use walks::small;
 
 #[test]
@@ -13,7 +14,7 @@ fn work_buffer_is_unchanged_after_1_and_2_and_else_zero_in_its_first_65536_bytes
     let mut random = Random::of_this_run();
     let job = pair();
     let mut files = vec![job.file(), vec![b' '; LONGEST + 1]];
-    files.extend(NUMBERS.map(|number| faulty(&mut random, &job, number)));
+    files.extend(NUMBERS.map(|number| refused(&mut random, &job, number)));
     // faithful, different, 11, 12
     let plans: [&[u8]; 4] = [&[1, 1, 1], &[0, 0, 1], &[1, 1], &[1, 1, 2]];
     let mut counts = Counts::default();
@@ -38,7 +39,7 @@ fn work_buffer_is_unchanged_after_1_and_2_and_else_zero_in_its_first_65536_bytes
         }
     }
     counts.print("work buffers");
-    counts.all_came();
+    counts.came(Said::all());
 }
 
 #[test]

@@ -9,102 +9,68 @@ pub enum Answer {
     Refused(u64),
 }
 
-/// A wrong reading of document 01.
-#[derive(Clone, Copy, Debug, PartialEq, Eq)]
-pub enum Slip {
-    /// The alarm total goes from 2^64-1 to 0.
-    TotalWraps,
-    /// The alarm total rises at quiet events too.
-    TotalRisesOnQuiet,
-    /// The alarm total never rises.
-    TotalNeverRises,
-    /// An event is an alarm only when the state changes.
-    AlarmOnlyOnChange,
-    /// An event is an alarm only when the state was not final before.
-    AlarmOnlyOnEntry,
-    /// An event is an alarm when the state left is final.
-    AlarmByStateLeft,
-    /// No event is an alarm.
-    AlwaysQuiet,
-    /// The state stays as it is.
-    NeverMoves,
-    /// 14 is tested before 13.
-    SymbolBeforeRule,
-    /// 15 is tested before 14.
-    RecordBeforeSymbol,
-    /// The record's length is tested before 13.
-    RecordLengthFirst,
-    /// A refusal for the symbol writes the record.
-    RefusalWritesRecord,
-    /// A next state in a row past S is tested.
-    CellPastStatesTested,
-    /// A next state in a column past A is tested.
-    CellPastSymbolsTested,
-    /// A next state of S is accepted.
-    NextStateOfStatesAccepted,
-    /// A final state of S or more is accepted.
-    FinalPastStatesAccepted,
-    /// The final set is tested up to bit 15 only.
-    FinalsTestedToBit15,
-    /// S = 0 is accepted.
-    NoStatesAccepted,
-    /// A = 0 is accepted.
-    NoSymbolsAccepted,
-    /// S = 17 is accepted.
-    SeventeenStatesAccepted,
-    /// A = 17 is accepted.
-    SeventeenSymbolsAccepted,
-    /// A symbol of A is accepted.
-    SymbolOfSymbolsAccepted,
-    /// The symbol's lowest byte alone is looked at.
-    SymbolLowestByteOnly,
-    /// A record whose state is S is accepted.
-    StateOfStatesAccepted,
-    /// The lowest byte of the record's state alone is looked at.
-    StateLowestByteOnly,
-    /// A rule of any length is accepted.
-    RuleLengthNotTested,
-    /// A record of any length is accepted.
-    RecordLengthNotTested,
-    /// The table is read by columns.
-    ColumnsForRows,
-    /// The record's numbers have their highest byte first.
-    HighestByteFirst,
-}
-
-impl Slip {
+walks::slips! {
     /// Every slip.
-    pub const ALL: [Slip; 29] = [
-        Slip::TotalWraps,
-        Slip::TotalRisesOnQuiet,
-        Slip::TotalNeverRises,
-        Slip::AlarmOnlyOnChange,
-        Slip::AlarmOnlyOnEntry,
-        Slip::AlarmByStateLeft,
-        Slip::AlwaysQuiet,
-        Slip::NeverMoves,
-        Slip::SymbolBeforeRule,
-        Slip::RecordBeforeSymbol,
-        Slip::RecordLengthFirst,
-        Slip::RefusalWritesRecord,
-        Slip::CellPastStatesTested,
-        Slip::CellPastSymbolsTested,
-        Slip::NextStateOfStatesAccepted,
-        Slip::FinalPastStatesAccepted,
-        Slip::FinalsTestedToBit15,
-        Slip::NoStatesAccepted,
-        Slip::NoSymbolsAccepted,
-        Slip::SeventeenStatesAccepted,
-        Slip::SeventeenSymbolsAccepted,
-        Slip::SymbolOfSymbolsAccepted,
-        Slip::SymbolLowestByteOnly,
-        Slip::StateOfStatesAccepted,
-        Slip::StateLowestByteOnly,
-        Slip::RuleLengthNotTested,
-        Slip::RecordLengthNotTested,
-        Slip::ColumnsForRows,
-        Slip::HighestByteFirst,
-    ];
+    ALL {
+        /// The alarm total goes from 2^64-1 to 0.
+        TotalWraps,
+        /// The alarm total rises at quiet events too.
+        TotalRisesOnQuiet,
+        /// The alarm total never rises.
+        TotalNeverRises,
+        /// An event is an alarm only when the state changes.
+        AlarmOnlyOnChange,
+        /// An event is an alarm only when the state was not final before.
+        AlarmOnlyOnEntry,
+        /// An event is an alarm when the state left is final.
+        AlarmByStateLeft,
+        /// No event is an alarm.
+        AlwaysQuiet,
+        /// The state stays as it is.
+        NeverMoves,
+        /// 14 is tested before 13.
+        SymbolBeforeRule,
+        /// 15 is tested before 14.
+        RecordBeforeSymbol,
+        /// The record's length is tested before 13.
+        RecordLengthFirst,
+        /// A refusal for the symbol writes the record.
+        RefusalWritesRecord,
+        /// A next state in a row past S is tested.
+        CellPastStatesTested,
+        /// A next state in a column past A is tested.
+        CellPastSymbolsTested,
+        /// A next state of S is accepted.
+        NextStateOfStatesAccepted,
+        /// A final state of S or more is accepted.
+        FinalPastStatesAccepted,
+        /// The final set is tested up to bit 15 only.
+        FinalsTestedToBit15,
+        /// S = 0 is accepted.
+        NoStatesAccepted,
+        /// A = 0 is accepted.
+        NoSymbolsAccepted,
+        /// S = 17 is accepted.
+        SeventeenStatesAccepted,
+        /// A = 17 is accepted.
+        SeventeenSymbolsAccepted,
+        /// A symbol of A is accepted.
+        SymbolOfSymbolsAccepted,
+        /// The symbol's lowest byte alone is looked at.
+        SymbolLowestByteOnly,
+        /// A record whose state is S is accepted.
+        StateOfStatesAccepted,
+        /// The lowest byte of the record's state alone is looked at.
+        StateLowestByteOnly,
+        /// A rule of any length is accepted.
+        RuleLengthNotTested,
+        /// A record of any length is accepted.
+        RecordLengthNotTested,
+        /// The table is read by columns.
+        ColumnsForRows,
+        /// The record's numbers have their highest byte first.
+        HighestByteFirst,
+    }
 }
 
 /// The event step, with one slip or with none.

@@ -89,6 +89,22 @@ impl Job {
         self.next.len()
     }
 
+    /// The next states as the event step takes them, 16 rows of 16; the others have no meaning.
+    pub fn table(&self) -> [u8; 256] {
+        let mut table = [255; 256];
+        for (row, next) in table.chunks_exact_mut(16).zip(&self.next) {
+            let cells = row.iter_mut().zip(next);
+            cells.for_each(|(cell, &next)| *cell = next as u8);
+        }
+        table
+    }
+
+    /// The set of final states.
+    pub fn final_set(&self) -> u64 {
+        let marks = self.finals.iter().enumerate();
+        marks.fold(0, |set, (state, mark)| set | mark << state)
+    }
+
     /// The event nodes ("points"), in number order.
     pub fn points(&self) -> Vec<usize> {
         let is_point = |&node: &usize| self.nodes[node].kind == EVENT;

@@ -1,5 +1,5 @@
-//! Random jobs of 512 nodes for the benchmarks: a long procedure with half of its nodes in loops,
-//! under a rule for which about half of the points matter.
+//! Random jobs of 512 nodes for the benchmarks, and smaller ones of the same kind: a long procedure
+//! with half of its nodes in loops, under a rule for which about half of the points matter.
 use crate::job::{Job, Node, CALL, EVENT, PLAIN};
 use crate::random::Random;
 use std::collections::BTreeSet;
@@ -18,14 +18,19 @@ pub enum Order {
 
 /// A random large job: 8 to 16 states and symbols, 1,000 to 2,048 edges, loops of 3 to 40 nodes.
 pub fn job(random: &mut Random, order: Order) -> Job {
+    job_of(random, order, NODES)
+}
+
+/// A job of the same kind with so many nodes, at least 16, and as many edges for each of them.
+pub fn job_of(random: &mut Random, order: Order, count: u64) -> Job {
     let states = random.between(8, 16);
     let symbols = random.between(8, 16);
     let rule = Rule::random(random, states, symbols);
-    let mut flow = Flow::random(random);
+    let mut flow = Flow::random(random, count);
     if order == Order::Parts {
         flow.renumber(random);
     }
-    let nodes = nodes(random, &rule, flow.parts[0]);
+    let nodes = nodes(random, &rule, flow.parts[0], count);
     Job {
         symbols,
         finals: rule.finals,
@@ -101,13 +106,13 @@ impl Rule {
 }
 
 /// Nodes of all kinds; `first` is an entry, and some others are.
-fn nodes(random: &mut Random, rule: &Rule, first: u64) -> Vec<Node> {
+fn nodes(random: &mut Random, rule: &Rule, first: u64, count: u64) -> Vec<Node> {
     let states = rule.next.len() as u64;
     let symbols = rule.next[0].len() as u64;
     // per cent of the points that do nothing, and the symbols that other procedures may report
     let idle = random.between(20, 70);
     let foreign = few(random, symbols) | few(random, symbols);
-    let mut nodes: Vec<_> = (0..NODES)
+    let mut nodes: Vec<_> = (0..count)
         .map(|_| {
             let kind = match random.below(10) {
                 0..=5 => EVENT,
@@ -145,32 +150,34 @@ fn few(random: &mut Random, symbols: u64) -> u64 {
 
 /// A row of nodes with loops in about half of it, and edges that skip forward.
 struct Flow {
+    nodes: u64,
     edges: BTreeSet<(u64, u64)>,
     /// The first nodes of the parts that the row is made of, each a loop or straight.
     parts: Vec<u64>,
 }
 
 impl Flow {
-    fn random(random: &mut Random) -> Self {
+    fn random(random: &mut Random, nodes: u64) -> Self {
         let mut flow = Flow {
-            edges: (1..NODES).map(|node| (node - 1, node)).collect(),
+            nodes,
+            edges: (1..nodes).map(|node| (node - 1, node)).collect(),
             parts: vec![0],
         };
         let (mut node, mut in_loops) = (random.between(1, 8), 0);
-        while node < NODES {
+        while node < nodes {
             flow.parts.push(node);
-            let len = random.between(3, 40).min(NODES - node);
+            let len = random.between(3, 40).min(nodes - node);
             if 2 * in_loops <= node && len >= 3 {
                 flow.add_loop(random, node, len);
                 in_loops += len;
             }
             node += len;
         }
-        let count = random.between(1_000, 2_048);
+        let count = random.between(1_000 * nodes / NODES, 2_048 * nodes / NODES);
         while (flow.edges.len() as u64) < count {
-            let from = random.below(NODES - 1);
+            let from = random.below(nodes - 1);
             let to = from + random.between(2, 24);
-            flow.edges.insert((from, to.min(NODES - 1)));
+            flow.edges.insert((from, to.min(nodes - 1)));
         }
         flow
     }
@@ -187,10 +194,10 @@ impl Flow {
 
     /// Numbers the nodes part by part, with the parts in any order; a part keeps its own.
     fn renumber(&mut self, random: &mut Random) {
-        let ends = self.parts[1..].iter().copied().chain([NODES]);
+        let ends = self.parts[1..].iter().copied().chain([self.nodes]);
         let mut parts: Vec<_> = self.parts.iter().copied().zip(ends).collect();
         random.shuffle(&mut parts);
-        let mut numbers = vec![0; NODES as usize];
+        let mut numbers = vec![0; self.nodes as usize];
         let in_order = parts.iter().flat_map(|&(first, end)| first..end);
         for (number, node) in in_order.enumerate() {
             numbers[node as usize] = number as u64;

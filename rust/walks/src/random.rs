@@ -5,13 +5,18 @@ use std::time::{SystemTime, UNIX_EPOCH};
 /// The seed of this run: `DAPOHIRU_SEED`, or the clock.
 pub fn seed() -> u64 {
     static SEED: OnceLock<u64> = OnceLock::new();
-    *SEED.get_or_init(|| match std::env::var("DAPOHIRU_SEED") {
-        Ok(text) => text.parse().expect("DAPOHIRU_SEED is a decimal number"),
-        Err(_) => {
+    *SEED.get_or_init(|| {
+        given_seed().unwrap_or_else(|| {
             let clock = SystemTime::now().duration_since(UNIX_EPOCH);
             clock.expect("the clock is past 1970").as_nanos() as u64
-        }
+        })
     })
+}
+
+/// The seed that `DAPOHIRU_SEED` gives, if it is set.
+fn given_seed() -> Option<u64> {
+    let text = std::env::var("DAPOHIRU_SEED").ok()?;
+    Some(text.parse().expect("DAPOHIRU_SEED is a decimal number"))
 }
 
 /// A random number generator (splitmix64).
@@ -22,6 +27,13 @@ impl Random {
     pub fn of_this_run() -> Self {
         println!("seed {} (DAPOHIRU_SEED repeats it)", seed());
         Random(seed())
+    }
+
+    /// A generator from this seed, or from `DAPOHIRU_SEED`; says its seed.
+    pub fn fixed(seed: u64) -> Self {
+        let seed = given_seed().unwrap_or(seed);
+        println!("seed {seed} (DAPOHIRU_SEED gives another)");
+        Random(seed)
     }
 
     /// Any number.

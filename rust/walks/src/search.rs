@@ -116,9 +116,19 @@ impl<'a> Search<'a> {
         None
     }
 
-    /// Makes every move from one of those met.
+    /// Follows all walks, past differences too.
+    pub fn follow(&mut self) {
+        let mut looked_at = 0;
+        while looked_at < self.met.len() {
+            self.look_at(looked_at);
+            looked_at += 1;
+        }
+    }
+
+    /// Makes every move from one of those met, and gives the first difference on the way.
     fn look_at(&mut self, number: usize) -> Option<Difference> {
         let at = self.met[number];
+        let mut difference = None;
         for step in self.walks.moves(at.place) {
             let mut next = At {
                 place: step.to,
@@ -126,17 +136,16 @@ impl<'a> Search<'a> {
                 from: Some((number, step.event)),
                 ..at
             };
-            if let Some(event) = step.event {
-                if self.tell(event, &mut next) && self.counts(step.to) {
-                    return Some(self.difference_at(next));
-                }
+            let differs = step.event.is_some_and(|event| self.tell(event, &mut next));
+            if difference.is_none() && differs && self.counts(step.to) {
+                difference = Some(self.difference_at(next));
             }
             let limit = self.walks.job.nodes.len();
             if !self.walks.slips(Slip::EventsAsManyAsNodes) || next.events <= limit {
                 self.meet(next);
             }
         }
-        None
+        difference
     }
 
     /// Gives the event to the monitors that get it; says whether one alone alarms.
@@ -209,6 +218,12 @@ impl<'a> Search<'a> {
     pub fn full_states(&self, place: Place) -> u64 {
         let there = self.met.iter().filter(|at| at.place == place);
         there.fold(0, |set, at| set | 1 << at.full.state)
+    }
+
+    /// The states in which the planned monitor has arrived at a place.
+    pub fn planned_states(&self, place: Place) -> u64 {
+        let there = self.met.iter().filter(|at| at.place == place);
+        there.fold(0, |set, at| set | 1 << at.planned.state)
     }
 }
 

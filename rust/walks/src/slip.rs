@@ -1,119 +1,239 @@
 //! Wrong readings of document 01 that the second implementation can be given.
 
-/// Declares the slips, and the list of them all.
+/// Declares the slips, with a list for each group of them.
+#[macro_export]
 macro_rules! slips {
-    ($($(#[$words:meta])* $name:ident,)*) => {
+    ($($(#[$about:meta])* $group:ident { $($(#[$words:meta])* $name:ident,)* })*) => {
         /// A wrong reading of document 01.
         #[derive(Clone, Copy, Debug, PartialEq, Eq)]
         pub enum Slip {
-            $($(#[$words])* $name,)*
+            $($($(#[$words])* $name,)*)*
         }
 
         impl Slip {
-            /// Every slip.
-            pub const ALL: &[Slip] = &[$(Slip::$name,)*];
+            $($(#[$about])* pub const $group: &[Slip] = &[$(Slip::$name,)*];)*
         }
     };
 }
 
+impl Slip {
+    /// The slips that the plan check can make.
+    pub fn of_check() -> Vec<Slip> {
+        [Slip::WALKS, Slip::BUFFERS, Slip::CHECK].concat()
+    }
+
+    /// The slips that planning and listing can make.
+    pub fn of_planning() -> Vec<Slip> {
+        [
+            Slip::WALKS,
+            Slip::BUFFERS,
+            Slip::PLANNING,
+            Slip::FOUND,
+            Slip::LENT,
+        ]
+        .concat()
+    }
+}
+
 slips! {
-    // the monitors
-    /// A monitor that was in a final state before gives no alarm.
-    FinalToFinalQuiet,
-    /// An alarm of the planned monitor alone is no difference.
-    AddedAlarmIgnored,
-    /// An alarm of the full monitor alone is no difference.
-    MissedAlarmIgnored,
-    /// The event of an unwatched point moves the planned monitor, without an alarm.
-    UnwatchedPointMoves,
-    /// The full monitor skips unwatched points too.
-    FullSkipsToo,
-    /// The planned monitor skips the words of calls.
-    CallWordSkipped,
-    /// The planned monitor skips the words after exits.
-    AfterWordSkipped,
-    /// The plan's byte is that of the node before, and for node 0 that of the last.
-    PlanByteOfNodeBefore,
+    /// Slips of monitors, walks and the search.
+    WALKS {
+        // the monitors
+        /// A monitor that was in a final state before gives no alarm.
+        FinalToFinalQuiet,
+        /// An alarm of the planned monitor alone is no difference.
+        AddedAlarmIgnored,
+        /// An alarm of the full monitor alone is no difference.
+        MissedAlarmIgnored,
+        /// The event of an unwatched point moves the planned monitor, without an alarm.
+        UnwatchedPointMoves,
+        /// The full monitor skips unwatched points too.
+        FullSkipsToo,
+        /// The planned monitor skips the words of calls.
+        CallWordSkipped,
+        /// The planned monitor skips the words after exits.
+        AfterWordSkipped,
+        /// The plan's byte is that of the node before, and for node 0 that of the last.
+        PlanByteOfNodeBefore,
 
-    // where walks begin
-    /// Of an entry set the lowest state alone is admitted.
-    LowestStartOnly,
-    /// The first entry alone is one.
-    FirstEntryOnly,
-    /// A walk begins before any node.
-    EveryNodeEntered,
-    /// A walk begins past an entry's own events.
-    EntryPassed,
+        // where walks begin
+        /// Of an entry set the lowest state alone is admitted.
+        LowestStartOnly,
+        /// The first entry alone is one.
+        FirstEntryOnly,
+        /// A walk begins before any node.
+        EveryNodeEntered,
+        /// A walk begins past an entry's own events.
+        EntryPassed,
 
-    // the words of calls
-    /// A call word has at most one symbol.
-    CallWordOfOneSymbol,
-    /// A call word is not empty.
-    EmptyCallWordNotAllowed,
-    /// A call word is empty.
-    CallWordNotSearched,
-    /// The highest symbol of a call set is left out.
-    HighestCallSymbolLeftOut,
-    /// A call may come back into this procedure at any entry.
-    CallComesBack,
+        // the words of calls
+        /// A call word has at most one symbol.
+        CallWordOfOneSymbol,
+        /// A call word is not empty.
+        EmptyCallWordNotAllowed,
+        /// A call word is empty.
+        CallWordNotSearched,
+        /// The highest symbol of a call set is left out.
+        HighestCallSymbolLeftOut,
+        /// A call may come back into this procedure at any entry.
+        CallComesBack,
 
-    // edges and the words after exits
-    /// After an exit no edge is taken.
-    ExitTakesNoEdge,
-    /// A walk ends only at an exit without an edge.
-    ExitWithEdgeDoesNotEnd,
-    /// A word after an exit is empty.
-    AfterWordNotSearched,
-    /// A word after an exit has at most one symbol.
-    AfterWordOfOneSymbol,
-    /// An edge may be taken out of a word after an exit.
-    AfterWordTakesEdge,
-    /// A walk may end at an exit without the exit's own events.
-    ExitBeforeOwnEvents,
-    /// The word after an exit that is a call comes in place of the call's word.
-    AfterWordForCallWord,
-    /// An edge to an entry is not taken.
-    EdgeToEntryIgnored,
-    /// An edge is taken either way.
-    EdgesBothWays,
-    /// An edge from a node to itself is not taken.
-    EdgeToItselfIgnored,
+        // edges and the words after exits
+        /// After an exit no edge is taken.
+        ExitTakesNoEdge,
+        /// A walk ends only at an exit without an edge.
+        ExitWithEdgeDoesNotEnd,
+        /// A word after an exit is empty.
+        AfterWordNotSearched,
+        /// A word after an exit has at most one symbol.
+        AfterWordOfOneSymbol,
+        /// An edge may be taken out of a word after an exit.
+        AfterWordTakesEdge,
+        /// A walk may end at an exit without the exit's own events.
+        ExitBeforeOwnEvents,
+        /// The word after an exit that is a call comes in place of the call's word.
+        AfterWordForCallWord,
+        /// An edge to an entry is not taken.
+        EdgeToEntryIgnored,
+        /// An edge is taken either way.
+        EdgesBothWays,
+        /// An edge from a node to itself is not taken.
+        EdgeToItselfIgnored,
 
-    // the search
-    /// A walk has at most as many events as there are nodes.
-    EventsAsManyAsNodes,
-    /// A place and full state met before are not looked at again with another planned state.
-    VisitedWithoutPlanned,
-    /// A place is looked at once.
-    VisitedPlaceOnly,
-    /// A difference counts only where an exit can still be reached.
-    OnlyWalksThatReachAnExit,
+        // the search
+        /// A walk has at most as many events as there are nodes.
+        EventsAsManyAsNodes,
+        /// A place and full state met before are not looked at again with another planned state.
+        VisitedWithoutPlanned,
+        /// A place is looked at once.
+        VisitedPlaceOnly,
+        /// A difference counts only where an exit can still be reached.
+        OnlyWalksThatReachAnExit,
+    }
 
-    // refusals and the work buffer
-    /// 2 is tested before 1.
-    WorkBeforeLength,
-    /// 2 is tested when the file has been read.
-    WorkAfterFile,
-    /// A plan byte above 1 is refused before the file is looked at.
-    PlanBytesBeforeFile,
-    /// 12 is tested before 11.
-    PlanBytesBeforeLength,
-    /// A plan longer than N bytes is taken by its first N.
-    LongerPlanAccepted,
-    /// Bytes that a plan lacks are 0.
-    ShorterPlanAccepted,
-    /// A plan byte above 1 is taken as 1.
-    PlanByteAboveOneAccepted,
-    /// A plan byte 1 at a node that is no event is accepted.
-    PlanByteAtOtherNodeAccepted,
-    /// The last plan byte is not tested.
-    LastPlanByteNotTested,
-    /// 1 and 2 clear the work buffer.
-    ClearsAfterOneAndTwo,
-    /// Refusals 11 and 12 leave the work buffer as it is.
-    PlanRefusalLeavesWork,
-    /// The answer different leaves the work buffer as it is.
-    DifferentLeavesWork,
-    /// The bytes past 65,536 are cleared too.
-    ClearsAllOfWork,
+    /// Slips of the order of refusals and of the work buffer, in any call.
+    BUFFERS {
+        /// 2 is tested before 1.
+        WorkBeforeLength,
+        /// 2 is tested when the file has been read.
+        WorkAfterFile,
+        /// 1 and 2 clear the work buffer.
+        ClearsAfterOneAndTwo,
+        /// The bytes past 65,536 are cleared too.
+        ClearsAllOfWork,
+    }
+
+    /// Slips of the plan check's own refusals and of what it leaves.
+    CHECK {
+        /// A plan byte above 1 is refused before the file is looked at.
+        PlanBytesBeforeFile,
+        /// 12 is tested before 11.
+        PlanBytesBeforeLength,
+        /// A plan longer than N bytes is taken by its first N.
+        LongerPlanAccepted,
+        /// Bytes that a plan lacks are 0.
+        ShorterPlanAccepted,
+        /// A plan byte above 1 is taken as 1.
+        PlanByteAboveOneAccepted,
+        /// A plan byte 1 at a node that is no event is accepted.
+        PlanByteAtOtherNodeAccepted,
+        /// The last plan byte is not tested.
+        LastPlanByteNotTested,
+        /// Refusals 11 and 12 leave the work buffer as it is.
+        PlanRefusalLeavesWork,
+        /// The answer different leaves the work buffer as it is.
+        DifferentLeavesWork,
+    }
+
+    /// Slips of passes, tries and counts.
+    PLANNING {
+        /// The first pass is the only one.
+        OnePassOnly,
+        /// Passes after the first are counted and make no point unwatched.
+        LaterPassesOnlyCounted,
+        /// There are at most two passes.
+        TwoPassesAtMost,
+        /// A pass goes through the points in falling order.
+        FallingOrder,
+        /// The pass that changes nothing is not counted.
+        LastPassNotCounted,
+        /// A pass begins again at the first point when one has gone.
+        PassBeginsAgain,
+        /// Each point is tried with all others watched, and all that may go alone go.
+        TriedAlone,
+        /// All points with nop mark 1 go together.
+        NopPointsRemovedTogether,
+        /// A point with nop mark 0 is not tried.
+        NopMarkDecides,
+        /// A plan that watches one point more than a faithful one is taken as faithful.
+        WatchingMoreIsFaithful,
+        /// A point that no walk reaches stays watched.
+        UnreachedStaysWatched,
+        /// Every point stays watched.
+        NothingRemoved,
+        /// No point stays watched.
+        EverythingRemoved,
+        /// The last point is not tried.
+        LastPointNotTried,
+        /// The counts of event nodes and of watched points are swapped.
+        CountsSwapped,
+        /// Every node is counted among the event nodes.
+        EveryNodeCounted,
+        /// The watched points are counted after the first pass.
+        WatchedAfterPassOne,
+    }
+
+    /// Slips of what is found at a point, and of its line.
+    FOUND {
+        /// The before set is that of the monitor under the plan.
+        BeforeUnderPlan,
+        /// The before set has the states past the point.
+        BeforePastPoint,
+        /// The before set has the admitted states alone at an entry.
+        BeforeOfEntryAdmittedOnly,
+        /// Only states in which some walk arrives past the point are counted in classes.
+        ClassesOfReachedOnly,
+        /// States are of one class by the monitors under the plan.
+        ClassesUnderPlan,
+        /// Classes are those before the point.
+        ClassesBeforePoint,
+        /// A class of one state is not counted.
+        ClassesOfSeveralOnly,
+        /// The nop mark asks nothing of the next state's being final.
+        NopThoughFinal,
+        /// The nop mark lets the next state be final where the state is final too.
+        NopFinalToFinal,
+        /// The nop mark asks that the next state is the state itself.
+        NopSameStateOnly,
+        /// The nop mark is asked of every state.
+        NopOfEveryState,
+        /// The nop mark is 1 when some state of the before set has what it asks.
+        NopOfSomeState,
+        /// An empty before set gives nop mark 0.
+        NopOfUnreachedIsZero,
+        /// A W line has the nop mark where the watched mark is due, and the watched mark before it.
+        MarksSwapped,
+        /// W lines stand for the watched points only.
+        WatchedLinesOnly,
+    }
+
+    /// Slips of the plan and listing buffers.
+    LENT {
+        /// A plan buffer is long enough with N bytes, and a listing buffer when the text fits.
+        ShorterLentAccepted,
+        /// A plan or listing buffer is tested when the file has been read.
+        LentAfterFile,
+        /// 2 for a plan or listing buffer is tested before 1.
+        LentBeforeLength,
+        /// The plan or listing buffer is cleared past what is written.
+        LentClearedPastText,
+        /// A refusal by what the file holds clears the plan or listing buffer.
+        RefusalClearsLent,
+        /// Refusals by what the file holds leave the work buffer as it is.
+        FileRefusalLeavesWork,
+        /// Accepted planning leaves the work buffer as it is.
+        AcceptedLeavesWork,
+        /// The bytes of nodes that are no points are not written.
+        OtherNodesNotWritten,
+    }
 }

@@ -94,6 +94,20 @@ impl<'a> Walks<'a> {
         self.slip == Some(slip)
     }
 
+    /// Every place, by number.
+    pub fn places(&self) -> Vec<Place> {
+        let of_node = |node| {
+            [
+                Before(node),
+                Calling(node),
+                Past(node),
+                Ended(node),
+                Stopped(node),
+            ]
+        };
+        (0..self.job.nodes.len()).flat_map(of_node).collect()
+    }
+
     /// The moves from a place.
     pub fn moves(&self, from: Place) -> &[Move] {
         &self.moves[from.number()]

@@ -1,8 +1,9 @@
 //! Random files: the library beside the second reader, without a slip and with each.
 use crate::cases::Cases;
-use crate::memory::{Counts, Memory, Seen};
+use crate::memory::{Memory, Seen};
 use crate::second::Second;
 use crate::slip::Slip;
+use walks::memory::Counts;
 use walks::random::Random;
 
 #[test]

@@ -2,6 +2,7 @@
 use crate::damage::{columns, misspelled, numbers_near, sizes, BYTES};
 use std::slice::from_ref;
 use walks::job::{spell, Job, Line};
+use walks::memory::PAST_FILE;
 use walks::random::Random;
 use walks::sized::{Sizes, FULL};
 
@@ -18,7 +19,7 @@ impl Case {
     pub fn of(file: Vec<u8>) -> Self {
         Case {
             file,
-            past: b"F     0     0\n".to_vec(),
+            past: PAST_FILE.to_vec(),
             work_len: 65_536,
         }
     }

@@ -1,10 +1,12 @@
 //! Every damage of some kind to small files.
 use crate::cases::Case;
 use crate::damage;
-use crate::memory::{compare_all, Counts, Memory, WORK};
+use crate::memory::{compare_all, Memory};
 use crate::samples::{answer, least, small};
 use reading::Refusal;
+use walks::call::WORK;
 use walks::job::spell;
+use walks::memory::Counts;
 
 #[test]
 fn cut_at_every_byte_is_refused_as_3_or_4() {

@@ -3,7 +3,6 @@ mod agreement;
 mod cases;
 mod damage;
 mod damaged;
-mod faults;
 mod memory;
 mod samples;
 mod second;

@@ -2,19 +2,12 @@
 use crate::cases::Case;
 use crate::second::{Answer, Outcome, Second};
 use reading::{read, Refusal};
-use std::collections::BTreeMap;
+use walks::call::WORK;
+use walks::memory::{Counts, Lent};
 use walks::random::{self, Random};
 
-/// The greatest length of a file.
-pub const LONGEST: usize = 49_914;
-/// The least length of a work buffer.
-pub const WORK: usize = 65_536;
 /// The greatest length of a work buffer in these tests.
 const MOST_WORK: usize = 70_000;
-/// The bytes before and after a work buffer that no call may change.
-const MARGIN: usize = 64;
-
-static ZEROS: [u8; WORK] = [0; WORK];
 
 /// What a call of the library is seen to leave: its number, if it is a refusal, and how many bytes
 /// of the work buffer are zero from its start on; the others are as they were.
@@ -40,58 +33,36 @@ impl Seen {
 /// The memory that calls are made on.
 pub struct Memory {
     random: Random,
-    /// Random bytes, none of them zero, for the work buffer and its margins.
-    bytes: Vec<u8>,
-    work: Vec<u8>,
-    file: Vec<u8>,
+    work: Lent,
+    file: Lent,
 }
 
 impl Memory {
-    const SIZE: usize = MOST_WORK + 2 * MARGIN;
-
     pub fn new() -> Self {
         let mut random = Random(random::seed());
-        let bytes = (0..Self::SIZE + 256)
-            .map(|_| random.between(1, 255) as u8)
-            .collect();
         Memory {
+            work: Lent::new(&mut random, MOST_WORK, 1),
+            file: Lent::new(&mut random, 0, 1),
             random,
-            bytes,
-            work: vec![0; Self::SIZE],
-            file: Vec::new(),
         }
     }
 
     /// Calls the library, and looks at every byte that it could reach.
     pub fn call(&mut self, case: &Case) -> Result<Seen, String> {
-        let start = self.random.place(256);
-        let before = &self.bytes[start..start + Self::SIZE];
-        self.work.copy_from_slice(before);
-        self.file.clear();
-        self.file.extend(&case.file);
-        self.file.extend(&case.past);
-
-        let lent = MARGIN..MARGIN + case.work_len;
-        let answer = read(&self.file[..case.file.len()], &mut self.work[lent.clone()]);
+        self.work.fresh(&mut self.random, case.work_len);
+        self.file.holding(&case.file, &case.past);
+        let answer = read(self.file.bytes(), self.work.bytes());
         let refused = answer.err().map(|Refusal(number)| number);
-        if !self.file.starts_with(&case.file) {
-            return Err(format!("{refused:?} changes the file"));
+        if !self.file.is_unchanged() {
+            return Err(format!("{refused:?} changes the file or bytes beside it"));
         }
-        if self.file[case.file.len()..] != case.past {
-            return Err(format!("{refused:?} changes bytes past the file"));
-        }
-        let cleared = lent.start + WORK;
-        if self.work == before {
+        if self.work.is_unchanged() {
             return Ok(Seen {
                 refused,
                 cleared: 0,
             });
         }
-        let exact = case.work_len >= WORK
-            && self.work[..lent.start] == before[..lent.start]
-            && self.work[lent.start..cleared] == ZEROS
-            && self.work[cleared..] == before[cleared..];
-        if !exact {
+        if !self.work.is_cleared(WORK) {
             return Err(format!(
                 "after {refused:?} a work buffer of {} bytes is neither as it was nor zero in its first {WORK} bytes alone",
                 case.work_len
@@ -129,35 +100,8 @@ pub fn words(case: &Case) -> String {
     )
 }
 
-/// How often each answer came.
-#[derive(Default)]
-pub struct Counts(BTreeMap<Option<u64>, u64>);
-
-impl Counts {
-    pub fn add(&mut self, refused: Option<u64>) {
-        *self.0.entry(refused).or_default() += 1;
-    }
-
-    pub fn of(&self, refused: Option<u64>) -> u64 {
-        self.0.get(&refused).copied().unwrap_or(0)
-    }
-
-    /// Says the counts.
-    pub fn print(&self, what: &str) {
-        let refusals: Vec<_> = (1..=10)
-            .map(|number| format!("{number} {}", self.of(Some(number))))
-            .collect();
-        println!(
-            "{what}: {} files, accepted {}, refused {}",
-            self.0.values().sum::<u64>(),
-            self.of(None),
-            refusals.join(", ")
-        );
-    }
-}
-
 /// Compares all of these files, and says and gives the counts.
-pub fn compare_all(what: &str, files: impl IntoIterator<Item = Vec<u8>>) -> Counts {
+pub fn compare_all(what: &str, files: impl IntoIterator<Item = Vec<u8>>) -> Counts<Option<u64>> {
     let mut memory = Memory::new();
     let mut counts = Counts::default();
     for (number, file) in files.into_iter().enumerate() {

@@ -1,7 +1,7 @@
 //! Small jobs by hand, and what the two readers say of one file.
-use crate::memory::WORK;
 use crate::second::{Answer, Second};
 use reading::{read, Refusal};
+use walks::call::WORK;
 use walks::job::{Job, Line, Node};
 
 /// PAIR of document 01, "One listing in full".

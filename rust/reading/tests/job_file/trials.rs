@@ -1,8 +1,9 @@
 //! Trials of document 01, and jobs that are accepted.
 use crate::cases::Case;
-use crate::memory::{words, LONGEST};
+use crate::memory::words;
 use crate::samples::{answer, least, rich, second_job, PAIR};
 use reading::Refusal;
+use walks::call::LONGEST;
 use walks::job::Job;
 use walks::random::Random;
 use walks::sized::{Sizes, FULL};

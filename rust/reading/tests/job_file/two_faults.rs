@@ -1,11 +1,13 @@
 //! Files with two faults: which of them decides.
 use crate::cases::Case;
-use crate::faults::{faulty, Fault};
-use crate::memory::{words, Counts, Memory, LONGEST};
+use crate::memory::{words, Memory};
 use crate::samples::{answer, little};
 use reading::Refusal;
 use std::collections::BTreeMap;
+use walks::call::LONGEST;
+use walks::faults::{faulty, Fault};
 use walks::job::{spell, Job, Line};
+use walks::memory::Counts;
 use walks::random::Random;
 use walks::sized::FULL;
 

@@ -1,10 +1,12 @@
 //! What a call leaves in the work buffer, the file and the bytes around them.
 use crate::cases::Cases;
-use crate::faults::{faulty, Fault};
-use crate::memory::{words, Counts, Memory, WORK};
+use crate::memory::{words, Memory};
 use crate::samples::little;
 use reading::{read, Refusal};
+use walks::call::WORK;
+use walks::faults::{faulty, Fault};
 use walks::job::{spell, Job};
+use walks::memory::Counts;
 use walks::random::Random;
 use walks::sized::FULL;
 

@@ -1,6 +1,10 @@
 //! Faults that are put into the file of a job, alone or together.
+use crate::job::{spell, Job, Line};
+use crate::random::Random;
 use std::slice::from_ref;
-use walks::job::{spell, Job, Line};
+
+/// The refusals that a file deserves by what it holds.
+pub const NUMBERS: [u64; 8] = [3, 4, 5, 6, 7, 8, 9, 10];
 
 /// A fault of a file, with the lines counted from the J line on.
 #[derive(Clone, Copy, Debug)]
@@ -145,4 +149,12 @@ pub fn faulty(lines: &[Line], faults: &[Fault]) -> Vec<u8> {
     }
     spelled.truncate(end);
     [&spelled.concat()[..], follow].concat()
+}
+
+/// A file like the job's with one fault, which deserves this refusal; 8 asks for a job with an edge.
+pub fn refused(random: &mut Random, job: &Job, number: u64) -> Vec<u8> {
+    let lines = job.lines();
+    let mut faults = Fault::all(job);
+    faults.retain(|fault| fault.place(&lines).1 == number);
+    faulty(&lines, &[random.pick(&faults)])
 }

@@ -1,5 +1,5 @@
 //! The trial jobs of document 01, written by hand.
-use walks::job::{Job, Node, CALL, EVENT, PLAIN};
+use crate::job::{Job, Node, CALL, EVENT, PLAIN};
 
 /// A rule as document 01 writes it: the next states of each state, and the final states.
 pub struct Rule<'a> {

@@ -1,0 +1,114 @@
+//! One call on memory whose every byte is looked at afterwards.
+use dapohiru::{list, plan, Counts, Refusal};
+use walks::call::WORK;
+use walks::memory::{Lent, PAST_FILE};
+use walks::random::Random;
+use walks::served::{Outcome, Service};
+
+/// What a call answers.
+#[derive(Clone, Copy, Debug, PartialEq, Eq, PartialOrd, Ord)]
+pub enum Said {
+    Planned,
+    Listed,
+    Refused(u64),
+}
+
+impl Said {
+    /// What a call that returns this number answers.
+    pub fn of(service: Service, number: u64) -> Self {
+        match service {
+            _ if number < 1 << 48 => Said::Refused(number),
+            Service::Plan => Said::Planned,
+            Service::List => Said::Listed,
+        }
+    }
+
+    /// Both accepted answers and every refusal.
+    pub fn all() -> impl Iterator<Item = Said> {
+        let refusals = (1..=10).map(Said::Refused);
+        refusals.chain([Said::Planned, Said::Listed])
+    }
+}
+
+/// The longest work buffer that is lent.
+pub const MOST_WORK: usize = 70_000;
+/// The longest plan or listing buffer that is lent.
+pub const MOST_LENT: usize = 40_000;
+
+/// Makes one of the calls, and gives the number that document 01 has for its answer.
+pub fn number(service: Service, file: &[u8], lent: &mut [u8], work: &mut [u8]) -> u64 {
+    let answer = match service {
+        Service::Plan => plan(file, lent, work).map(|counts| {
+            let Counts {
+                points,
+                watched,
+                passes,
+            } = counts;
+            (points << 32) + (watched << 16) + passes
+        }),
+        Service::List => list(file, lent, work).map(|len| len as u64),
+    };
+    answer.map_or_else(|Refusal(number)| number, |counts| (1 << 48) + counts)
+}
+
+/// The memory that calls are made on.
+pub struct Memory {
+    random: Random,
+    work: Lent,
+    file: Lent,
+    lent: Lent,
+}
+
+impl Memory {
+    pub fn new() -> Self {
+        let mut random = Random(1);
+        Memory {
+            work: Lent::new(&mut random, MOST_WORK, 1),
+            file: Lent::new(&mut random, 0, 1),
+            // neither a plan nor a listing has a byte above 127, so that every byte written is seen
+            lent: Lent::new(&mut random, MOST_LENT, 128),
+            random,
+        }
+    }
+
+    /// Calls the library, and looks at every byte that it could reach.
+    pub fn call(
+        &mut self,
+        service: Service,
+        file: &[u8],
+        lent_len: usize,
+        work_len: usize,
+    ) -> Result<Outcome, String> {
+        self.work.fresh(&mut self.random, work_len);
+        self.lent.fresh(&mut self.random, lent_len);
+        self.file.holding(file, PAST_FILE);
+        let number = number(
+            service,
+            self.file.bytes(),
+            self.lent.bytes(),
+            self.work.bytes(),
+        );
+        if !self.file.is_unchanged() {
+            return Err(format!("{number} changes the file or bytes beside it"));
+        }
+        let Some(written) = self.lent.written() else {
+            return Err(format!(
+                "{number} changes bytes beside a plan or listing buffer of {lent_len} bytes"
+            ));
+        };
+        let cleared = if self.work.is_unchanged() {
+            0
+        } else if self.work.is_cleared(WORK) {
+            WORK
+        } else {
+            return Err(format!(
+                "after {number} a work buffer of {work_len} bytes is neither as it was nor zero in its first {WORK} bytes alone"
+            ));
+        };
+        Ok(Outcome {
+            number,
+            written,
+            cleared,
+        })
+    }
+}
