@@ -13,7 +13,7 @@ use Rattle.jobfile.specs.File.{Answer, accepted, turned, maxFile, readJob}
 use Rattle.joblines.specs.Layout.{workSize, cleared, SameOutside}
 use Rattle.checking.specs.declared.check.Verdict.{Verdict}
 use Rattle.checking.specs.declared.check.Verdict.the-variants.{Faithful, Different, Refused}
-use Rattle.tables.specs.Tables.{planPart}
+use Rattle.tables.specs.Tables.{planPart, planEnd}
 use Rattle.tables.specs.Held.{JobHeld}
 
 -- a plan byte that a node may have: 0, and 1 at an event node
@@ -69,7 +69,7 @@ numberOf (Refused k) = k
 
 -- the plan was stored in its part of the buffer
 pub record PlanStored (plan l m : List ℕ) (nodes : ℕ) : Type 0 where
-  pub kept : SameOutside l m 44034 44546
+  pub kept : SameOutside l m planPart planEnd
   pub here : (n : ℕ) → n < nodes → getD m (planPart + n) 0 ≡ getD plan n 0
 
 -- the answer for every job that the buffer holds; the bytes past the first 65,536 are as they were

@@ -11,17 +11,17 @@ use native.Mathlib.Omega.{arith}
 use lib.Dec.{eqb}
 use borrow.Author.Tests.{lt-ltb, le-ltb}
 use Rattle.laws.specs.Bounded.{allBelow, sumBelow}
-use Rattle.laws.specs.Bits.{bit, has}
+use Rattle.laws.specs.Bits.{has}
 use Rattle.laws.proofs.Tests.{test-ext}
 use Rattle.laws.proofs.Bounded.{all-at, all-of, all-cong, sum-cong}
 use Rattle.automaton.specs.Automaton.{next, final, cell}
-use Rattle.job.specs.Job.{Job, WellFormedJob}
+use Rattle.job.specs.Job.{Job}
 use Rattle.job.specs.Search.{arrives, apart}
 use Rattle.job.specs.Found.{statesBefore, lowest, classCount, nopShadow}
 use Rattle.tables.specs.Tables.{pairRowIn, classRowIn}
 use Rattle.tables.specs.Held.{JobHeld}
-use Rattle.classes.specs.Backwards.{ClassesHeld, heldStates, isLowest, lowestStates, isNop}
-use Rattle.tables.proofs.SetLaws.{has-set-test, set-of-cong, sum-set-of}
+use Rattle.classes.specs.Backwards.{ClassesHeld, heldStates, isLowest, isNop}
+use Rattle.tables.proofs.SetLaws.{has-set-test, set-of-cong}
 
 -- ---- the before set
 

@@ -2,12 +2,12 @@
 -- `FoundSays.antt`.
 -- Assumes nothing.
 use mathlib.Core.Path.{_≡_}
-use mathlib.Core.Bool.{Bool, true, false, cond, not, _&&_, _||_}
+use mathlib.Core.Bool.{Bool, true, not, _&&_, _||_}
 use mathlib.Core.List.{List}
 use Prim.Native.Nat.{ℕ, _+_, _*_, _≤_, _<_}
 use lib.Dec.{eqb}
 use lib.Bits.{bitOr}
-use Rattle.laws.specs.Bounded.{anyBelow, allBelow, sumBelow}
+use Rattle.laws.specs.Bounded.{anyBelow, allBelow}
 use Rattle.laws.specs.Bits.{has}
 use Rattle.automaton.specs.Automaton.{Automaton, next, cell, WellFormed}
 use Rattle.job.specs.Job.{Job}
@@ -16,7 +16,7 @@ use Rattle.job.specs.Search.{apart}
 use Rattle.job.specs.Found.{setOf}
 use Rattle.joblines.specs.Layout.{SameOutside}
 use Rattle.tables.specs.Rows.{unlikeStates}
-use Rattle.tables.specs.Tables.{classPart, pairRowIn, classRowIn, HeldApart, apartLeft}
+use Rattle.tables.specs.Tables.{classPart, foundPart, pairRowIn, classRowIn, HeldApart, apartLeft}
 use Rattle.tables.specs.Held.{JobHeld, AfterHeld}
 
 -- the table, S and the final set are this rule
@@ -56,7 +56,7 @@ pub record WordsClosed (table : List (List ℕ)) (finals states : ℕ) (l m : Li
 
 -- the class rows of all nodes hold the after words of the exits
 pub record AfterWords (table : List (List ℕ)) (finals states nodes : ℕ) (l m : List ℕ) : Type 0 where
-  pub kept : SameOutside l m 25602 41986
+  pub kept : SameOutside l m classPart foundPart
   pub exact : (j : Job) → JobHeld j l table finals states nodes → AfterHeld j m nodes
 
 -- the class rows hold the states told apart past each node
@@ -66,7 +66,7 @@ ClassesHeld j work nodes =
 
 -- the class rows were grown from the after words of the exits
 pub record ClassesFound (table : List (List ℕ)) (finals states nodes : ℕ) (l m : List ℕ) : Type 0 where
-  pub kept : SameOutside l m 25602 41986
+  pub kept : SameOutside l m classPart foundPart
   pub exact : (j : Job) → JobHeld j l table finals states nodes → AfterHeld j l nodes → ClassesHeld j m nodes
 
 -- ---- what is found at a point

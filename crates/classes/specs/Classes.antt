@@ -12,7 +12,7 @@ use Rattle.job.specs.Job.{Kind, plain, event, call, Job}
 use Rattle.job.specs.Found.{Apart}
 use Rattle.joblines.specs.Layout.{nodeIn, SameOutside}
 use Rattle.tables.specs.Rows.{unlikeStates, preimageOf, callSet}
-use Rattle.tables.specs.Tables.{classPart, classRowIn, EdgeIn, HeldApart, apartLeft}
+use Rattle.tables.specs.Tables.{classPart, foundPart, classRowIn, EdgeIn, HeldApart, apartLeft}
 use Rattle.tables.specs.Held.{JobHeld}
 use Rattle.classes.specs.Backwards.{wordRow}
 
@@ -63,7 +63,7 @@ pub record NodeGrown (table : List (List ℕ)) (finals states : ℕ) (l m : List
 
 -- the rows of all nodes were grown once
 pub record ClassesGrown (table : List (List ℕ)) (finals states nodes : ℕ) (l m : List ℕ) (grown : ℕ) : Type 0 where
-  pub kept : SameOutside l m 25602 41986
+  pub kept : SameOutside l m classPart foundPart
   pub held : (k p q : ℕ) → k < 512 → p < 16 → HeldApart l k p q → HeldApart m k p q
   pub sound : (j : Job) → JobHeld j l table finals states nodes → AllApart j nodes l → AllApart j nodes m
   pub closed : grown ≡ 0 → (n : ℕ) → n < nodes → ClosedBack table finals states m n

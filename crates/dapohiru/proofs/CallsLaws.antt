@@ -18,7 +18,7 @@ use Rattle.laws.proofs.Bytes.{byte-lt}
 use Rattle.automaton.specs.Automaton.{Automaton, cell, WellFormed, SameRule}
 use Rattle.automaton.specs.Table.{rowOf, tableOf}
 use Rattle.monitor.specs.Monitor.{recordOf, refusedWith, taken}
-use Rattle.monitor.specs.Run.{isEvent, Given}
+use Rattle.monitor.specs.Run.{Given}
 use Rattle.monitor.specs.declared.step.Record.{Record}
 use Rattle.monitor.specs.declared.step.Taken.{Taken}
 use Rattle.monitor.proofs.MonitorLaws.{taken-13}
@@ -27,14 +27,14 @@ use Rattle.job.specs.Plan.{Enabling, enables}
 use Rattle.job.proofs.MonitorsLaws.{symbolsBelow, symbols-below}
 use Rattle.dapohiru.specs.Event.{ruleIn, recordIn, eventTaken, numberOf}
 use Rattle.dapohiru.specs.Run.{ByteCall, lent}
-use Rattle.dapohiru.specs.Promise.{EventForm, GivenFits, valueForm, lentForm, callForm, Listed, walked, eventsOf, Both, afterListed, ProperList, beginBoth, PassableList, CallsExist, RefusedExist}
+use Rattle.dapohiru.specs.Promise.{EventForm, GivenFits, valueForm, lentForm, callForm, Entry, walked, eventsOf, Both, afterEntry, ProperList, beginBoth, PassableList, CallsExist, RefusedExist}
 use Rattle.dapohiru.proofs.EventLaws.{rule-of, rule-none}
 
 -- ---- from a call for each symbol to a list
 
 module _ (f : EventForm) (m : Automaton) (give : ℕ → f .Call) where
   -- the calls of a list of events, none between
-  giveAll : List Event → List (Listed f)
+  giveAll : List Event → List (Entry f)
   giveAll [] = []
   giveAll (e ∷ es) = walked e (give (symbolOf e)) (give (symbolOf e)) ∷ giveAll es
 
@@ -52,7 +52,7 @@ module _ (f : EventForm) (m : Automaton) (give : ℕ → f .Call) where
   give-proper gives w t [] below = tt
   give-proper gives w t (e ∷ es) below =
       let g = gives (symbolOf e) (below .0) in
-      (g, g, give-proper gives w (afterListed w t (walked e (give (symbolOf e)) (give (symbolOf e)))) es (below .1))
+      (g, g, give-proper gives w (afterEntry w t (walked e (give (symbolOf e)) (give (symbolOf e)))) es (below .1))
 
   -- they can be passed
   give-passable
@@ -198,14 +198,17 @@ given-passable m a wf h =
     given-fits (ruleBytes m) (m .states) (m .symbols) (m .finals) a (rule-bytes-are m wf) (omega (arith, wf .few-states))
     (omega (arith, wf .few-symbols)) (finals-fit m wf) (omega (arith, wf .few-symbols))
 
+-- on values
 pub value-gives : FormGives valueForm
 unfolding givenOf
 value-gives = record { give = givenOf; gives = λ m a wf h. (spelled-same m wf, refl); fits = given-passable }
 
+-- on a lent record
 pub lent-gives : FormGives lentForm
 unfolding givenOf
 lent-gives = record { give = givenOf; gives = λ m a wf h. (spelled-same m wf, refl); fits = given-passable }
 
+-- across the C call
 pub call-gives : (front back : List ℕ) → FormGives (callForm front back)
 unfolding byteCallOf
 call-gives front back =
@@ -240,19 +243,22 @@ no-given-passable : GivenFits noGiven
 unfolding noGiven
 no-given-passable = given-fits [] 0 0 0 0 none-bytes (omega arith) (omega arith) (omega arith) (omega arith)
 
+-- on values
 pub value-refused : RefusedExist valueForm
 unfolding noGiven
 value-refused t =
-    (noGiven, no-given-passable, ap (λ (x : Taken). not (isEvent (x .report))) (no-rule-refused (recordOf (t .state) (t .alarms))))
+    (noGiven, no-given-passable, ap (λ (x : Taken). valueForm .refusal (x .report)) (no-rule-refused (recordOf (t .state) (t .alarms))))
 
+-- on a lent record
 pub lent-refused : RefusedExist lentForm
 unfolding noGiven
-lent-refused r = (noGiven, no-given-passable, ap (λ (x : Taken). not (isEvent (x .report))) (no-rule-refused r))
+lent-refused r = (noGiven, no-given-passable, ap (λ (x : Taken). lentForm .refusal (x .report)) (no-rule-refused r))
 
 -- across the C call
 noByteCall : ByteCall
 noByteCall = record { rule = []; states = 0; symbols = 0; finals = 0; symbol = 0; start = 0; count = 16 }
 
+-- it is refused
 pub call-refused : (front back : List ℕ) → RefusedExist (callForm front back)
 unfolding noByteCall eventTaken
 call-refused front back held = (

@@ -36,40 +36,6 @@ use Rattle.dapohiru.proofs.PromiseLaws.{FormReads}
 given-taken : (m n : Automaton) (a b : ℕ) (r x : Record) → SameRule m n → b ≡ a → x ≡ r → taken n b x ≡ taken m a r
 given-taken m n a b r x same e d = ap (λ (k : ℕ). taken n k x) e ∙ ap (taken n a) d ∙ sym (taken-same m n a r same)
 
--- ---- on values, and on a lent record
-
-pub value-reads : FormReads valueForm
-value-reads =
-    record {
-      Reads = λ t r. recordOf (t .state) (t .alarms) ≡ r;
-      begins = λ q n g h. refl;
-      total = λ t r e. ap (λ (x : Record). x .alarms) e;
-      alarm = λ m a c t r g e.
-          ap (λ (x : Taken). isAlarm (x .report)) (given-taken m (c .rule) a (c .symbol) r (recordOf (t .state) (t .alarms)) (g .0) (g .1) e);
-      refusal = λ m a c t r g e.
-          ap (λ (x : Taken). not (isEvent (x .report)))
-          (given-taken m (c .rule) a (c .symbol) r (recordOf (t .state) (t .alarms)) (g .0) (g .1) e);
-      left = λ m a c t r g e.
-          ap (λ (x : Taken). recordOf (x .state) (x .alarms))
-          (given-taken m (c .rule) a (c .symbol) r (recordOf (t .state) (t .alarms)) (g .0) (g .1) e);
-      refused = λ c t r q e. refusal-keeps (c .rule) (c .symbol) (recordOf (t .state) (t .alarms)) (not-true _ q) ∙ e;
-      alike = λ c t u r d e. ap (λ (x : Record). taken (c .rule) (c .symbol) x .report) (d ∙ sym e);
-    }
-
-pub lent-reads : FormReads lentForm
-lent-reads =
-    record {
-      Reads = λ h r. h ≡ r;
-      begins = λ q n g h. refl;
-      total = λ h r e. ap (λ (x : Record). x .alarms) e;
-      alarm = λ m a c h r g e. ap (λ (x : Taken). isAlarm (x .report)) (given-taken m (c .rule) a (c .symbol) r h (g .0) (g .1) e);
-      refusal = λ m a c h r g e. ap (λ (x : Taken). not (isEvent (x .report))) (given-taken m (c .rule) a (c .symbol) r h (g .0) (g .1) e);
-      left = λ m a c h r g e.
-          ap (λ (x : Taken). recordOf (x .state) (x .alarms)) (given-taken m (c .rule) a (c .symbol) r h (g .0) (g .1) e);
-      refused = λ c h r q e. refusal-keeps (c .rule) (c .symbol) h (not-true _ q) ∙ e;
-      alike = λ c g h r d e. ap (λ (x : Record). taken (c .rule) (c .symbol) x .report) (d ∙ sym e);
-    }
-
 -- ---- the answers as numbers
 
 -- what holds of a refusal by a number of at most 15, of an alarm and of quiet, both in a state below 16, holds of a call
@@ -104,6 +70,53 @@ number-refusal : (m : Automaton) (a : ℕ) (r : Record) → ltb (numberOf (taken
 number-refusal m a r =
     taken-cases (λ (t : Taken). ltb (numberOf (t .report)) (2 ^ 48) ≡ not (isEvent (t .report))) m a r
     (λ k h. lt-ltb k (2 ^ 48) (omega arith)) (λ q h. refl) (λ q h. refl)
+
+-- ---- on values, and on a lent record
+
+-- a record of values
+pub value-reads : FormReads valueForm
+value-reads =
+    record {
+      Reads = λ t r. recordOf (t .state) (t .alarms) ≡ r;
+      begins = λ q n g h. refl;
+      total = λ t r e. ap (λ (x : Record). x .alarms) e;
+      alarm = λ m a c t r g e.
+          ap (λ (x : Taken). eqb (numberOf (x .report)) (2 ^ 48 + 1))
+          (given-taken m (c .rule) a (c .symbol) r (recordOf (t .state) (t .alarms)) (g .0) (g .1) e)
+          ∙ number-alarm m a r;
+      refusal = λ m a c t r g e.
+          ap (λ (x : Taken). ltb (numberOf (x .report)) (2 ^ 48))
+          (given-taken m (c .rule) a (c .symbol) r (recordOf (t .state) (t .alarms)) (g .0) (g .1) e)
+          ∙ number-refusal m a r;
+      left = λ m a c t r g e.
+          ap (λ (x : Taken). recordOf (x .state) (x .alarms))
+          (given-taken m (c .rule) a (c .symbol) r (recordOf (t .state) (t .alarms)) (g .0) (g .1) e);
+      refused = λ c t r q e.
+          refusal-keeps (c .rule) (c .symbol) (recordOf (t .state) (t .alarms))
+          (not-true _ (sym (number-refusal (c .rule) (c .symbol) (recordOf (t .state) (t .alarms))) ∙ q))
+          ∙ e;
+      alike = λ c t u r d e. ap (λ (x : Record). taken (c .rule) (c .symbol) x .report) (d ∙ sym e);
+    }
+
+-- a lent record
+pub lent-reads : FormReads lentForm
+lent-reads =
+    record {
+      Reads = λ h r. h ≡ r;
+      begins = λ q n g h. refl;
+      total = λ h r e. ap (λ (x : Record). x .alarms) e;
+      alarm = λ m a c h r g e.
+          ap (λ (x : Taken). eqb (numberOf (x .report)) (2 ^ 48 + 1)) (given-taken m (c .rule) a (c .symbol) r h (g .0) (g .1) e)
+          ∙ number-alarm m a r;
+      refusal = λ m a c h r g e.
+          ap (λ (x : Taken). ltb (numberOf (x .report)) (2 ^ 48)) (given-taken m (c .rule) a (c .symbol) r h (g .0) (g .1) e)
+          ∙ number-refusal m a r;
+      left = λ m a c h r g e.
+          ap (λ (x : Taken). recordOf (x .state) (x .alarms)) (given-taken m (c .rule) a (c .symbol) r h (g .0) (g .1) e);
+      refused = λ c h r q e.
+          refusal-keeps (c .rule) (c .symbol) h (not-true _ (sym (number-refusal (c .rule) (c .symbol) h) ∙ q)) ∙ e;
+      alike = λ c g h r d e. ap (λ (x : Record). taken (c .rule) (c .symbol) x .report) (d ∙ sym e);
+    }
 
 -- ---- the record's bytes
 
@@ -215,6 +228,7 @@ refused-leaves c held e =
 
 -- ---- across the C call
 
+-- the bytes of a record
 pub call-reads : (front back : List ℕ) → FormReads (callForm front back)
 call-reads front back =
     record {

@@ -31,7 +31,7 @@ use Rattle.joblines.specs.Layout.{workSize}
 use Rattle.plans.specs.Called.{admitted}
 use Rattle.plans.specs.PlanCall.{planSize}
 use Rattle.plans.proofs.PlanAfterLaws.{plan-answer-reads, plan-after-plan}
-use Rattle.dapohiru.specs.Promise.{EventForm, Listed, walked, on-full, on-planned, elsewhere, eventsOf, Both, afterListed, reports, reportsPlanned, ProperList, AgreeOn, DisagreeOn, beginBoth, ListOn, CallsExist, afterList, StandsBetween, TakenOn, AlarmsKept, AlarmsDiffer, PointsNeeded, PlanMarks, PlanningAccepts, PromiseIn}
+use Rattle.dapohiru.specs.Promise.{EventForm, Entry, walked, on-full, on-planned, elsewhere, eventsOf, Both, afterEntry, reports, reportsPlanned, ProperList, AgreeOn, DisagreeOn, beginBoth, ListOn, CallsExist, afterList, StandsBetween, NoneRefused, AlarmsKept, AlarmsDiffer, PointsNeeded, PlanMarks, PlanningAccepts, PromiseIn}
 
 -- a form that can be read as records: what is held stands for a record, and each part of the form is that of the event step on it
 pub record FormReads (f : EventForm) : Type 1 where
@@ -70,8 +70,8 @@ module _ (f : EventForm) (form : FormReads f) (m : Automaton) (w : Enabling) whe
           ap (λ (b : Bool). cond (takes w e) b false) (form .alarm m (symbolOf e) d (t .planned) (u .planned) gives-planned (s .on-planned))
 
       -- what is left stands for what is left on records
-      walked-stands : Stands (afterListed w t (walked e c d)) (afterCall w u (walked-record e m m))
-      unfolding afterListed afterCall
+      walked-stands : Stands (afterEntry w t (walked e c d)) (afterCall w u (walked-record e m m))
+      unfolding afterEntry afterCall
       walked-stands =
           record { on-full = form .left m (symbolOf e) c (t .full) (u .full) gives-full (s .on-full); on-planned = go (takes w e) }
         where
@@ -83,20 +83,20 @@ module _ (f : EventForm) (form : FormReads f) (m : Automaton) (w : Enabling) whe
 
   -- a refused call on full leaves what stands for the same two records
   refused-full
-      : (c : f .Call) (t : Both f) (u : Two) → f .refusal (f .answer c (t .full)) ≡ true → Stands t u → Stands (afterListed w t (on-full c)) u
-  unfolding afterListed
+      : (c : f .Call) (t : Both f) (u : Two) → f .refusal (f .answer c (t .full)) ≡ true → Stands t u → Stands (afterEntry w t (on-full c)) u
+  unfolding afterEntry
   refused-full c t u e s = record { on-full = form .refused c (t .full) (u .full) e (s .on-full); on-planned = s .on-planned }
 
   -- and on planned
   refused-planned
       : (c : f .Call) (t : Both f) (u : Two) → f .refusal (f .answer c (t .planned)) ≡ true → Stands t u
-      → Stands (afterListed w t (on-planned c)) u
-  unfolding afterListed
+      → Stands (afterEntry w t (on-planned c)) u
+  unfolding afterEntry
   refused-planned c t u e s = record { on-full = s .on-full; on-planned = form .refused c (t .planned) (u .planned) e (s .on-planned) }
 
   -- where the walk's events agree on records, so does the list
   pub agree-reads
-      : (t : Both f) (u : Two) (cs : List (Listed f)) → Stands t u → ProperList m w t cs → Agree w u (plainCalls m (eventsOf cs))
+      : (t : Both f) (u : Two) (cs : List (Entry f)) → Stands t u → ProperList m w t cs → Agree w u (plainCalls m (eventsOf cs))
       → AgreeOn w t cs
   unfolding ProperList AgreeOn Agree plainCalls eventsOf
   agree-reads t u [] s p g = tt
@@ -104,16 +104,16 @@ module _ (f : EventForm) (form : FormReads f) (m : Automaton) (w : Enabling) whe
       let after = walked-stands e c d t u (p .0) (p .1) s in (
         walked-full e c d t u (p .0) (p .1) s ∙ g .0 ∙ sym (walked-planned e c d t u (p .0) (p .1) s),
         form .total _ _ (after .on-full) ∙ g .1 ∙ sym (form .total _ _ (after .on-planned)),
-        agree-reads (afterListed w t (walked e c d)) (afterCall w u (walked-record e m m)) cs after (p .2) (g .2),
+        agree-reads (afterEntry w t (walked e c d)) (afterCall w u (walked-record e m m)) cs after (p .2) (g .2),
       )
-  agree-reads t u (on-full c ∷ cs) s p g = agree-reads (afterListed w t (on-full c)) u cs (refused-full c t u (p .0) s) (p .1) g
+  agree-reads t u (on-full c ∷ cs) s p g = agree-reads (afterEntry w t (on-full c)) u cs (refused-full c t u (p .0) s) (p .1) g
   agree-reads t u (on-planned c ∷ cs) s p g =
-      agree-reads (afterListed w t (on-planned c)) u cs (refused-planned c t u (p .0) s) (p .1) g
+      agree-reads (afterEntry w t (on-planned c)) u cs (refused-planned c t u (p .0) s) (p .1) g
   agree-reads t u (elsewhere c h ∷ cs) s p g = agree-reads t u cs s p g
 
   -- where they disagree on records, so does the list
   pub disagree-reads
-      : (t : Both f) (u : Two) (cs : List (Listed f)) → Stands t u → ProperList m w t cs → Disagree w u (plainCalls m (eventsOf cs))
+      : (t : Both f) (u : Two) (cs : List (Entry f)) → Stands t u → ProperList m w t cs → Disagree w u (plainCalls m (eventsOf cs))
       → DisagreeOn w t cs
   unfolding ProperList DisagreeOn Disagree plainCalls eventsOf
   disagree-reads t u [] s p g = g
@@ -122,29 +122,29 @@ module _ (f : EventForm) (form : FormReads f) (m : Automaton) (w : Enabling) whe
       (walked-full e c d t u (p .0) (p .1) s ∙ g ∙ ap not (sym (walked-planned e c d t u (p .0) (p .1) s)))
   disagree-reads t u (walked e c d ∷ cs) s p (inr g) =
       inr
-      (disagree-reads (afterListed w t (walked e c d)) (afterCall w u (walked-record e m m)) cs
+      (disagree-reads (afterEntry w t (walked e c d)) (afterCall w u (walked-record e m m)) cs
       (walked-stands e c d t u (p .0) (p .1) s) (p .2) g)
   disagree-reads t u (on-full c ∷ cs) s p g =
-      disagree-reads (afterListed w t (on-full c)) u cs (refused-full c t u (p .0) s) (p .1) g
+      disagree-reads (afterEntry w t (on-full c)) u cs (refused-full c t u (p .0) s) (p .1) g
   disagree-reads t u (on-planned c ∷ cs) s p g =
-      disagree-reads (afterListed w t (on-planned c)) u cs (refused-planned c t u (p .0) s) (p .1) g
+      disagree-reads (afterEntry w t (on-planned c)) u cs (refused-planned c t u (p .0) s) (p .1) g
   disagree-reads t u (elsewhere c h ∷ cs) s p g = disagree-reads t u cs s p g
 
   -- where they are taken on records, so they are in the list
   pub taken-reads
-      : (t : Both f) (u : Two) (cs : List (Listed f)) → Stands t u → ProperList m w t cs → Accepted w u (plainCalls m (eventsOf cs))
-      → TakenOn w t cs
-  unfolding ProperList TakenOn Accepted plainCalls eventsOf
+      : (t : Both f) (u : Two) (cs : List (Entry f)) → Stands t u → ProperList m w t cs → Accepted w u (plainCalls m (eventsOf cs))
+      → NoneRefused w t cs
+  unfolding ProperList NoneRefused Accepted plainCalls eventsOf
   taken-reads t u [] s p g = tt
   taken-reads t u (walked e c d ∷ cs) s p g = (
     form .refusal m (symbolOf e) c (t .full) (u .full) (p .0) (s .on-full) ∙ ap not (g .0),
     form .refusal m (symbolOf e) d (t .planned) (u .planned) (p .1) (s .on-planned) ∙ ap not (g .1),
-    taken-reads (afterListed w t (walked e c d)) (afterCall w u (walked-record e m m)) cs
+    taken-reads (afterEntry w t (walked e c d)) (afterCall w u (walked-record e m m)) cs
         (walked-stands e c d t u (p .0) (p .1) s) (p .2) (g .2),
   )
-  taken-reads t u (on-full c ∷ cs) s p g = taken-reads (afterListed w t (on-full c)) u cs (refused-full c t u (p .0) s) (p .1) g
+  taken-reads t u (on-full c ∷ cs) s p g = taken-reads (afterEntry w t (on-full c)) u cs (refused-full c t u (p .0) s) (p .1) g
   taken-reads t u (on-planned c ∷ cs) s p g =
-      taken-reads (afterListed w t (on-planned c)) u cs (refused-planned c t u (p .0) s) (p .1) g
+      taken-reads (afterEntry w t (on-planned c)) u cs (refused-planned c t u (p .0) s) (p .1) g
   taken-reads t u (elsewhere c h ∷ cs) s p g = taken-reads t u cs s p g
 
 -- ---- an event's two calls are one of the list
@@ -153,21 +153,21 @@ module _ {f : EventForm} (w : Enabling) (t : Both f) where
   -- full's and then planned's, where planned is given the event
   pub listed-given
       : (e : Event) (c d : f .Call) → takes w e ≡ true
-      → afterListed w t (walked e c d) ≡ afterListed w (afterListed w t (on-full c)) (on-planned d)
-  unfolding afterListed
+      → afterEntry w t (walked e c d) ≡ afterEntry w (afterEntry w t (on-full c)) (on-planned d)
+  unfolding afterEntry
   listed-given e c d g = simp g
 
   -- full's alone, where it is not
   pub listed-skipped
-      : (e : Event) (c d : f .Call) → takes w e ≡ false → afterListed w t (walked e c d) ≡ afterListed w t (on-full c)
-  unfolding afterListed
+      : (e : Event) (c d : f .Call) → takes w e ≡ false → afterEntry w t (walked e c d) ≡ afterEntry w t (on-full c)
+  unfolding afterEntry
   listed-skipped e c d g = simp g
 
   -- calls on the two records do not meet: they leave the same in either order
   pub listed-commute
       : (c d : f .Call)
-      → afterListed w (afterListed w t (on-full c)) (on-planned d) ≡ afterListed w (afterListed w t (on-planned d)) (on-full c)
-  unfolding afterListed
+      → afterEntry w (afterEntry w t (on-full c)) (on-planned d) ≡ afterEntry w (afterEntry w t (on-planned d)) (on-full c)
+  unfolding afterEntry
   listed-commute c d = refl
 
 -- ---- calls between
@@ -175,62 +175,62 @@ module _ {f : EventForm} (w : Enabling) (t : Both f) where
 module _ (f : EventForm) (form : FormReads f) (m : Automaton) (w : Enabling) where
   -- two records that stand for the same two have the same proper lists
   proper-alike
-      : (t v : Both f) (u : Two) (cs : List (Listed f)) → Stands f form m w t u → Stands f form m w v u → ProperList m w t cs
+      : (t v : Both f) (u : Two) (cs : List (Entry f)) → Stands f form m w t u → Stands f form m w v u → ProperList m w t cs
       → ProperList m w v cs
   unfolding ProperList
   proper-alike t v u [] s z p = tt
   proper-alike t v u (walked e c d ∷ cs) s z p = (
     p .0,
     p .1,
-    proper-alike (afterListed w t (walked e c d)) (afterListed w v (walked e c d)) (afterCall w u (walked-record e m m)) cs
+    proper-alike (afterEntry w t (walked e c d)) (afterEntry w v (walked e c d)) (afterCall w u (walked-record e m m)) cs
         (walked-stands f form m w e c d t u (p .0) (p .1) s) (walked-stands f form m w e c d v u (p .0) (p .1) z) (p .2),
   )
   proper-alike t v u (on-full c ∷ cs) s z p =
       let same = ap (f .refusal) (form .alike c (v .full) (t .full) (u .full) (z .on-full) (s .on-full)) ∙ p .0 in (
         same,
-        proper-alike (afterListed w t (on-full c)) (afterListed w v (on-full c)) u cs (refused-full f form m w c t u (p .0) s)
+        proper-alike (afterEntry w t (on-full c)) (afterEntry w v (on-full c)) u cs (refused-full f form m w c t u (p .0) s)
             (refused-full f form m w c v u same z) (p .1),
       )
   proper-alike t v u (on-planned c ∷ cs) s z p =
       let same = ap (f .refusal) (form .alike c (v .planned) (t .planned) (u .planned) (z .on-planned) (s .on-planned)) ∙ p .0 in (
         same,
-        proper-alike (afterListed w t (on-planned c)) (afterListed w v (on-planned c)) u cs (refused-planned f form m w c t u (p .0) s)
+        proper-alike (afterEntry w t (on-planned c)) (afterEntry w v (on-planned c)) u cs (refused-planned f form m w c t u (p .0) s)
             (refused-planned f form m w c v u same z) (p .1),
       )
   proper-alike t v u (elsewhere c h ∷ cs) s z p = proper-alike t v u cs s z p
 
   -- at the front of a proper list a call between gives one
   between-front
-      : (t : Both f) (u : Two) (x : Listed f) (cs : List (Listed f)) → Stands f form m w t u → StandsBetween t x → ProperList m w t cs
+      : (t : Both f) (u : Two) (x : Entry f) (cs : List (Entry f)) → Stands f form m w t u → StandsBetween t x → ProperList m w t cs
       → ProperList m w t (x ∷ cs)
   unfolding ProperList StandsBetween
   between-front t u (walked e c d) cs s b p = absurd b
-  between-front t u (on-full c) cs s b p = (b, proper-alike t (afterListed w t (on-full c)) u cs s (refused-full f form m w c t u b s) p)
+  between-front t u (on-full c) cs s b p = (b, proper-alike t (afterEntry w t (on-full c)) u cs s (refused-full f form m w c t u b s) p)
   between-front t u (on-planned c) cs s b p =
-      (b, proper-alike t (afterListed w t (on-planned c)) u cs s (refused-planned f form m w c t u b s) p)
+      (b, proper-alike t (afterEntry w t (on-planned c)) u cs s (refused-planned f form m w c t u b s) p)
   between-front t u (elsewhere c h) cs s b p = p
 
   -- at any place
   between-proper
-      : (t : Both f) (u : Two) (x : Listed f) (before after : List (Listed f)) → Stands f form m w t u
+      : (t : Both f) (u : Two) (x : Entry f) (before after : List (Entry f)) → Stands f form m w t u
       → StandsBetween (afterList w t before) x → ProperList m w t (before ++ after) → ProperList m w t (before ++ x ∷ after)
-  unfolding ProperList afterList afterListed
+  unfolding ProperList afterList afterEntry
   between-proper t u x [] after s b p = between-front t u x after s b p
   between-proper t u x (walked e c d ∷ cs) after s b p = (
     p .0,
     p .1,
-    between-proper (afterListed w t (walked e c d)) (afterCall w u (walked-record e m m)) x cs after
+    between-proper (afterEntry w t (walked e c d)) (afterCall w u (walked-record e m m)) x cs after
         (walked-stands f form m w e c d t u (p .0) (p .1) s) b (p .2),
   )
   between-proper t u x (on-full c ∷ cs) after s b p =
-      (p .0, between-proper (afterListed w t (on-full c)) u x cs after (refused-full f form m w c t u (p .0) s) b (p .1))
+      (p .0, between-proper (afterEntry w t (on-full c)) u x cs after (refused-full f form m w c t u (p .0) s) b (p .1))
   between-proper t u x (on-planned c ∷ cs) after s b p =
-      (p .0, between-proper (afterListed w t (on-planned c)) u x cs after (refused-planned f form m w c t u (p .0) s) b (p .1))
+      (p .0, between-proper (afterEntry w t (on-planned c)) u x cs after (refused-planned f form m w c t u (p .0) s) b (p .1))
   between-proper t u x (elsewhere c h ∷ cs) after s b p = between-proper t u x cs after s b p
 
 -- a call between adds no event
 between-events
-    : {f : EventForm} (t : Both f) (x : Listed f) → StandsBetween t x → (before after : List (Listed f))
+    : {f : EventForm} (t : Both f) (x : Entry f) → StandsBetween t x → (before after : List (Entry f))
     → eventsOf (before ++ x ∷ after) ≡ eventsOf (before ++ after)
 unfolding eventsOf StandsBetween
 between-events t (walked e c d) b [] after = absurd b
@@ -257,7 +257,7 @@ module _ (f : EventForm) (form : FormReads f) (j : Job) (plan : List ℕ) (wf : 
   -- a call between may stand at any place
   pub call-between
       : (s : Start j) (k : WalkFrom j s) (total : ℕ) → total ≤ maxTotal → (c : ListOn f j plan s k total)
-      → (before after : List (Listed f)) → c .calls ≡ before ++ after → (x : Listed f)
+      → (before after : List (Entry f)) → c .calls ≡ before ++ after → (x : Entry f)
       → StandsBetween (afterList (enables plan) (beginBoth f (s .state) total) before) x
       → (d : ListOn f j plan s k total) × (d .calls ≡ before ++ x ∷ after)
   call-between s k total h c before after e x b =
@@ -268,7 +268,7 @@ module _ (f : EventForm) (form : FormReads f) (j : Job) (plan : List ℕ) (wf : 
           events = between-events (afterList w t before) x b before after ∙ ap eventsOf (sym e) ∙ c .events;
           proper =
               between-proper f form (j .rule) w t (begin (s .state) total) x before after (begin-stands s total h) b
-              (subst (λ (cs : List (Listed f)). ProperList (j .rule) w t cs) e (c .proper));
+              (subst (λ (cs : List (Entry f)). ProperList (j .rule) w t cs) e (c .proper));
         },
         refl,
       )
@@ -276,7 +276,7 @@ module _ (f : EventForm) (form : FormReads f) (j : Job) (plan : List ℕ) (wf : 
   -- no event's call is refused
   pub events-taken
       : (s : Start j) (k : WalkFrom j s) (total : ℕ) → total ≤ maxTotal → (c : ListOn f j plan s k total)
-      → TakenOn (enables plan) (beginBoth f (s .state) total) (c .calls)
+      → NoneRefused (enables plan) (beginBoth f (s .state) total) (c .calls)
   unfolding calls-exist
   events-taken s k total h c =
       taken-reads f form (j .rule) (enables plan) (beginBoth f (s .state) total) (begin (s .state) total) (c .calls)

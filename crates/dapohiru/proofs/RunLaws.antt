@@ -1,7 +1,7 @@
 -- Refused calls stand apart from the events of a run across the C call, also calls that lend too few or too many bytes.
 -- Assumes nothing.
-use mathlib.Core.Path.{_≡_, refl, sym, ap, _∙_}
-use mathlib.Core.Bool.{true, false, true≢false}
+use mathlib.Core.Path.{_≡_, refl, ap, _∙_}
+use mathlib.Core.Bool.{false, true≢false}
 use mathlib.Core.List.{List, _++_}
 use Prim.Native.Nat.{ℕ}
 use lib.ListN.{take, drop, take-append-drop}
@@ -9,8 +9,8 @@ use Rattle.monitor.specs.Run.{isEvent, RefusedStandApart}
 use Rattle.monitor.specs.declared.step.Report.{Report}
 use Rattle.monitor.specs.declared.step.Report.the-variants.{Quiet, Alarm, Refused}
 use Rattle.monitor.proofs.RunLaws.{RefusalKeeps, refused-stand-apart}
-use Rattle.dapohiru.specs.Event.{leftBy, recordLeft}
-use Rattle.dapohiru.specs.Run.{ByteCall, lent, takenOn, byteForm}
+use Rattle.dapohiru.specs.Event.{leftBy}
+use Rattle.dapohiru.specs.Run.{lent, takenOn, byteForm}
 
 -- a refusal leaves the bytes
 left-refused : (x : Report) (old new : List ℕ) → isEvent x ≡ false → leftBy x old new ≡ old

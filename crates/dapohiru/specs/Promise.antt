@@ -10,7 +10,7 @@ use lib.ListN.{length, getD, set, take, drop}
 use Rattle.laws.specs.Bytes.{AreBytes, numberAt}
 use Rattle.automaton.specs.Automaton.{Automaton, cell, SameRule}
 use Rattle.monitor.specs.Monitor.{recordOf, reported, maxTotal, taken}
-use Rattle.monitor.specs.Run.{isEvent, Given}
+use Rattle.monitor.specs.Run.{Given}
 use Rattle.monitor.specs.declared.step.Record.{Record}
 use Rattle.monitor.specs.declared.step.Taken.{Taken}
 use Rattle.monitor.specs.declared.step.Report.{Report}
@@ -18,7 +18,6 @@ use Rattle.monitor.specs.declared.step.Report.the-variants.{Quiet}
 use Rattle.job.specs.Job.{Job, WellFormedJob}
 use Rattle.job.specs.Walk.{Event, symbolOf, Start, WalkFrom}
 use Rattle.job.specs.Plan.{Enabling, takes, enables}
-use Rattle.job.specs.Monitors.{isAlarm}
 use Rattle.jobfile.specs.File.{accepted, writeJob}
 use Rattle.jobfile.specs.Spellable.{Spellable}
 use Rattle.joblines.specs.Layout.{workSize}
@@ -71,8 +70,8 @@ valueForm =
       Answer = Report;
       answer = λ c t. taken (c .rule) (c .symbol) (recordOf (t .state) (t .alarms)) .report;
       left = λ c t. taken (c .rule) (c .symbol) (recordOf (t .state) (t .alarms));
-      alarm = isAlarm;
-      refusal = λ x. not (isEvent x);
+      alarm = λ x. eqb (numberOf x) (2 ^ 48 + 1);
+      refusal = λ x. ltb (numberOf x) (2 ^ 48);
       Passable = GivenFits;
       Gives = λ m a c. SameRule m (c .rule) × (c .symbol ≡ a);
       begins = λ q n. reported (recordOf q n) Quiet;
@@ -88,8 +87,8 @@ lentForm =
       Answer = Report;
       answer = λ c r. taken (c .rule) (c .symbol) r .report;
       left = λ c r. recordOf (taken (c .rule) (c .symbol) r .state) (taken (c .rule) (c .symbol) r .alarms);
-      alarm = isAlarm;
-      refusal = λ x. not (isEvent x);
+      alarm = λ x. eqb (numberOf x) (2 ^ 48 + 1);
+      refusal = λ x. ltb (numberOf x) (2 ^ 48);
       Passable = GivenFits;
       Gives = λ m a c. SameRule m (c .rule) × (c .symbol ≡ a);
       begins = recordOf;
@@ -123,14 +122,14 @@ callForm front back =
 
 -- a call of the list: an event of the walk, with the call on full and the one that planned gets where it is given the event; or a call
 -- that stands for no event, on full, on planned or on another record
-pub data Listed (f : EventForm) : Type 0 where
-  walked : Event → f .Call → f .Call → Listed f
-  on-full : f .Call → Listed f
-  on-planned : f .Call → Listed f
-  elsewhere : f .Call → f .Held → Listed f
+pub data Entry (f : EventForm) : Type 0 where
+  walked : Event → f .Call → f .Call → Entry f
+  on-full : f .Call → Entry f
+  on-planned : f .Call → Entry f
+  elsewhere : f .Call → f .Held → Entry f
 
 -- the walk's events in the list, in order
-unfoldable pub eventsOf : {f : EventForm} → List (Listed f) → List Event
+unfoldable pub eventsOf : {f : EventForm} → List (Entry f) → List Event
 eventsOf [] = []
 eventsOf (walked e c d ∷ cs) = e ∷ eventsOf cs
 eventsOf (on-full c ∷ cs) = eventsOf cs
@@ -143,12 +142,12 @@ pub record Both (f : EventForm) : Type 0 where
   pub planned : f .Held
 
 -- the two records after a call: "planned is given every event except those of points whose plan byte is 0"
-unfoldable pub afterListed : {f : EventForm} → Enabling → Both f → Listed f → Both f
-afterListed {f} w t (walked e c d) =
+unfoldable pub afterEntry : {f : EventForm} → Enabling → Both f → Entry f → Both f
+afterEntry {f} w t (walked e c d) =
     record { full = f .left c (t .full); planned = cond (takes w e) (f .left d (t .planned)) (t .planned) }
-afterListed {f} w t (on-full c) = record { full = f .left c (t .full); planned = t .planned }
-afterListed {f} w t (on-planned c) = record { full = t .full; planned = f .left c (t .planned) }
-afterListed {f} w t (elsewhere c h) = t
+afterEntry {f} w t (on-full c) = record { full = f .left c (t .full); planned = t .planned }
+afterEntry {f} w t (on-planned c) = record { full = t .full; planned = f .left c (t .planned) }
+afterEntry {f} w t (elsewhere c h) = t
 
 -- a call reports an alarm
 abbrev pub reports : (f : EventForm) → f .Call → f .Held → Bool
@@ -160,37 +159,37 @@ reportsPlanned f w e d h = cond (takes w e) (reports f d h) false
 
 -- "each of these calls gets the job's rule, the event's symbol and its record as the call before left it"; "refused calls may stand
 -- anywhere between, on either record"; a call on another record may be any
-unfoldable pub ProperList : {f : EventForm} → Automaton → Enabling → Both f → List (Listed f) → Type 0
-unfolding afterListed
+unfoldable pub ProperList : {f : EventForm} → Automaton → Enabling → Both f → List (Entry f) → Type 0
+unfolding afterEntry
 ProperList rule w t [] = Unit {0}
 ProperList {f} rule w t (walked e c d ∷ cs) =
-    f .Gives rule (symbolOf e) c × f .Gives rule (symbolOf e) d × ProperList rule w (afterListed w t (walked e c d)) cs
+    f .Gives rule (symbolOf e) c × f .Gives rule (symbolOf e) d × ProperList rule w (afterEntry w t (walked e c d)) cs
 ProperList {f} rule w t (on-full c ∷ cs) =
-    (f .refusal (f .answer c (t .full)) ≡ true) × ProperList rule w (afterListed w t (on-full c)) cs
+    (f .refusal (f .answer c (t .full)) ≡ true) × ProperList rule w (afterEntry w t (on-full c)) cs
 ProperList {f} rule w t (on-planned c ∷ cs) =
-    (f .refusal (f .answer c (t .planned)) ≡ true) × ProperList rule w (afterListed w t (on-planned c)) cs
+    (f .refusal (f .answer c (t .planned)) ≡ true) × ProperList rule w (afterEntry w t (on-planned c)) cs
 ProperList rule w t (elsewhere c h ∷ cs) = ProperList rule w t cs
 
 -- "at every event of the list full reports alarm exactly when planned does; after every event the two alarm totals are equal"
-unfoldable pub AgreeOn : {f : EventForm} → Enabling → Both f → List (Listed f) → Type 0
-unfolding afterListed
+unfoldable pub AgreeOn : {f : EventForm} → Enabling → Both f → List (Entry f) → Type 0
+unfolding afterEntry
 AgreeOn w t [] = Unit {0}
 AgreeOn {f} w t (walked e c d ∷ cs) =
     (reports f c (t .full) ≡ reportsPlanned f w e d (t .planned))
-    × (f .total (afterListed w t (walked e c d) .full) ≡ f .total (afterListed w t (walked e c d) .planned))
-    × AgreeOn w (afterListed w t (walked e c d)) cs
-AgreeOn w t (on-full c ∷ cs) = AgreeOn w (afterListed w t (on-full c)) cs
-AgreeOn w t (on-planned c ∷ cs) = AgreeOn w (afterListed w t (on-planned c)) cs
+    × (f .total (afterEntry w t (walked e c d) .full) ≡ f .total (afterEntry w t (walked e c d) .planned))
+    × AgreeOn w (afterEntry w t (walked e c d)) cs
+AgreeOn w t (on-full c ∷ cs) = AgreeOn w (afterEntry w t (on-full c)) cs
+AgreeOn w t (on-planned c ∷ cs) = AgreeOn w (afterEntry w t (on-planned c)) cs
 AgreeOn w t (elsewhere c h ∷ cs) = AgreeOn w t cs
 
 -- "the reports differ at some event"
-unfoldable pub DisagreeOn : {f : EventForm} → Enabling → Both f → List (Listed f) → Type 0
-unfolding afterListed
+unfoldable pub DisagreeOn : {f : EventForm} → Enabling → Both f → List (Entry f) → Type 0
+unfolding afterEntry
 DisagreeOn w t [] = ⊥
 DisagreeOn {f} w t (walked e c d ∷ cs) =
-    (reports f c (t .full) ≡ not (reportsPlanned f w e d (t .planned))) ⊎ DisagreeOn w (afterListed w t (walked e c d)) cs
-DisagreeOn w t (on-full c ∷ cs) = DisagreeOn w (afterListed w t (on-full c)) cs
-DisagreeOn w t (on-planned c ∷ cs) = DisagreeOn w (afterListed w t (on-planned c)) cs
+    (reports f c (t .full) ≡ not (reportsPlanned f w e d (t .planned))) ⊎ DisagreeOn w (afterEntry w t (walked e c d)) cs
+DisagreeOn w t (on-full c ∷ cs) = DisagreeOn w (afterEntry w t (on-full c)) cs
+DisagreeOn w t (on-planned c ∷ cs) = DisagreeOn w (afterEntry w t (on-planned c)) cs
 DisagreeOn w t (elsewhere c h ∷ cs) = DisagreeOn w t cs
 
 -- "both begin with that state and with the same alarm total, whatever it is"
@@ -199,14 +198,14 @@ beginBoth f q n = record { full = f .begins q n; planned = f .begins q n }
 
 -- a list of calls on a walk: its events in order, and on the two records nothing but refused calls between
 pub record ListOn (f : EventForm) (j : Job) (plan : List ℕ) (s : Start j) (k : WalkFrom j s) (total : ℕ) : Type 0 where
-  pub calls : List (Listed f)
+  pub calls : List (Entry f)
   pub events : eventsOf calls ≡ k .events
   pub proper : ProperList (j .rule) (enables plan) (beginBoth f (s .state) total) calls
 
 -- ---- there are such lists
 
 -- every call of a list can be passed
-unfoldable pub PassableList : {f : EventForm} → List (Listed f) → Type 0
+unfoldable pub PassableList : {f : EventForm} → List (Entry f) → Type 0
 PassableList [] = Unit {0}
 PassableList {f} (walked e c d ∷ cs) = f .Passable c × f .Passable d × PassableList cs
 PassableList {f} (on-full c ∷ cs) = f .Passable c × PassableList cs
@@ -220,13 +219,13 @@ CallsExist f =
     → (c : ListOn f j plan s k total) × PassableList (c .calls)
 
 -- the two records after a list
-unfoldable pub afterList : {f : EventForm} → Enabling → Both f → List (Listed f) → Both f
-unfolding afterListed
+unfoldable pub afterList : {f : EventForm} → Enabling → Both f → List (Entry f) → Both f
+unfolding afterEntry
 afterList w t [] = t
-afterList w t (x ∷ cs) = afterList w (afterListed w t x) cs
+afterList w t (x ∷ cs) = afterList w (afterEntry w t x) cs
 
 -- a call that stands for no event and may stand where the records are so: refused on either, or any on another record
-unfoldable pub StandsBetween : {f : EventForm} → Both f → Listed f → Type 0
+unfoldable pub StandsBetween : {f : EventForm} → Both f → Entry f → Type 0
 StandsBetween t (walked e c d) = ⊥
 StandsBetween {f} t (on-full c) = f .refusal (f .answer c (t .full)) ≡ true
 StandsBetween {f} t (on-planned c) = f .refusal (f .answer c (t .planned)) ≡ true
@@ -236,7 +235,7 @@ StandsBetween t (elsewhere c h) = Unit {0}
 abbrev pub RefusedAnywhere : EventForm → Type 0
 RefusedAnywhere f =
     (j : Job) → WellFormedJob j → (plan : List ℕ) (s : Start j) (k : WalkFrom j s) (total : ℕ) → total ≤ maxTotal
-    → (c : ListOn f j plan s k total) (before after : List (Listed f)) → c .calls ≡ before ++ after → (x : Listed f)
+    → (c : ListOn f j plan s k total) (before after : List (Entry f)) → c .calls ≡ before ++ after → (x : Entry f)
     → StandsBetween (afterList (enables plan) (beginBoth f (s .state) total) before) x
     → (d : ListOn f j plan s k total) × (d .calls ≡ before ++ x ∷ after)
 
@@ -245,22 +244,22 @@ abbrev pub RefusedExist : EventForm → Type 0
 RefusedExist f = (h : f .Held) → (c : f .Call) × f .Passable c × (f .refusal (f .answer c h) ≡ true)
 
 -- at no event of a list is the call refused, on full or on planned
-unfoldable pub TakenOn : {f : EventForm} → Enabling → Both f → List (Listed f) → Type 0
-unfolding afterListed
-TakenOn w t [] = Unit {0}
-TakenOn {f} w t (walked e c d ∷ cs) =
+unfoldable pub NoneRefused : {f : EventForm} → Enabling → Both f → List (Entry f) → Type 0
+unfolding afterEntry
+NoneRefused w t [] = Unit {0}
+NoneRefused {f} w t (walked e c d ∷ cs) =
     (f .refusal (f .answer c (t .full)) ≡ false)
     × (f .refusal (f .answer d (t .planned)) ≡ false)
-    × TakenOn w (afterListed w t (walked e c d)) cs
-TakenOn w t (on-full c ∷ cs) = TakenOn w (afterListed w t (on-full c)) cs
-TakenOn w t (on-planned c ∷ cs) = TakenOn w (afterListed w t (on-planned c)) cs
-TakenOn w t (elsewhere c h ∷ cs) = TakenOn w t cs
+    × NoneRefused w (afterEntry w t (walked e c d)) cs
+NoneRefused w t (on-full c ∷ cs) = NoneRefused w (afterEntry w t (on-full c)) cs
+NoneRefused w t (on-planned c ∷ cs) = NoneRefused w (afterEntry w t (on-planned c)) cs
+NoneRefused w t (elsewhere c h ∷ cs) = NoneRefused w t cs
 
 -- the statement: so it is on every walk, under every plan
 abbrev pub EventsTaken : EventForm → Type 0
 EventsTaken f =
     (j : Job) → WellFormedJob j → (plan : List ℕ) (s : Start j) (k : WalkFrom j s) (total : ℕ) → total ≤ maxTotal
-    → (c : ListOn f j plan s k total) → TakenOn (enables plan) (beginBoth f (s .state) total) (c .calls)
+    → (c : ListOn f j plan s k total) → NoneRefused (enables plan) (beginBoth f (s .state) total) (c .calls)
 
 -- what makes the promise one of lists that there are, with refused calls anywhere and events that are taken, in one form
 pub record ListsExist (f : EventForm) : Type 0 where

@@ -1,16 +1,15 @@
 -- Laws of what is found at all points together: the before sets as they are stored, and what each part of the search for them leaves.
 -- Assumes nothing.
 use mathlib.Core.Path.{_≡_, sym, ap, subst, _∙_}
-use mathlib.Core.Logic.{_⊎_, inl, inr, ⊎-elim}
+use mathlib.Core.Logic.{inl, inr, ⊎-elim}
 use mathlib.Core.Bool.{Bool, not}
 use mathlib.Core.List.{List}
-use Prim.Native.Nat.{ℕ, _+_, _-_, _*_, _^_, _≤_, _<_}
-use native.Mathlib.Nat.{eq-or-lt-of-le, le-of-suc-le-suc, le-add-right}
+use Prim.Native.Nat.{ℕ, _+_, _*_, _^_, _≤_, _<_}
+use native.Mathlib.Nat.{eq-or-lt-of-le, le-of-suc-le-suc}
 use native.Mathlib.Numerals.{add-one}
 use native.Mathlib.Omega.{arith}
 use lib.Dec.{eqb}
-use lib.ListN.{length, getD, take, drop, length-drop}
-use lib.Seq.{getD-drop, ext-getD}
+use lib.ListN.{length, getD}
 use Rattle.laws.specs.Bytes.{putNumber}
 use Rattle.laws.proofs.Bytes.{number-cong, number-put, number-put-other}
 use Rattle.job.specs.Job.{Job}
@@ -27,9 +26,8 @@ use Rattle.search.proofs.AllEnabled.{all-enabled-finds}
 use Rattle.classes.specs.Backwards.{AfterWords, ClassesFound, heldStates}
 use Rattle.classes.proofs.FoundSays.{before-found}
 use Rattle.planning.specs.declared.passes.Counts.{Counts}
-use Rattle.planning.specs.Passes.{planIn, AllEnabled, PlanMade}
-use Rattle.plans.specs.Called.{countsOf}
-use Rattle.planning.proofs.PlanInLaws.{plan-in-held, planning-plan, usable-kept, job-kept, after-kept}
+use Rattle.planning.specs.Passes.{AllEnabled, countsOf, PlanMade}
+use Rattle.planning.proofs.PlanInLaws.{plan-in-held, plan-in-same, planning-search, planning-plan, planning-outside, usable-kept, job-kept, after-kept}
 use Rattle.findings.specs.Findings.{beforeIn, BeforeHeld, BeforeStored, BeforeFound, FoundHeld, Found}
 
 -- ---- the before sets as they are stored
@@ -81,23 +79,12 @@ pub stored-end : {l m : List ℕ} {states n nodes : ℕ} → n ≡ nodes → Sto
 stored-end {l} {m} {states} is g =
     let g′ = subst (λ (k : ℕ). StoredSoFar l m states k) is g in record { kept = g′ .kept; here = g′ .here }
 
--- ---- before sets and plan in buffers that agree where they lie
-
--- the before set of a node
+-- the before set of a node in buffers that agree where it lies
 before-cong
     : (l m : List ℕ) → ((k : ℕ) → 41986 ≤ k → k < 44034 → getD m k 0 ≡ getD l k 0) → (n : ℕ) → n < 512 → beforeIn m n ≡ beforeIn l n
 unfolding beforeIn
 before-cong l m s n h =
     number-cong 2 m l (41986 + n * 4) (41986 + n * 4) (λ k g. s (41986 + n * 4 + k) (omega arith) (omega arith))
-
--- the plan
-plan-cong
-    : (l m : List ℕ) (nodes : ℕ) → length m ≡ length l → ((k : ℕ) → 44034 ≤ k → getD m k 0 ≡ getD l k 0) → planIn m nodes ≡ planIn l nodes
-unfolding planIn
-plan-cong l m nodes long s =
-    ap (take nodes)
-    (ext-getD 0 (drop 44034 m) (drop 44034 l) (length-drop 44034 m ∙ ap (λ (k : ℕ). k - 44034) long ∙ sym (length-drop 44034 l))
-    (λ i _. getD-drop 44034 m i 0 ∙ s (44034 + i) (le-add-right 44034 i) ∙ sym (getD-drop 44034 l i 0)))
 
 -- ---- the search for the before sets
 
@@ -125,16 +112,12 @@ module _ {table : List (List ℕ)} {states nodes : ℕ} {l a : List ℕ} {count 
           front = kept-both l b m 9218 65536 41986 44034
               (kept-both l a b 9218 65536 9218 65536
               (kept-both l l a 9218 65536 44034 44546 (kept-none l 9218 65536) (all .kept) (omega arith) (omega arith))
-              (record { long = s .kept .long; outside = λ k o. s .kept .outside k (beside k o) }) (omega arith) (omega arith))
+              (planning-outside (planning-search (s .kept))) (omega arith) (omega arith))
               (stored .kept) (omega arith) (omega arith);
           classes = λ k g h.
               stored .kept .outside k (inl h) ∙ s .kept .outside k (inr (inl (g, omega arith))) ∙ all .kept .outside k (inl (omega arith));
           exact = before-held;
         }
-      where
-        beside : (k : ℕ) → (k < 9218) ⊎ (65536 ≤ k) → (k < 9218) ⊎ (((25602 ≤ k) × (k < 45314)) ⊎ (46338 ≤ k))
-        beside k (inl o) = inl o
-        beside k (inr o) = inr (inr (omega arith))
 
 -- ---- before sets, plan and classes
 
@@ -163,12 +146,8 @@ module _ {table : List (List ℕ)} {finals states nodes : ℕ} {l a : List ℕ} 
             (kept-both l a b 9218 65536 9218 65536
             (kept-both l l a 9218 65536 25602 41986 (kept-none l 9218 65536) (after .kept) (omega arith) (omega arith))
             (found .front) (omega arith) (omega arith))
-            (record { long = made .kept .long; outside = λ k o. made .kept .outside k (beside k o) }) (omega arith) (omega arith))
+            (planning-outside (made .kept)) (omega arith) (omega arith))
             (grown .kept) (omega arith) (omega arith)
-          where
-            beside : (k : ℕ) → (k < 9218) ⊎ (65536 ≤ k) → (k < 9218) ⊎ (((25602 ≤ k) × (k < 44034)) ⊎ (46338 ≤ k))
-            beside k (inl o) = inl o
-            beside k (inr o) = inr (inr (omega arith))
 
         -- the before sets stay
         before-stays : (n : ℕ) → n < 512 → beforeIn m n ≡ beforeIn b n
@@ -189,10 +168,11 @@ module _ {table : List (List ℕ)} {finals states nodes : ℕ} {l a : List ℕ} 
                 job = front-job (front-kept (omega arith) (grown .kept)) plan-usable third;
                 before = λ n x e.
                     before-stays n (omega (arith, event-node j n x e, h .nodes-are, u .few-nodes)) ∙ found .exact j first words n x e;
-                plan = plan-cong c m nodes (grown .kept .long) (λ k g. grown .kept .outside k (inr (omega arith))) ∙ made .plan j second words′;
+                plan = plan-in-same c m nodes (grown .kept .long) (λ k g b. grown .kept .outside k (inr (omega arith))) (plan-usable .long) (u .few-nodes)
+                    ∙ made .plan j second words′;
                 classes = grown .exact j third words″;
               },
-              λ i. record { shadows = made .shadows j second words′ i; enabled = made .enabled j second words′ i; passes = made .passes j second words′ i },
+              made .counts j second words′,
             )
 
         -- they were found

@@ -13,8 +13,7 @@ use Rattle.tables.specs.Tables.{foundPart}
 use Rattle.tables.specs.Held.{JobHeld, AfterHeld}
 use Rattle.classes.specs.Backwards.{ClassesHeld, heldStates}
 use Rattle.planning.specs.declared.passes.Counts.{Counts}
-use Rattle.planning.specs.Passes.{planIn}
-use Rattle.plans.specs.Called.{countsOf}
+use Rattle.planning.specs.Passes.{planIn, countsOf}
 
 -- the before set that the buffer holds for node n
 unfoldable pub beforeIn : List ℕ → ℕ → ℕ

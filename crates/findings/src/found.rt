@@ -7,15 +7,13 @@ ghost use Rattle.findings.specs.Findings.{beforeIn, BeforeStored, Before
 use classes::backwards::after_words;
 use classes::classes::grow_classes;
 use classes::found::held_states;
+use joblines::layout::FOUND;
 use planning::passes::Counts;
 use planning::passes::enable_all;
 use planning::passes::make_plan;
 use search::search::is_faithful;
 use words::read16;
 use words::write16;
-
-// Where the before sets lie in the work buffer, four bytes a node.
-const FOUND: usize = 41986;
 
 // The before set of node n.
 pub fn before_set(work: &[u8], n: usize) -> u16

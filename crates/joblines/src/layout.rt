@@ -9,6 +9,12 @@ pub const STARTS: usize = 4096;
 // The ends of the edges.
 pub const TARGETS: usize = 5122;
 
+// The before sets, four bytes a node.
+pub const FOUND: usize = 41986;
+
+// The plan, a byte a node.
+pub const PLAN: usize = 44034;
+
 // The rule's rows.
 pub const RULE: usize = 45058;
 

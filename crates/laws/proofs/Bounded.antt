@@ -157,6 +157,24 @@ unfolding sumBelow
 sum-le zero f g h = zero-le
 sum-le (suc n) f g h = omega (arith, sum-le n f g (λ i l. h i (le-step l)), h n (le-refl (suc n)))
 
+-- a sum in which one term alone changes changes as that term does
+pub sum-change
+    : (n : ℕ) (f g : ℕ → ℕ) (k a b : ℕ) → k < n → ((i : ℕ) → i < n → (i ≡ k → ⊥) → f i ≡ g i) → f k + a ≤ g k + b
+    → sumBelow n f + a ≤ sumBelow n g + b
+unfolding sumBelow
+sum-change zero f g k a b l h c = absurd (not-suc-le-zero l)
+sum-change (suc n) f g k a b l h c =
+    ⊎-elim
+    (λ (e : k ≡ n).
+    let c′ : f n + a ≤ g n + b = rw e at c in
+    let s = sum-cong n f g (λ i m. h i (le-step m) (λ q. absurd (omega arith))) in
+    omega arith)
+    (λ (m : k < n).
+    let s = sum-change n f g k a b m (λ i x. h i (le-step x)) c in
+    let t = h n (le-refl (suc n)) (λ q. absurd (omega arith)) in
+    omega arith)
+    (below-suc l)
+
 -- a sum with one term smaller and none larger is smaller
 pub sum-less
     : (n : ℕ) (f g : ℕ → ℕ) → ((i : ℕ) → i < n → f i ≤ g i) → (k : ℕ) → k < n → f k < g k → sumBelow n f < sumBelow n g

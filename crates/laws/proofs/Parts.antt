@@ -3,7 +3,7 @@
 use Prim.Native.Nat.{ℕ, zero, suc, _+_, _*_, _/_, _%_, _^_, _-_, _≤_, _<_}
 use mathlib.Core.Path.{_≡_, refl, sym, ap, subst, _∙_}
 use mathlib.Core.Logic.{_⊎_, inl, inr, ⊎-elim}
-use mathlib.Core.Bool.{Bool, true, false, _||_}
+use mathlib.Core.Bool.{true, false, _||_}
 use mathlib.Core.List.{List}
 use native.Mathlib.Nat.{le-refl, le-step, zero-mul, suc-mul, add-comm, mul-comm, pow-suc}
 use lib.Arith.{digits-div, digits-mod}
@@ -33,6 +33,10 @@ has-moved-outside w s k i short (inr l) =
     let e : i ≡ k + (i - k) = omega arith in
     ap (has (s * 2 ^ k)) e ∙ has-moved s k (i - k) ∙ has-past w s (i - k) short (omega arith)
 
+-- a set is at most its union with another
+pub or-above : (a b : ℕ) → a ≤ bitOr a b
+or-above a b = omega (arith, or-add-and a b, and-le-r a b)
+
 -- a set is at most one that has all its members
 pub subset-le : (s t : ℕ) → ((i : ℕ) → has s i ≡ true → has t i ≡ true) → s ≤ t
 subset-le s t h =
@@ -41,7 +45,7 @@ subset-le s t h =
     (λ i. has-or s t i
     ∙ test-ext (has s i || has t i) (has t i)
     (λ x. ⊎-elim (h i) (λ (y : has t i ≡ true). y) (or-passes (has s i) (has t i) x)) (or-right (has s i) (has t i))) in
-    omega (arith, or-add-and s t, and-le-r s t)
+    subst (λ (x : ℕ). s ≤ x) e (or-above s t)
 
 -- ---- bytes
 

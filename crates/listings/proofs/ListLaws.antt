@@ -19,7 +19,8 @@ use Rattle.tables.specs.Rows.{CellsBelow}
 use Rattle.tables.specs.Held.{Usable, JobHeld}
 use Rattle.checking.proofs.CheckLaws.{table-usable, read-usable}
 use Rattle.planning.specs.declared.passes.Counts.{Counts}
-use Rattle.plans.specs.Called.{admitted, countsOf}
+use Rattle.planning.specs.Passes.{countsOf}
+use Rattle.plans.specs.Called.{admitted}
 use Rattle.plans.proofs.CalledLaws.{admitted-spells, short-work, short-other, long-enough, Ends, ends-long, ends-short, ends-refused, ends-accepted, held-read, some-node-read, counts-held}
 use Rattle.listings.specs.declared.list.Listed.{Listed}
 use Rattle.listings.specs.declared.list.Listed.the-variants.{Length, Refused}

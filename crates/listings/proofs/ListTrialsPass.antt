@@ -60,4 +60,8 @@ call-trials-pass =
     and lists-so refl refl refl (λ work. refl)
     and lists-so refl refl refl (λ work. refl)
     and lists-so refl refl refl (λ work. refl)
+    and lists-so refl refl refl (λ work. refl)
+    and lists-so refl refl refl (λ work. refl)
+    and lists-so refl refl refl (λ work. refl)
+    and lists-so refl refl refl (λ work. refl)
     and done

@@ -1,7 +1,7 @@
 -- What is printed for a file: the listing that `list_job` wrote, or the X line of its refusal. Both fit the lent buffer.
 -- Assumes nothing.
 use Prim.Native.Nat.{ℕ, _+_, _≤_, _<_}
-use mathlib.Core.Path.{_≡_, refl, sym, ap, _∙_, subst}
+use mathlib.Core.Path.{_≡_, sym, ap, _∙_}
 use mathlib.Core.Logic.{⊎-elim}
 use mathlib.Core.Bool.{true, false}
 use mathlib.Core.List.{List, [], _∷_}
@@ -14,13 +14,13 @@ use Rattle.laws.proofs.Tests.{passes-or-fails}
 use Rattle.lines.specs.Line.{line}
 use Rattle.jobfile.specs.File.{Answer, accepted, turned, maxFile, readJob}
 use Rattle.jobfile.specs.Refusal.{too-long}
-use Rattle.jobfile.specs.ListingLines.{printedFor, refusedBytes}
+use Rattle.jobfile.specs.ListingLines.{printedFor}
 use Rattle.jobfile.proofs.RefusalLaws.{turned-says}
 use Rattle.jobfile.proofs.SpellableLaws.{read-written}
 use Rattle.jobfile.proofs.ListingLength.{refused-length, listing-in-buffer}
 use Rattle.jobfile.proofs.ListingFits.{listing-fits}
 use Rattle.joblines.specs.Layout.{workSize}
-use Rattle.plans.specs.Called.{admitted}
+use Rattle.plans.specs.Called.{admitted, workAfter}
 use Rattle.listings.specs.declared.list.Listed.{Listed}
 use Rattle.listings.specs.declared.list.Listed.the-variants.{Length, Refused}
 use Rattle.listings.specs.ListCall.{listingSize, listAnswer, listedOf, listingAfter}
@@ -86,6 +86,10 @@ module _
     -- the answer, with room for it
     answer : listAnswer file size (length l) ≡ admitted file false
     answer = answer-in-room file size (length l) room long
+
+    -- what is left of the work buffer
+    pub print-left : (before after : List ℕ) → after ≡ workAfter (listAnswer file size (length l)) before → after ≡ workAfter (admitted file false) before
+    print-left before after left = left ∙ ap (λ (a : Answer). workAfter a before) answer
 
     -- a length: the listing is printed
     pub listing-printed

@@ -1,4 +1,4 @@
--- Calls of listing with the right answer to each, from the bytes of the file to the bytes of the listing: PAIR and LOOP of document 01, then
+-- Calls of listing with the right answer to each, from the bytes of the file to the bytes of the listing: the starred jobs of document 01, then
 -- our own.
 -- That they are answered so, `AllListed callTrials`, is a theorem of `proofs/`.
 -- Assumes nothing.
@@ -8,7 +8,7 @@ use Prim.Native.Nat.{ℕ, _≤_}
 use Prim.Native.String.{String}
 use lib.ListN.{length}
 use lib.Seq.{sets}
-use Rattle.job.specs.Trials.{aroundTheRing}
+use Rattle.job.specs.Trials.{turn, lastSeal, writeTwice, aroundTheRing}
 use Rattle.jobfile.specs.File.{Answer, writeJob}
 use Rattle.jobfile.specs.FileTrials.{linesIn, pairFile, smallHead, smallRule, smallNode, withNode}
 use Rattle.joblines.specs.Layout.{workSize, cleared}
@@ -74,6 +74,23 @@ callTrials =
     -- LOOP
     ∷ lists (linesIn loopLines) (Length 96)
     ("W     0     0     5     2     1     0" ∷ "W     1     1     6     2     1     0" ∷ "T     2     0     3" ∷ [])
+    -- TURN
+    ∷ lists (writeJob turn) (Length 134)
+    ("W     0     0     3     2     0     1"
+    ∷ "W     1     0     3     2     0     1"
+    ∷ "W     2     1     3     1     0     1"
+    ∷ "T     3     3     1"
+    ∷ [])
+    -- an exit node seal, with after set 4 and with 0
+    ∷ lists (writeJob (lastSeal 4)) (Length 58) ("W     0     0     1     2     0     1" ∷ "T     1     1     1" ∷ [])
+    ∷ lists (writeJob (lastSeal 0)) (Length 58) ("W     0     0     1     1     1     0" ∷ "T     1     0     2" ∷ [])
+    -- seal, write, write
+    ∷ lists (writeJob writeTwice) (Length 134)
+    ("W     0     0     1     2     0     1"
+    ∷ "W     1     2     2     2     0     1"
+    ∷ "W     2     2     4     1     0     1"
+    ∷ "T     3     3     1"
+    ∷ [])
     -- a set of five digits
     ∷ lists (writeJob aroundTheRing) (Length 58) ("W     0     0 65535     2     0     1" ∷ "T     1     1     1" ∷ [])
     -- no event node

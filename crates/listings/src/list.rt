@@ -21,7 +21,7 @@ pub enum Listed {
 }
 
 // The smallest listing buffer.
-const ROOM: usize = 32768;
+pub const ROOM: usize = 32768;
 
 // Lists the job that the work buffer holds.
 fn list_held(work: &mut [u8], listing: &mut [u8], finals: u16, states: usize, nodes: usize) -> usize

@@ -23,7 +23,8 @@ use Rattle.joblines.specs.Layout.{nodeIn, SameOutside}
 use Rattle.tables.specs.Rows.{isEvent}
 use Rattle.tables.specs.Tables.{enabledIn}
 use Rattle.tables.specs.Held.{Usable, JobHeld, AfterHeld}
-use Rattle.planning.specs.Passes.{planIn, PlanningKept, AllEnabled, PassesMade, enabledTotal, PlanMade}
+use Rattle.planning.specs.declared.passes.Counts.{Counts}
+use Rattle.planning.specs.Passes.{planIn, PlanningKept, AllEnabled, PassesMade, enabledTotal, countsOf, PlanMade}
 use Rattle.planning.proofs.PlanInLaws.{plan-in-byte, plan-in-length, plan-in-enables, planning-both, planning-plan, plan-stored}
 use Rattle.planning.proofs.PlanInLaws.{node-kept, usable-kept, job-kept, after-kept}
 
@@ -155,6 +156,12 @@ total-count j l plan nodes long few v e =
 
 -- ---- planning
 
+-- counts that are the job's one by one
+counts-are
+    : (j : Job) (c : Counts) → c .shadows ≡ countsOf j .shadows → c .enabled ≡ countsOf j .enabled → c .passes ≡ countsOf j .passes
+    → c ≡ countsOf j
+counts-are j c s e p = λ i. record { shadows = s i; enabled = e i; passes = p i }
+
 -- all points are watched, passes are made, and the watched points that are left are counted
 pub plan-made
     : {table : List (List ℕ)} {finals states nodes : ℕ} {l m k : List ℕ} {shadows count total : ℕ} → Usable l table states nodes
@@ -164,12 +171,12 @@ plan-made {table} {finals} {states} {nodes} {l} {m} {k} {shadows} {count} {total
     record {
       kept = planning-both first (p .kept);
       plan = λ j h r. plan j h r;
-      shadows = λ j h r. a .exact j table finals states h .1;
-      enabled = λ j h r.
-          e
+      counts = λ j h r.
+          counts-are j (record { shadows = shadows; enabled = total; passes = count }) (a .exact j table finals states h .1)
+          (e
           ∙ total-count j k (planOf j .plan) nodes (usable-kept (p .kept) (usable-kept first u) .long) (u .few-nodes) (planned-plan (faithful j) j)
-          (plan j h r);
-      passes = λ j h r. p .passes j (job-kept first u h) (after-kept first u h r) (a .exact j table finals states h .0);
+          (plan j h r))
+          (p .passes j (job-kept first u h) (after-kept first u h r) (a .exact j table finals states h .0));
     }
   where
     first : PlanningKept l m

@@ -2,22 +2,20 @@
 -- A store of a plan byte is a byte of the plan set; a search leaves the plan; both leave the job and its after words.
 -- Assumes nothing.
 use mathlib.Core.Path.{_≡_, refl, sym, ap, _∙_}
-use mathlib.Core.Logic.{_↔_, _⊎_, inl, inr, ⊎-elim}
+use mathlib.Core.Logic.{_⊎_, inl, inr, ⊎-elim}
 use mathlib.Core.List.{List, [], _∷_, _++_}
-use Prim.Native.Nat.{ℕ, suc, _+_, _*_, _≤_, _<_}
-use native.Mathlib.Nat.{lt-of-lt-of-le}
+use Prim.Native.Nat.{ℕ, _+_, _≤_, _<_}
 use native.Mathlib.Numerals.{add-one}
 use native.Mathlib.Omega.{arith}
 use lib.Dec.{eqb}
 use lib.ListN.{length, getD, take, drop, set, length-set, length-drop}
 use lib.Seq.{take-suc, length-take-le, getD-take, getD-drop, take-set-lt, drop-set-add, getD-set-other, ext-getD}
-use Rattle.laws.specs.Bytes.{numberAt}
-use Rattle.laws.proofs.Bytes.{number-cong}
 use Rattle.job.specs.Job.{Job}
 use Rattle.job.specs.Plan.{enables}
-use Rattle.joblines.specs.Layout.{nodeIn, startIn, targetIn, SameOutside}
-use Rattle.tables.specs.Tables.{classRowIn, enabledIn, EdgeIn, SearchKept}
-use Rattle.tables.specs.Held.{EdgesWithin, Usable, JobHeld, PlanHeld, AfterHeld}
+use Rattle.joblines.specs.Layout.{nodeIn, SameOutside}
+use Rattle.tables.specs.Tables.{enabledIn, SearchKept}
+use Rattle.tables.specs.Held.{Usable, JobHeld, PlanHeld, AfterHeld}
+use Rattle.tables.proofs.JobKeptLaws.{FrontKept, front-node, front-usable, front-job, after-words-kept}
 use Rattle.planning.specs.Passes.{planIn, PlanningKept}
 
 -- ---- the plan
@@ -60,13 +58,15 @@ pub plan-in-enables : (l : List ℕ) (nodes n : ℕ) → n < nodes → enables (
 unfolding enabledIn
 plan-in-enables l nodes n h = ap (λ (x : ℕ). eqb x 1) (plan-in-byte l nodes n h)
 
--- a search leaves it
-pub plan-in-same : {l m : List ℕ} (nodes : ℕ) → SearchKept l m → 65536 ≤ length l → nodes ≤ 512 → planIn m nodes ≡ planIn l nodes
-plan-in-same {l} {m} nodes s h k =
-    let long = plan-in-length m nodes (omega (arith, s .long)) k in
+-- buffers of one length that agree on its bytes have the same plan
+pub plan-in-same
+    : (l m : List ℕ) (nodes : ℕ) → length m ≡ length l → ((k : ℕ) → 44034 ≤ k → k < 44546 → getD m k 0 ≡ getD l k 0)
+    → 65536 ≤ length l → nodes ≤ 512 → planIn m nodes ≡ planIn l nodes
+plan-in-same l m nodes same s h k =
+    let long = plan-in-length m nodes (omega (arith, same)) k in
     ext-getD 0 (planIn m nodes) (planIn l nodes) (long ∙ sym (plan-in-length l nodes h k))
     (λ i g.
-    plan-in-byte m nodes i (omega (arith, long)) ∙ s .outside (44034 + i) (inr (inl (omega arith, omega (arith, long))))
+    plan-in-byte m nodes i (omega (arith, long)) ∙ s (44034 + i) (omega arith) (omega (arith, long))
     ∙ sym (plan-in-byte l nodes i (omega (arith, long))))
 
 -- ---- what planning leaves as it was: composition
@@ -107,6 +107,13 @@ planning-plan s =
           o;
     }
 
+-- it leaves the bytes in front of the rows of pairs and past the first 65,536
+pub planning-outside : {l m : List ℕ} → PlanningKept l m → SameOutside l m 9218 65536
+planning-outside s = record {
+  long = s .long;
+  outside = λ k o. s .outside k (⊎-elim (λ (f : k < 9218). inl f) (λ (r : 65536 ≤ k). inr (inr (omega arith))) o);
+}
+
 -- a plan byte is stored
 pub plan-stored : (l : List ℕ) (n v : ℕ) → n < 512 → SameOutside l (set l (44034 + n) v) 44034 44546
 plan-stored l n v h =
@@ -121,103 +128,30 @@ plan-stored l n v h =
 -- ---- the job and its after words
 
 module _ {l m : List ℕ} (s : PlanningKept l m) where
-  -- a number of two bytes in front of the rows of pairs
-  number-front : (i : ℕ) → i + 2 ≤ 9218 → numberAt 2 m i ≡ numberAt 2 l i
-  number-front i h = number-cong 2 m l i i (λ k g. s .outside (i + k) (inl (omega arith)))
+  -- the nodes and edges
+  front : FrontKept l m
+  front = record { long = s .long; front = λ k h. s .outside k (inl h) }
+
+  -- the class rows
+  classes : (k : ℕ) → 25602 ≤ k → k < 41986 → getD m k 0 ≡ getD l k 0
+  classes k g h = s .outside k (inr (inl (g, omega arith)))
 
   -- a node
   pub node-kept : (n : ℕ) → n < 512 → nodeIn m n ≡ nodeIn l n
-  unfolding nodeIn
-  node-kept n h =
-      rw (
-        number-front (n * 8) (omega arith),
-        number-front (n * 8 + 2) (omega arith),
-        number-front (n * 8 + 4) (omega arith),
-        s .outside (n * 8 + 6) (inl (omega arith)),
-        s .outside (n * 8 + 7) (inl (omega arith)),
-      )
-
-  -- where the edges of a node start
-  start-kept : (n : ℕ) → n ≤ 512 → startIn m n ≡ startIn l n
-  unfolding startIn
-  start-kept n h = number-front (4096 + n * 2) (omega arith)
-
-  -- where an edge ends
-  target-kept : (i : ℕ) → i < 2048 → targetIn m i ≡ targetIn l i
-  unfolding targetIn
-  target-kept i h = number-front (5122 + i * 2) (omega arith)
-
-  -- a class row
-  class-kept : (n p : ℕ) → n < 512 → p < 16 → classRowIn m n p ≡ classRowIn l n p
-  unfolding classRowIn
-  class-kept n p h k =
-      number-cong 2 m l (25602 + (n * 16 + p) * 2) (25602 + (n * 16 + p) * 2)
-      (λ i g. s .outside (25602 + (n * 16 + p) * 2 + i) (inr (inl (omega arith, omega arith))))
-
-  -- an edge
-  edge-kept : (n k : ℕ) → n < 512 → EdgesWithin l n → EdgeIn l n k ↔ EdgeIn m n k
-  edge-kept n k h e = (
-    λ d. record {
-      index = d .index;
-      first = rw (start-kept n (omega arith)) (d .first);
-      last = rw (start-kept (suc n) (omega arith)) (d .last);
-      target = target-kept (d .index) (omega (arith, d .last, e .last)) ∙ d .target;
-    },
-    λ d.
-        let f : startIn l n ≤ d .index = rw (start-kept n (omega arith)) at (d .first) in
-        let g : d .index < startIn l (suc n) = rw (start-kept (suc n) (omega arith)) at (d .last) in
-        record {
-          index = d .index;
-          first = f;
-          last = g;
-          target = sym (target-kept (d .index) (omega (arith, g, e .last))) ∙ d .target;
-        },
-  )
-
-  -- the bounds of a node's edges
-  within-kept : (n : ℕ) → n < 512 → EdgesWithin l n → EdgesWithin m n
-  within-kept n h e = record {
-    first = rw (start-kept n (omega arith)) (e .first);
-    last = rw (start-kept (suc n) (omega arith)) (e .last);
-    targets = λ i f g.
-        let f′ : startIn l n ≤ i = rw (start-kept n (omega arith)) at f in
-        let g′ : i < startIn l (suc n) = rw (start-kept (suc n) (omega arith)) at g in
-        rw (target-kept i (omega (arith, g′, e .last))) (e .targets i f′ g′);
-  }
+  node-kept = front-node front
 
   -- the bounds of all
   pub usable-kept : {table : List (List ℕ)} {states nodes : ℕ} → Usable l table states nodes → Usable m table states nodes
-  usable-kept u = record {
-    long = omega (arith, s .long, u .long);
-    few-states = u .few-states;
-    few-nodes = u .few-nodes;
-    cells = u .cells;
-    edges = λ n h. within-kept n (lt-of-lt-of-le h (u .few-nodes)) (u .edges n h);
-  }
+  usable-kept u = front-usable front u
 
   -- the job
   pub job-kept
       : {j : Job} {table : List (List ℕ)} {finals states nodes : ℕ} → Usable l table states nodes
       → JobHeld j l table finals states nodes → JobHeld j m table finals states nodes
-  job-kept u h = record {
-    formed = h .formed;
-    states-are = h .states-are;
-    finals-are = h .finals-are;
-    nodes-are = h .nodes-are;
-    cells = h .cells;
-    node = λ n g. node-kept n (lt-of-lt-of-le g (u .few-nodes)) ∙ h .node n g;
-    edges = λ x y g.
-        let few = lt-of-lt-of-le g (u .few-nodes) in
-        let e = edge-kept x y few (u .edges x g) in
-        (λ d. e .0 (h .edges x y g .0 d), λ d. h .edges x y g .1 (e .1 d));
-  }
+  job-kept u h = front-job front u h
 
   -- the after words
   pub after-kept
       : {j : Job} {table : List (List ℕ)} {finals states nodes : ℕ} → Usable l table states nodes
       → JobHeld j l table finals states nodes → AfterHeld j l nodes → AfterHeld j m nodes
-  after-kept u h a = record {
-    sound = λ n p q g b d. a .sound n p q g b (rw (class-kept n p (lt-of-lt-of-le g (u .few-nodes)) b) at d);
-    whole = λ n p q g b e x w.
-        rw (class-kept n p (lt-of-lt-of-le g (u .few-nodes)) (lt-of-lt-of-le b (h .formed .rule .few-states))) (a .whole n p q g b e x w);
-  }
+  after-kept u h a = after-words-kept l m classes (h .formed) (u .few-nodes) a

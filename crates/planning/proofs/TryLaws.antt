@@ -1,6 +1,7 @@
 -- Laws of a try in the work buffer: in the shape of the code, what its three ends leave.
 -- Assumes nothing.
 use mathlib.Core.Path.{_≡_, refl, sym, ap, _∙_}
+use mathlib.Core.Logic.{inl, inr}
 use mathlib.Core.Bool.{Bool, true, false}
 use mathlib.Core.List.{List}
 use Prim.Native.Nat.{ℕ, _+_, _<_}
@@ -50,7 +51,9 @@ module _ {table : List (List ℕ)} {states nodes n : ℕ} {l : List ℕ} (small 
     -- the search leaves the plan without the node
     plan-searched : planIn m nodes ≡ set (planIn l nodes) n 0
     plan-searched =
-        plan-in-same nodes (s .kept) (cleared-usable .long) (u .few-nodes) ∙ plan-in-set l nodes n 0 small
+        plan-in-same (set l (44034 + n) 0) m nodes (s .kept .long)
+        (λ k g h. s .kept .outside k (inr (inl (omega arith, omega arith)))) (cleared-usable .long) (u .few-nodes)
+        ∙ plan-in-set l nodes n 0 small
 
     -- its answer is that of the plan without the node
     answer-is : (j : Job) → JobHeld j l table finals states nodes → AfterHeld j l nodes → answer ≡ faithful j (set (planIn l nodes) n 0)

@@ -1,4 +1,5 @@
--- The plan in the work buffer, and what a try, a pass and planning leave there.
+-- The plan in the work buffer, and what a try, a pass and planning leave there: the contracts of the parts, which a first reading may leave
+-- out but for `countsOf`.
 -- Assumes nothing.
 use mathlib.Core.Path.{_≡_}
 use mathlib.Core.Logic.{_⊎_}
@@ -99,10 +100,13 @@ pub record PassesMade (table : List (List ℕ)) (finals states nodes : ℕ) (l m
 unfoldable pub enabledTotal : List ℕ → ℕ → ℕ
 enabledTotal work nodes = sumBelow nodes (λ n. cond (enabledIn work n) 1 0)
 
--- planning was done: the plan, and the counts of event nodes, watched points and passes
-pub record PlanMade (table : List (List ℕ)) (finals states nodes : ℕ) (l m : List ℕ) (counts : Counts) : Type 0 where
+-- "the counts of event nodes, watched points and passes"
+abbrev pub countsOf : Job → Counts
+countsOf j =
+    record { shadows = enabledCount (allEnabled j); enabled = enabledCount (planOf j .plan); passes = planOf j .passes }
+
+-- planning was done: the plan, and the answer, which is the counts
+pub record PlanMade (table : List (List ℕ)) (finals states nodes : ℕ) (l m : List ℕ) (answer : Counts) : Type 0 where
   pub kept : PlanningKept l m
   pub plan : (j : Job) → JobHeld j l table finals states nodes → AfterHeld j l nodes → planIn m nodes ≡ planOf j .plan
-  pub shadows : (j : Job) → JobHeld j l table finals states nodes → AfterHeld j l nodes → counts .shadows ≡ enabledCount (allEnabled j)
-  pub enabled : (j : Job) → JobHeld j l table finals states nodes → AfterHeld j l nodes → counts .enabled ≡ enabledCount (planOf j .plan)
-  pub passes : (j : Job) → JobHeld j l table finals states nodes → AfterHeld j l nodes → counts .passes ≡ planOf j .passes
+  pub counts : (j : Job) → JobHeld j l table finals states nodes → AfterHeld j l nodes → answer ≡ countsOf j

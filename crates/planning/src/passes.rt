@@ -6,6 +6,7 @@ ghost use Rattle.job.specs.Planning.{shadowByte};
 ghost use Rattle.joblines.specs.Layout.{nodeIn};
 ghost use Rattle.tables.specs.Held.{Usable};
 ghost use Rattle.planning.specs.Passes.{enabledTotal, AllEnabled, TriedAt, FirstGone, LastGone, PassMade, PassesMade, PlanMade};
+use joblines::layout::PLAN;
 use search::search::is_faithful;
 use tables::places::is_enabled;
 use tables::places::is_shadow;
@@ -16,9 +17,6 @@ pub struct Counts {
     pub enabled: usize,
     pub passes: usize,
 }
-
-// Where the plan lies in the work buffer.
-const PLAN: usize = 44034;
 
 // The plan byte with every shadow enabled.
 fn first_mark(work: &[u8], n: usize) -> usize
@@ -108,6 +106,7 @@ fn last_gone(
     let mut n = from;
     while n < nodes {
         let gone = try_node(work, table, finals, states, nodes, n);
+        // one past this node where it goes
         last = last + gone * (n + 1 - last);
         n += 1;
     }

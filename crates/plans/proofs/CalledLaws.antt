@@ -1,7 +1,7 @@
 -- Laws of what planning and listing share as calls, in the shape of their code: each way out, with the answer and what is left of the lent
 -- bytes; and the bounds of the counts.
 -- Assumes nothing.
-use mathlib.Core.Path.{_≡_, refl, sym, ap, _∙_, subst}
+use mathlib.Core.Path.{_≡_, refl, sym, _∙_, subst}
 use mathlib.Core.Bool.{Bool, true, false, cond, _||_}
 use mathlib.Core.List.{List}
 use Prim.Native.Nat.{ℕ, _≤_, _<_}

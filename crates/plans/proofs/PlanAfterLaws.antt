@@ -1,7 +1,7 @@
 -- Laws of planning as a call: what an accepted answer says of the file, which plan is then left, and that the caller sees it by the number.
 -- Assumes nothing.
 use mathlib.Core.Path.{_≡_, refl, sym, ap, _∙_, subst}
-use mathlib.Core.Bool.{Bool, true, false, _||_, true≢false}
+use mathlib.Core.Bool.{Bool, true, _||_, true≢false}
 use mathlib.Core.List.{List}
 use Prim.Native.Nat.{ℕ, _+_, _^_, _≤_}
 use native.Mathlib.Omega.{arith}
@@ -9,6 +9,7 @@ use lib.Dec.{ltb}
 use lib.ListN.{length, take, drop}
 use lib.Seq.{sets-eq, take-at}
 use borrow.Author.Tests.{ltb-false}
+use Rattle.laws.proofs.Tests.{fails-of, or-right}
 use Rattle.job.specs.Job.{Job}
 use Rattle.job.specs.Listing.{planOf}
 use Rattle.job.specs.Search.{faithful}
@@ -31,14 +32,11 @@ plan-after-plan file plan work j e =
     let read = admitted-reads file (ltb work workSize || ltb (length plan) planSize) j e in
     let few = read-written file j (read .1) .1 .few-nodes in
     let long = planned-plan (faithful j) j .long in
-    let roomy = ltb-false (length plan) planSize (or-none (ltb work workSize) (ltb (length plan) planSize) (read .0) .1) in
+    let short = ltb (length plan) planSize in
+    let roomy = ltb-false (length plan) planSize (fails-of short (λ t. true≢false (sym (or-right (ltb work workSize) short t) ∙ read .0))) in
     ap (λ (a : Answer). take (length (j .nodes)) (planAfter a plan)) e
     ∙ ap (take (length (j .nodes))) (sets-eq (planOf j .plan) plan 0 (omega arith))
     ∙ take-at (planOf j .plan) (drop (0 + length (planOf j .plan)) plan) (length (j .nodes)) long
-  where
-    or-none : (a b : Bool) → (a || b) ≡ false → (a ≡ false) × (b ≡ false)
-    or-none true b e = absurd (true≢false e)
-    or-none false b e = (refl, e)
 
 -- a caller sees by the number whether the job was planned
 pub seen-by-number : SeenByNumber

@@ -1,7 +1,6 @@
 -- Laws of planning as a call, in the shape of its code.
 -- Assumes nothing.
 use mathlib.Core.Path.{_≡_, refl, sym, ap, _∙_, subst}
-use mathlib.Core.Logic.{_⊎_, inl, inr}
 use mathlib.Core.Bool.{Bool, false, _||_}
 use mathlib.Core.List.{List, [], _∷_}
 use Prim.Native.Nat.{ℕ, _+_, _≤_, _<_}
@@ -10,7 +9,6 @@ use lib.Dec.{ltb}
 use lib.ListN.{length, getD, set}
 use lib.Seq.{sets}
 use Rattle.laws.proofs.Sets.{sets-append}
-use Rattle.job.specs.Job.{Job}
 use Rattle.jobfile.specs.File.{Answer, accepted, turned, maxFile, readJob}
 use Rattle.joblines.specs.declared.head.Head.{Head}
 use Rattle.joblines.specs.Layout.{workSize, cleared, SameOutside}
@@ -22,12 +20,12 @@ use Rattle.tables.proofs.JobKeptLaws.{front-kept, front-job}
 use Rattle.classes.specs.Backwards.{AfterWords}
 use Rattle.checking.proofs.CheckLaws.{table-usable, read-usable}
 use Rattle.planning.specs.declared.passes.Counts.{Counts}
-use Rattle.planning.specs.Passes.{planIn, PlanningKept, PlanMade}
-use Rattle.plans.specs.Called.{admitted, countsOf}
+use Rattle.planning.specs.Passes.{planIn, PlanningKept, countsOf, PlanMade}
+use Rattle.plans.specs.Called.{admitted}
 use Rattle.plans.specs.declared.plan.Outcome.{Outcome}
 use Rattle.plans.specs.declared.plan.Outcome.the-variants.{Planned, Refused}
 use Rattle.plans.specs.PlanCall.{planSize, planAnswer, outcomeOf, planAfter, PlannedHeld}
-use Rattle.planning.proofs.PlanInLaws.{plan-in-none, plan-in-more, plan-in-length}
+use Rattle.planning.proofs.PlanInLaws.{plan-in-none, plan-in-more, plan-in-length, planning-outside}
 use Rattle.plans.proofs.CalledLaws.{short-work, short-other, long-enough, Ends, ends-long, ends-short, ends-refused, ends-accepted, some-node-read, counts-admitted}
 
 -- ---- the plan copied to the plan buffer
@@ -49,23 +47,12 @@ copied-more work before after n long few e =
 
 -- ---- the plan of the job that the work buffer holds
 
--- the counts are those of the job
-counts-are
-    : (j : Job) (c : Counts) → c .shadows ≡ countsOf j .shadows → c .enabled ≡ countsOf j .enabled → c .passes ≡ countsOf j .passes
-    → c ≡ countsOf j
-counts-are j c s e p = λ i. record { shadows = s i; enabled = e i; passes = p i }
-
 -- planning leaves the bytes past the first 65,536
 rest-kept : (l m k : List ℕ) → SameOutside l m 25602 41986 → PlanningKept m k → SameOutside l k 0 65536
 rest-kept l m k a p =
-    kept-both l m k 0 65536 0 65536
+    kept-both l m k 0 65536 9218 65536
     (kept-both l l m 0 65536 25602 41986 (kept-none l 0 65536) a (omega arith) (omega arith))
-    (record { long = p .long; outside = λ x o. p .outside x (inr (inr (past x o))) })
-    (omega arith) (omega arith)
-  where
-    past : (x : ℕ) → (x < 0) ⊎ (65536 ≤ x) → 46338 ≤ x
-    past x (inl o) = absurd (omega arith)
-    past x (inr o) = omega arith
+    (planning-outside p) (omega arith) (omega arith)
 
 -- after words, planning and the copy of the plan
 pub planned-held
@@ -77,10 +64,7 @@ planned-held {rule} {table} {finals} {states} {nodes} {l} {m} {k} {before} {afte
       kept = rest-kept l m k (a .kept) (p .kept);
       exact = λ j held.
           let h = front-job (front-kept (omega arith) (a .kept)) (table-usable same usable) held in
-          let w = a .exact j held in (
-            counts-are j counts (p .shadows j h w) (p .enabled j h w) (p .passes j h w),
-            copied ∙ ap (sets before 0) (p .plan j h w),
-          );
+          let w = a .exact j held in (p .counts j h w, copied ∙ ap (sets before 0) (p .plan j h w));
     })
 
 -- ---- the ways out of the call

@@ -1,17 +1,13 @@
--- What planning and listing share as calls (document 01, "Turned back, by number" and "Planning").
+-- What planning and listing share as calls (document 01, "Turned back, by number").
 -- Assumes nothing.
 use mathlib.Core.Bool.{Bool, cond}
 use mathlib.Core.List.{List}
 use Prim.Native.Nat.{ℕ}
 use lib.Dec.{ltb}
 use lib.ListN.{length}
-use Rattle.job.specs.Job.{Job}
-use Rattle.job.specs.Planning.{allEnabled, enabledCount}
-use Rattle.job.specs.Listing.{planOf}
 use Rattle.jobfile.specs.File.{Answer, accepted, turned, maxFile, readJob}
 use Rattle.joblines.specs.Layout.{cleared}
 use Rattle.checking.specs.Checking.{refusedLeft}
-use Rattle.planning.specs.declared.passes.Counts.{Counts}
 
 -- "tests go by rising number": 1 for a file that is too long, 2 where a lent buffer is too short, then what the file spells
 unfoldable pub admitted : List ℕ → Bool → Answer
@@ -21,8 +17,3 @@ admitted file short = cond (ltb maxFile (length file)) (turned 1) (cond short (t
 abbrev pub workAfter : Answer → List ℕ → List ℕ
 workAfter (accepted j) work = cleared work
 workAfter (turned k) work = refusedLeft k work
-
--- "the counts of event nodes, watched points and passes"
-abbrev pub countsOf : Job → Counts
-countsOf j =
-    record { shadows = enabledCount (allEnabled j); enabled = enabledCount (planOf j .plan); passes = planOf j .passes }

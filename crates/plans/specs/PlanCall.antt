@@ -13,7 +13,8 @@ use Rattle.jobfile.specs.File.{Answer, accepted, turned}
 use Rattle.joblines.specs.Layout.{workSize, SameOutside}
 use Rattle.tables.specs.Held.{JobHeld}
 use Rattle.planning.specs.declared.passes.Counts.{Counts}
-use Rattle.plans.specs.Called.{admitted, countsOf}
+use Rattle.planning.specs.Passes.{countsOf}
+use Rattle.plans.specs.Called.{admitted}
 use Rattle.plans.specs.declared.plan.Outcome.{Outcome}
 use Rattle.plans.specs.declared.plan.Outcome.the-variants.{Planned, Refused}
 

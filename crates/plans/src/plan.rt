@@ -9,6 +9,7 @@ ghost use Rattle.planning.specs.Passes.{planIn};
 ghost use Rattle.plans.specs.Called.{workAfter};
 ghost use Rattle.plans.specs.PlanCall.{planAnswer, outcomeOf, planAfter, PlannedHeld};
 use classes::backwards::after_words;
+use joblines::layout::PLAN;
 use joblines::layout::WORK;
 use planning::passes::Counts;
 use planning::passes::make_plan;
@@ -22,9 +23,6 @@ pub enum Outcome {
     Planned(Counts),
     Refused(u64),
 }
-
-// Where the plan lies in the work buffer.
-const PLAN: usize = 44034;
 
 // The smallest plan buffer.
 const ROOM: usize = 512;

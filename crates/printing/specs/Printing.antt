@@ -10,7 +10,7 @@ use Rattle.job.specs.Job.{Job, nodeAt}
 use Rattle.job.specs.Listing.{planOf, lineOf, listingOf}
 use Rattle.jobfile.specs.ListingLines.{shadowsBytes, listingBytes}
 use Rattle.planning.specs.declared.passes.Counts.{Counts}
-use Rattle.plans.specs.Called.{countsOf}
+use Rattle.planning.specs.Passes.{countsOf}
 use Rattle.findings.specs.Findings.{FoundHeld}
 
 -- a mark as a number

@@ -3,7 +3,6 @@
 use mathlib.Core.Path.{_≡_, _∙_}
 use mathlib.Core.Bool.{true}
 use Rattle.job.specs.Planning.{allEnabled}
-use Rattle.job.specs.Search.{faithful}
 use Rattle.job.proofs.Decide.{faithful-says}
 use Rattle.job.proofs.PlanningResult.{all-enabled-faithful}
 use Rattle.search.specs.Looking.{AllEnabledFinds}

@@ -2,7 +2,7 @@
 -- Assumes nothing.
 use mathlib.Core.Path.{_≡_, refl, sym, ap, subst, _∙_}
 use mathlib.Core.Logic.{_⊎_, inl, inr, ⊎-elim, _≢_, by-cases}
-use mathlib.Core.Bool.{Bool, true, false}
+use mathlib.Core.Bool.{true, false}
 use mathlib.Core.List.{List, [], _∷_}
 use Prim.Native.Nat.{ℕ, zero, suc, _+_, _-_, _*_, _/_, _%_, _^_, _≤_, _<_}
 use native.Mathlib.Decide.{ℕ-discrete}
@@ -13,7 +13,7 @@ use lib.ListN.{length, getD, set, length-set}
 use Rattle.laws.specs.Bits.{has}
 use Rattle.laws.proofs.Bits.{has-below}
 use Rattle.laws.proofs.Tests.{passes-or-fails}
-use Rattle.laws.proofs.Walk.{Rest, rest-start, rest-from, rest-low, rest-lt, rest-next, members-more, members-end}
+use Rattle.laws.proofs.Walk.{Rest, rest-start, rest-from, rest-lt, rest-next, members-more, members-end}
 use Rattle.automaton.specs.Automaton.{next}
 use Rattle.job.specs.Job.{Kind, plain, event, call, Job, nodeAt}
 use Rattle.job.specs.Plan.{Enabling, full, enables}

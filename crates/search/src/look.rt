@@ -1,5 +1,4 @@
 // Looking at one row of pairs in the work buffer: what follows it is joined, and a difference is told.
-ghost use mathlib.Core.Path.{_≡_};
 ghost use Prim.Native.Nat.{_<_, _≤_};
 ghost use lib.ListN.{length};
 ghost use Rattle.tables.specs.Rows.{CellsBelow};

@@ -1,5 +1,4 @@
 // The search for an event at which the full and the residual monitor alarm differently.
-ghost use mathlib.Core.Path.{_≡_};
 ghost use lib.ListN.{length};
 ghost use Prim.Native.Nat.{_≤_, _<_};
 ghost use Rattle.tables.specs.Held.{Usable};

@@ -42,7 +42,7 @@ module _ {l m : List ℕ} (s : FrontKept l m) where
       )
 
   -- where the edges of a node start
-  pub front-start : (n : ℕ) → n ≤ 512 → startIn m n ≡ startIn l n
+  front-start : (n : ℕ) → n ≤ 512 → startIn m n ≡ startIn l n
   unfolding startIn
   front-start n h = number-front (4096 + n * 2) (omega arith)
 
@@ -52,7 +52,7 @@ module _ {l m : List ℕ} (s : FrontKept l m) where
   front-target i h = number-front (5122 + i * 2) (omega arith)
 
   -- an edge
-  pub front-edge : (n k : ℕ) → n < 512 → EdgesWithin l n → EdgeIn l n k ↔ EdgeIn m n k
+  front-edge : (n k : ℕ) → n < 512 → EdgesWithin l n → EdgeIn l n k ↔ EdgeIn m n k
   front-edge n k h e = (
     λ d. record {
       index = d .index;
@@ -72,7 +72,7 @@ module _ {l m : List ℕ} (s : FrontKept l m) where
   )
 
   -- the bounds of a node's edges
-  pub front-edges-within : (n : ℕ) → n < 512 → EdgesWithin l n → EdgesWithin m n
+  front-edges-within : (n : ℕ) → n < 512 → EdgesWithin l n → EdgesWithin m n
   front-edges-within n h e = record {
     first = rw (front-start n (omega arith)) (e .first);
     last = rw (front-start (suc n) (omega arith)) (e .last);

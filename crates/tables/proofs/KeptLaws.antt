@@ -1,18 +1,18 @@
 -- Laws of what the searches leave in the buffer.
 -- Assumes nothing.
 use mathlib.Core.Path.{_≡_, refl, ap, _∙_}
-use mathlib.Core.Logic.{_↔_, inl, inr}
+use mathlib.Core.Logic.{inl, inr}
 use mathlib.Core.List.{List}
 use Prim.Native.Nat.{ℕ, _+_, _≤_, _<_}
 use native.Mathlib.Nat.{le-refl}
 use native.Mathlib.Omega.{arith}
 use lib.Dec.{eqb}
 use lib.ListN.{getD}
-use Rattle.job.specs.Job.{Job, WellFormedJob}
-use Rattle.joblines.specs.Layout.{nodeIn, startIn, targetIn}
-use Rattle.tables.specs.Tables.{classRowIn, enabledIn, EdgeIn, SearchKept, Grown}
-use Rattle.tables.specs.Held.{EdgesWithin, Usable, JobHeld, PlanHeld, AfterHeld}
-use Rattle.tables.proofs.JobKeptLaws.{FrontKept, front-node, front-start, front-target, front-edge, front-edges-within, front-usable, front-job, class-row-kept, after-words-kept}
+use Rattle.job.specs.Job.{Job}
+use Rattle.joblines.specs.Layout.{nodeIn, targetIn}
+use Rattle.tables.specs.Tables.{classRowIn, enabledIn, SearchKept, Grown}
+use Rattle.tables.specs.Held.{Usable, JobHeld, PlanHeld}
+use Rattle.tables.proofs.JobKeptLaws.{FrontKept, front-node, front-target, front-usable, front-job, class-row-kept}
 
 -- ---- composition
 
@@ -56,10 +56,6 @@ module _ {l m : List ℕ} (s : SearchKept l m) where
   pub node-same : (n : ℕ) → n < 512 → nodeIn m n ≡ nodeIn l n
   node-same = front-node front
 
-  -- where the edges of a node start
-  pub start-same : (n : ℕ) → n ≤ 512 → startIn m n ≡ startIn l n
-  start-same = front-start front
-
   -- where an edge ends
   pub target-same : (i : ℕ) → i < 2048 → targetIn m i ≡ targetIn l i
   target-same = front-target front
@@ -77,14 +73,6 @@ module _ {l m : List ℕ} (s : SearchKept l m) where
   unfolding enabledIn
   enabled-same n h = ap (λ (x : ℕ). eqb x 1) (s .outside (44034 + n) (inr (inl (omega arith, omega arith))))
 
-  -- an edge
-  pub edge-same : (n k : ℕ) → n < 512 → EdgesWithin l n → EdgeIn l n k ↔ EdgeIn m n k
-  edge-same = front-edge front
-
-  -- the bounds of a node's edges
-  pub edges-within-same : (n : ℕ) → n < 512 → EdgesWithin l n → EdgesWithin m n
-  edges-within-same = front-edges-within front
-
   -- the bounds of all
   pub usable-same : {table : List (List ℕ)} {states nodes : ℕ} → Usable l table states nodes → Usable m table states nodes
   usable-same u = front-usable front u
@@ -98,7 +86,3 @@ module _ {l m : List ℕ} (s : SearchKept l m) where
   -- the plan that is held
   pub plan-same : (plan : List ℕ) {nodes : ℕ} → nodes ≤ 512 → PlanHeld plan l nodes → PlanHeld plan m nodes
   plan-same plan h p n g = s .outside (44034 + n) (inr (inl (omega arith, omega arith))) ∙ p n g
-
-  -- the after words
-  pub after-same : {j : Job} {nodes : ℕ} → WellFormedJob j → nodes ≤ 512 → AfterHeld j l nodes → AfterHeld j m nodes
-  after-same = after-words-kept l m classes

@@ -1,30 +1,29 @@
 -- Laws of four rows of pairs in one number: what a store of eight bytes does to rows, marks and measures.
 -- Assumes nothing.
 use mathlib.Core.Path.{_≡_, refl, sym, ap, subst, _∙_}
-use mathlib.Core.Logic.{_⊎_, inl, inr, ⊎-elim, _≢_, by-cases}
-use mathlib.Core.Bool.{Bool, true, false, _||_, true≢false}
-use mathlib.Core.List.{List, [], _∷_}
+use mathlib.Core.Logic.{_⊎_, inl, inr, ⊎-elim, by-cases}
+use mathlib.Core.Bool.{Bool, true, false, _||_, true≢false, or-true}
+use mathlib.Core.List.{List}
 use Prim.Native.Nat.{ℕ, zero, suc, _+_, _-_, _*_, _/_, _%_, _^_, _≤_, _<_}
-use native.Mathlib.Nat.{mod-lt, mod-eq-of-lt, div-one}
 use native.Mathlib.Decide.{ℕ-discrete, decLt}
 use native.Mathlib.Omega.{arith}
-use lib.Bits.{bitOr, or-lt}
-use lib.Dec.{eqb, lit<}
+use lib.Bits.{bitOr, bitAnd, or-lt, and-mask}
+use lib.Dec.{eqb}
 use lib.ListN.{length, getD, set}
 use lib.Seq.{getD-set-same, getD-set-other}
-use borrow.Author.Tests.{eq-eqb, eqb-true, eqb-false}
-use Rattle.laws.specs.Bounded.{sumBelow, allBelow}
-use Rattle.laws.specs.Bits.{bit, has}
+use borrow.Author.Tests.{eqb-true, eqb-false}
+use Rattle.laws.specs.Bounded.{allBelow}
+use Rattle.laws.specs.Bits.{has}
 use Rattle.laws.specs.Bytes.{AreBytes, numberAt, putNumber}
 use Rattle.laws.proofs.Bounded.{all-at, not-all, sum-less}
 use Rattle.laws.proofs.Bits.{bit-mod, bit-shl, has-same, has-empty, has-or, has-below, same-set}
-use Rattle.laws.proofs.Bytes.{number-lt, number-put, number-put-other, length-put, getD-put-outside, put-bytes}
+use Rattle.laws.proofs.Bytes.{number-lt, number-put, number-put-other, put-bytes}
 use Rattle.laws.proofs.Parts.{has-part, subset-le, has-moved, has-moved-outside, has-number-part, number-parts}
-use Rattle.laws.proofs.Tests.{fails-of, passes-or-fails, test-ext, or-left, or-right, or-passes}
-use Rattle.tables.specs.Tables.{pairRowIn, marksIn, markedIn, Held, pairsLeft, SearchKept}
-use Rattle.tables.specs.Quads.{InQuad, InQuads, QuadMarked, QuadJoined}
+use Rattle.laws.proofs.Tests.{passes-or-fails, test-ext, or-left, or-right, or-passes}
+use Rattle.tables.specs.Tables.{pairRowIn, markedIn, Held, pairsLeft}
+use Rattle.tables.specs.Quads.{InQuad, InQuads, RowMarked, QuadMarked, QuadJoined}
 use Rattle.tables.proofs.KeptLaws.{grown-none}
-use Rattle.tables.proofs.TableLaws.{marks-change, marks-other, marks-here, not-marks, number-front}
+use Rattle.tables.proofs.TableLaws.{number-front, MarksJoined, marks-joined}
 
 -- ---- rows of four
 
@@ -54,14 +53,6 @@ quad-place n i k r li lr =
     (λ (c : k * 16 + r < n * 16 + i * 4 + 4). inl (omega arith, omega arith))
     (λ (c : k * 16 + r < n * 16 + i * 4 + 4 → ⊥). inr (inr (omega arith))))
 
--- a byte that a search keeps is none of the four rows
-not-quad
-    : (n i : ℕ) → n < 512 → i < 4 → (k : ℕ) → (k < 9218) ⊎ (((25602 ≤ k) × (k < 45314)) ⊎ (46338 ≤ k))
-    → (k < 9218 + (n * 16 + i * 4) * 2) ⊎ (9218 + (n * 16 + i * 4) * 2 + 8 ≤ k)
-not-quad n i h g k (inl o) = inl (omega arith)
-not-quad n i h g k (inr (inl o)) = inr (omega arith)
-not-quad n i h g k (inr (inr o)) = inr (omega arith)
-
 -- ---- four rows joined
 
 module _ (l : List ℕ) (n i rows : ℕ) (long : 65536 ≤ length l) (few : n < 512) (quad : i < 4) (bytes : AreBytes l) (fits : rows < 2 ^ 64) where
@@ -83,19 +74,16 @@ module _ (l : List ℕ) (n i rows : ℕ) (long : 65536 ≤ length l) (few : n < 
     abbrev m : List ℕ
     m = putNumber 2 w (45314 + n * 2) (bitOr due marks)
 
-    -- the first store keeps the length
-    w-long : length w ≡ length l
-    w-long = rw d (length-put 8 l (9218 + (n * 16 + i * 4) * 2) (bitOr old rows))
+    -- what they leave of the marks
+    joined-marks : MarksJoined l m n marks
+    joined-marks =
+        marks-joined 8 (9218 + (n * 16 + i * 4) * 2) (bitOr old rows) l w n due marks (omega arith) (omega arith) long few bytes were d marks-fit
 
     -- both keep the bytes
     m-bytes : AreBytes m
     m-bytes =
         put-bytes 2 w (45314 + n * 2) (bitOr due marks)
         (subst AreBytes (sym d) (put-bytes 8 l (9218 + (n * 16 + i * 4) * 2) (bitOr old rows) bytes))
-
-    -- the marks have two bytes
-    due-fits : bitOr due marks < 65536
-    due-fits = or-lt 16 due marks (rw were (number-lt 2 l (45314 + n * 2) bytes)) marks-fit
 
     -- the four rows joined
     quad-here : numberAt 8 m (9218 + (n * 16 + i * 4) * 2) ≡ bitOr old rows
@@ -195,31 +183,6 @@ module _ (l : List ℕ) (n i rows : ℕ) (long : 65536 ≤ length l) (few : n < 
         same : ℕ → Bool
         same k = eqb (numberAt 2 l (9218 + (n * 16 + i * 4) * 2 + k * 2)) (numberAt 2 m (9218 + (n * 16 + i * 4) * 2 + k * 2))
 
-    -- the marks of the node
-    node-marks : marksIn m n ≡ bitOr due marks
-    node-marks = marks-here w n (bitOr due marks) (omega (arith, w-long)) few due-fits
-
-    -- as they were
-    due-marks : marksIn l n ≡ due
-    unfolding marksIn
-    due-marks = sym were
-
-    -- the marks of another node
-    other-marks : (k : ℕ) → (k ≡ n → ⊥) → marksIn m k ≡ marksIn l k
-    unfolding marksIn
-    other-marks k x =
-        marks-other w n (bitOr due marks) k x
-        ∙ rw d (number-put-other 8 2 l (9218 + (n * 16 + i * 4) * 2) (45314 + k * 2) (bitOr old rows) (inr (omega arith)))
-
-    -- all but rows and marks
-    kept : SearchKept l m
-    kept = record {
-      long = length-put 2 w (45314 + n * 2) (bitOr due marks) ∙ w-long;
-      outside = λ k o.
-          getD-put-outside 2 w (45314 + n * 2) (bitOr due marks) k 0 (not-marks n few k o)
-          ∙ rw d (getD-put-outside 8 l (9218 + (n * 16 + i * 4) * 2) (bitOr old rows) k 0 (not-quad n i few quad k o));
-    }
-
     -- the room falls by one at least, which counts for more than the marks
     less : pairsLeft m ≤ pairsLeft l
     unfolding pairsLeft
@@ -231,27 +194,13 @@ module _ (l : List ℕ) (n i rows : ℕ) (long : 65536 ≤ length l) (few : n < 
         let rows = sum-less 8192 (λ x. 65535 - numberAt 2 m (9218 + x * 2)) (λ x. 65535 - numberAt 2 l (9218 + x * 2))
         (λ x y. omega (arith, rises x y)) (n * 16 + i * 4 + f .0) (omega (arith, f .1))
         (omega (arith, rises (n * 16 + i * 4 + f .0) (omega (arith, f .1)))) in
-        let marks = marks-change l m n 0 65535 few other-marks (omega (arith, node-marks, due-fits)) in
-        omega arith
+        omega (arith, joined-marks .rise)
 
-    -- a row that is not marked was not, and holds no pair of the four rows
-    unmarked-row
-        : (k r : ℕ) → markedIn m k r ≡ false → (markedIn l k r ≡ false) × ((k ≡ n) → has marks r ≡ false)
-    unmarked-row k r z =
-        by-cases (ℕ-discrete k n)
-        (λ (c : k ≡ n).
-        let z′ : (has due r || has marks r) ≡ false =
-        sym (has-or due marks r) ∙ ap (λ (x : ℕ). has x r) (sym (ap (marksIn m) c ∙ node-marks)) ∙ z in (
-          ap (λ (x : ℕ). has x r) (ap (marksIn l) c ∙ due-marks) ∙ fails-of (has due r) (λ y. true≢false (sym (or-left (has due r) (has marks r) y) ∙ z′)),
-          λ y. fails-of (has marks r) (λ x. true≢false (sym (or-right (has due r) (has marks r) x) ∙ z′)),
-        ))
-        (λ (c : k ≡ n → ⊥). (ap (λ (x : ℕ). has x r) (sym (other-marks k c)) ∙ z, λ y. absurd (c y)))
-
-    -- so it is as it was
+    -- a row that is not marked holds no pair of the four rows, so it is as it was
     quiet
         : (k r : ℕ) → k < 512 → r < 16 → markedIn m k r ≡ false → (markedIn l k r ≡ false) × (pairRowIn m k r ≡ pairRowIn l k r)
     quiet k r lk lr z =
-        let u = unmarked-row k r z in (
+        let u = joined-marks .unmarked-row k r z in (
           u .0,
           same-set (pairRowIn m k r) (pairRowIn l k r)
               (λ q.
@@ -271,7 +220,7 @@ module _ (l : List ℕ) (n i rows : ℕ) (long : 65536 ≤ length l) (few : n < 
     -- rows that make one of the four grow
     joined-grows : QuadJoined l m n i rows
     joined-grows = record {
-      grown = record { kept = kept; held = held; quiet = quiet; left = less };
+      grown = record { kept = joined-marks .kept; held = held; quiet = quiet; left = less };
       here = λ k q lk (short, x).
           member-here k q lk short ∙ or-right (has (pairRowIn l n (i * 4 + k)) q) (has rows (k * 16 + q)) x;
       new = fresh;
@@ -283,74 +232,39 @@ module _ (l : List ℕ) (n i rows : ℕ) (long : 65536 ≤ length l) (few : n < 
 
 -- ---- marks of four rows
 
--- the code's marks of four rows: a bit for each that is not empty
-abbrev filled : ℕ → ℕ
-filled rows =
-    (rows % 65536 + 65535) / 65536 + 2 * ((rows / 65536 % 65536 + 65535) / 65536)
-    + 4 * ((rows / 4294967296 % 65536 + 65535) / 65536) + 8 * ((rows / 281474976710656 + 65535) / 65536)
+-- a row alone leaves room for 65,535 more
+pub part-room : (x : ℕ) → bitAnd x 65535 + 65535 < 2 ^ 17
+part-room x = omega (arith, and-mask x 16)
 
--- a row with a member is not empty
-some-part : (rows k q : ℕ) → InQuad rows k q → 0 < rows / 2 ^ (k * 16) % 2 ^ 16
-some-part rows k q (short, h) =
+-- with them, a row that has a member has the bit of 65,536, in the shape of the code
+pub row-marked : (rows k : ℕ) → RowMarked rows k ((bitAnd (rows / 2 ^ (k * 16)) 65535 + 65535) / 65536)
+row-marked rows k q (short, h) =
     by-cases (ℕ-discrete (rows / 2 ^ (k * 16) % 2 ^ 16) 0)
     (λ (z : rows / 2 ^ (k * 16) % 2 ^ 16 ≡ 0).
     absurd (true≢false (sym h ∙ sym (has-part rows (k * 16) 16 q short) ∙ ap (λ (x : ℕ). has x q) z ∙ has-empty q)))
-    (λ (z : rows / 2 ^ (k * 16) % 2 ^ 16 ≡ 0 → ⊥). omega arith)
+    (λ (z : rows / 2 ^ (k * 16) % 2 ^ 16 ≡ 0 → ⊥). omega (arith, and-mask (rows / 2 ^ (k * 16)) 16))
 
--- 1 where a row is not empty
-row-filled : (x : ℕ) → 0 < x → x < 65536 → (x + 65535) / 65536 ≡ 1
-row-filled x some short = omega arith
+-- four marks, each in its bit
+abbrev pub fourMarks : ℕ → ℕ → ℕ → ℕ → ℕ
+fourMarks a b c d = bitOr (bitOr (bitOr a ((b * 2 ^ 1) % 2 ^ 16)) ((c * 2 ^ 2) % 2 ^ 16)) ((d * 2 ^ 3) % 2 ^ 16)
 
--- at most 1
-row-one : (x : ℕ) → x < 65536 → (x + 65535) / 65536 ≤ 1
-row-one x short = omega arith
+module _ (i rows a b c d : ℕ) (quad : i < 4) (first : RowMarked rows 0 a) (second : RowMarked rows 1 b)
+    (third : RowMarked rows 2 c) (fourth : RowMarked rows 3 d) where
+  -- bit k is set where row k has a member
+  four-has : (k q : ℕ) → k < 4 → InQuad rows k q → has (fourMarks a b c d) k ≡ true
+  unfolding has
+  four-has zero q l h = simp (has-or, first q h)
+  four-has (suc zero) q l h = simp (has-or, or-true, second q h)
+  four-has (suc (suc zero)) q l h = simp (has-or, or-true, third q h)
+  four-has (suc (suc (suc zero))) q l h = simp (has-or, or-true, fourth q h)
+  four-has (suc (suc (suc (suc k)))) q l h = absurd (omega arith)
 
--- bit k of a number made of four bits is the one at k
-four-bits
-    : (a b c d k : ℕ) → a ≤ 1 → b ≤ 1 → c ≤ 1 → d ≤ 1 → k < 4
-    → bit (a + 2 * b + 4 * c + 8 * d) k ≡ getD (a ∷ b ∷ c ∷ d ∷ []) k 0
-four-bits a b c d zero la lb lc ld h = omega arith
-four-bits a b c d (suc zero) la lb lc ld h = omega arith
-four-bits a b c d (suc (suc zero)) la lb lc ld h = omega arith
-four-bits a b c d (suc (suc (suc zero))) la lb lc ld h = omega arith
-four-bits a b c d (suc (suc (suc (suc k)))) la lb lc ld h = absurd (omega arith)
-
--- so it has its bit
-filled-bit : (rows k q : ℕ) → rows < 2 ^ 64 → k < 4 → InQuad rows k q → has (filled rows) k ≡ true
-unfolding has
-filled-bit rows k q fits few h = eq-eqb (bit (filled rows) k) 1 (four-bits _ _ _ _ k one two three four few ∙ at k few (some-part rows k q h))
-  where
-    last : rows / 281474976710656 < 65536
-    last = omega arith
-
-    one : (rows % 65536 + 65535) / 65536 ≤ 1
-    one = row-one (rows % 65536) (mod-lt rows (lit< tt))
-
-    two : (rows / 65536 % 65536 + 65535) / 65536 ≤ 1
-    two = row-one (rows / 65536 % 65536) (mod-lt (rows / 65536) (lit< tt))
-
-    three : (rows / 4294967296 % 65536 + 65535) / 65536 ≤ 1
-    three = row-one (rows / 4294967296 % 65536) (mod-lt (rows / 4294967296) (lit< tt))
-
-    four : (rows / 281474976710656 + 65535) / 65536 ≤ 1
-    four = row-one (rows / 281474976710656) last
-
-    at
-        : (k : ℕ) → k < 4 → 0 < rows / 2 ^ (k * 16) % 2 ^ 16
-        → getD ((rows % 65536 + 65535) / 65536 ∷ (rows / 65536 % 65536 + 65535) / 65536 ∷ (rows / 4294967296 % 65536 + 65535) / 65536
-        ∷ (rows / 281474976710656 + 65535) / 65536 ∷ []) k 0 ≡ 1
-    at zero l s = row-filled (rows % 65536) (rw div-one at s) (mod-lt rows (lit< tt))
-    at (suc zero) l s = row-filled (rows / 65536 % 65536) s (mod-lt (rows / 65536) (lit< tt))
-    at (suc (suc zero)) l s = row-filled (rows / 4294967296 % 65536) s (mod-lt (rows / 4294967296) (lit< tt))
-    at (suc (suc (suc zero))) l s = row-filled (rows / 281474976710656) (subst (λ (x : ℕ). 0 < x) (mod-eq-of-lt last) s) last
-    at (suc (suc (suc (suc k)))) l s = absurd (omega arith)
-
--- moved up to row i * 4
-pub quad-marked : (i rows : ℕ) → i < 4 → rows < 2 ^ 64 → QuadMarked i rows ((filled rows * 2 ^ (i * 4)) % 2 ^ 16)
-quad-marked i rows quad fits k q few h =
-    has-same ((filled rows * 2 ^ (i * 4)) % 2 ^ 16) (filled rows) (i * 4 + k) k
-    (bit-mod (filled rows * 2 ^ (i * 4)) 16 (i * 4 + k) (omega arith) ∙ bit-shl (filled rows) (i * 4) k)
-    ∙ filled-bit rows k q fits few h
+  -- moved up to row i * 4, in the shape of the code
+  pub quad-marked : QuadMarked i rows ((fourMarks a b c d * 2 ^ (i * 4)) % 2 ^ 16)
+  quad-marked k q few h =
+      has-same ((fourMarks a b c d * 2 ^ (i * 4)) % 2 ^ 16) (fourMarks a b c d) (i * 4 + k) k
+      (bit-mod (fourMarks a b c d * 2 ^ (i * 4)) 16 (i * 4 + k) (omega arith) ∙ bit-shl (fourMarks a b c d) (i * 4) k)
+      ∙ four-has k q few h
 
 -- ---- sixteen rows
 

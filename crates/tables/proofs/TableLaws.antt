@@ -2,50 +2,28 @@
 -- Assumes nothing.
 use mathlib.Core.Path.{_≡_, refl, sym, ap, subst, _∙_}
 use mathlib.Core.Logic.{_⊎_, inl, inr, ⊎-elim, by-cases}
-use mathlib.Core.Bool.{true, false, true≢false}
+use mathlib.Core.Bool.{true, false, _||_, true≢false}
 use mathlib.Core.List.{List}
-use Prim.Native.Nat.{ℕ, zero, suc, _+_, _-_, _*_, _≤_, _<_}
-use native.Mathlib.Nat.{le-refl, le-step, le-of-suc-le-suc, not-suc-le-zero, eq-or-lt-of-le}
+use Prim.Native.Nat.{ℕ, _+_, _-_, _*_, _^_, _≤_, _<_}
+use native.Mathlib.Nat.{le-refl}
 use native.Mathlib.Decide.{ℕ-discrete, decLt}
 use native.Mathlib.Omega.{arith}
-use lib.Bits.{bitOr, or-lt, or-add-and, and-le-r}
-use lib.ListN.{length, getD, set, length-set}
+use lib.Bits.{bitOr, or-lt}
+use lib.Pow.{pow-lt}
+use lib.ListN.{length, set, length-set}
 use lib.Seq.{getD-set-same, getD-set-other}
 use borrow.Author.Tests.{eq-eqb, ne-eqb}
 use Rattle.laws.specs.Bounded.{sumBelow}
 use Rattle.laws.specs.Bits.{has, with}
 use Rattle.laws.specs.Bytes.{AreBytes, numberAt, putNumber}
-use Rattle.laws.proofs.Bounded.{sum-cong}
-use Rattle.laws.proofs.Bits.{has-or, has-with-same, has-with-other, with-lt}
+use Rattle.laws.proofs.Bounded.{sum-cong, sum-change}
+use Rattle.laws.proofs.Bits.{has-or, has-pow}
 use Rattle.laws.proofs.Bytes.{number-lt, number-put, number-put-other, put-number, length-put, getD-put-outside}
-use Rattle.laws.proofs.Tests.{or-left, or-right, or-passes}
+use Rattle.laws.proofs.Parts.{or-above}
+use Rattle.laws.proofs.Tests.{fails-of, or-left, or-right, or-passes}
 use Rattle.joblines.proofs.KeptLaws.{kept-none, kept-put}
 use Rattle.tables.specs.Tables.{pairRowIn, classRowIn, marksIn, markedIn, Held, joined, unmarked, apartJoined, Zeroed, pairsLeft, apartLeft, SearchKept, PairsJoined, NextMarked, MarksTaken, ApartGrown}
 use Rattle.tables.proofs.KeptLaws.{grown-none}
-
--- ---- numbers and sums
-
--- a set is at most its union with another
-pub or-above : (a b : ℕ) → a ≤ bitOr a b
-or-above a b = omega (arith, or-add-and a b, and-le-r a b)
-
--- a sum in which one term alone changes changes as that term does
-pub sum-change
-    : (n : ℕ) (f g : ℕ → ℕ) (k a b : ℕ) → k < n → ((i : ℕ) → i < n → (i ≡ k → ⊥) → f i ≡ g i) → f k + a ≤ g k + b
-    → sumBelow n f + a ≤ sumBelow n g + b
-unfolding sumBelow
-sum-change zero f g k a b l h c = absurd (not-suc-le-zero l)
-sum-change (suc n) f g k a b l h c =
-    ⊎-elim
-    (λ (e : k ≡ n).
-    let c′ : f n + a ≤ g n + b = rw e at c in
-    let s = sum-cong n f g (λ i m. h i (le-step m) (λ q. absurd (omega arith))) in
-    omega arith)
-    (λ (m : k < n).
-    let s = sum-change n f g k a b m (λ i x. h i (le-step x)) c in
-    let t = h n (le-refl (suc n)) (λ q. absurd (omega arith)) in
-    omega arith)
-    (eq-or-lt-of-le (le-of-suc-le-suc l))
 
 -- ---- a number of two bytes stored in a table
 
@@ -108,37 +86,29 @@ module _ (l : List ℕ) (n p s : ℕ) (long : 65536 ≤ length l) (few : n < 512
 -- ---- marks
 
 -- the marks change as those of the one node that are stored
-pub marks-change
+marks-change
     : (l m : List ℕ) (n a b : ℕ) → n < 512 → ((k : ℕ) → (k ≡ n → ⊥) → marksIn m k ≡ marksIn l k) → marksIn m n + a ≤ marksIn l n + b
     → sumBelow 512 (λ k. marksIn m k) + a ≤ sumBelow 512 (λ k. marksIn l k) + b
 marks-change l m n a b h same c = sum-change 512 (λ k. marksIn m k) (λ k. marksIn l k) n a b h (λ i x. same i) c
 
 -- the marks of another node
-pub marks-other : (l : List ℕ) (n v k : ℕ) → (k ≡ n → ⊥) → marksIn (putNumber 2 l (45314 + n * 2) v) k ≡ marksIn l k
+marks-other : (l : List ℕ) (n v k : ℕ) → (k ≡ n → ⊥) → marksIn (putNumber 2 l (45314 + n * 2) v) k ≡ marksIn l k
 unfolding marksIn
 marks-other l n v k h = number-row l 45314 k n v h
 
 -- the marks that are stored
-pub marks-here
+marks-here
     : (l : List ℕ) (n v : ℕ) → 65536 ≤ length l → n < 512 → v < 65536 → marksIn (putNumber 2 l (45314 + n * 2) v) n ≡ v
 unfolding marksIn
 marks-here l n v long h fits = number-put 2 l (45314 + n * 2) v fits (omega arith)
 
 -- a byte that a search keeps is none of the marks
-pub not-marks
+not-marks
     : (n : ℕ) → n < 512 → (k : ℕ) → (k < 9218) ⊎ (((25602 ≤ k) × (k < 45314)) ⊎ (46338 ≤ k))
     → (k < 45314 + n * 2) ⊎ (45314 + n * 2 + 2 ≤ k)
 not-marks n h k (inl o) = inl (omega arith)
 not-marks n h k (inr (inl o)) = inl (omega arith)
 not-marks n h k (inr (inr o)) = inr (omega arith)
-
--- and no byte of a row of pairs
-not-row
-    : (n p : ℕ) → n < 512 → p < 16 → (k : ℕ) → (k < 9218) ⊎ (((25602 ≤ k) × (k < 45314)) ⊎ (46338 ≤ k))
-    → (k < 9218 + (n * 16 + p) * 2) ⊎ (9218 + (n * 16 + p) * 2 + 2 ≤ k)
-not-row n p h g k (inl o) = inl (omega arith)
-not-row n p h g k (inr (inl o)) = inr (omega arith)
-not-row n p h g k (inr (inr o)) = inr (omega arith)
 
 -- the numbers in front of the marks
 pub number-front : (l : List ℕ) (n v i : ℕ) → i + 2 ≤ 45314 → numberAt 2 (putNumber 2 l (45314 + n * 2) v) i ≡ numberAt 2 l i
@@ -207,6 +177,74 @@ module _ {work : List ℕ} {n nodes next : ℕ} (u : Unmarked work n nodes next)
         some = λ h. absurd (omega arith);
       }
 
+-- ---- a store in the rows of pairs, and then one in the marks
+
+-- what the two leave, where marks are joined into those of node n
+pub record MarksJoined (l m : List ℕ) (n marks : ℕ) : Type 0 where
+  pub kept : SearchKept l m
+  pub rise : sumBelow 512 (λ k. marksIn m k) ≤ sumBelow 512 (λ k. marksIn l k) + 65535
+  pub unmarked-row : (k r : ℕ) → markedIn m k r ≡ false → (markedIn l k r ≡ false) × ((k ≡ n) → has marks r ≡ false)
+
+module _ (wide place v : ℕ) (l w : List ℕ) (n due marks : ℕ) (from : 9218 ≤ place) (within : place + wide ≤ 25602) (long : 65536 ≤ length l)
+    (few : n < 512) (bytes : AreBytes l) (were : due ≡ numberAt 2 l (45314 + n * 2)) (d : w ≡ putNumber wide l place v) (fits : marks < 65536) where
+  -- the buffer after the two stores
+  abbrev stored : List ℕ
+  stored = putNumber 2 w (45314 + n * 2) (bitOr due marks)
+
+  -- the first store keeps the length
+  first-long : length w ≡ length l
+  first-long = rw d (length-put wide l place v)
+
+  -- the marks have two bytes
+  due-fits : bitOr due marks < 65536
+  due-fits = or-lt 16 due marks (rw were (number-lt 2 l (45314 + n * 2) bytes)) fits
+
+  -- the marks of the node
+  node-marks : marksIn stored n ≡ bitOr due marks
+  node-marks = marks-here w n (bitOr due marks) (omega (arith, first-long)) few due-fits
+
+  -- as they were
+  due-marks : marksIn l n ≡ due
+  unfolding marksIn
+  due-marks = sym were
+
+  -- the marks of another node
+  other-marks : (k : ℕ) → (k ≡ n → ⊥) → marksIn stored k ≡ marksIn l k
+  unfolding marksIn
+  other-marks k x =
+      marks-other w n (bitOr due marks) k x ∙ rw d (number-put-other wide 2 l place (45314 + k * 2) v (inr (omega arith)))
+
+  -- a byte that a search keeps is none of the rows that were stored
+  not-rows : (k : ℕ) → (k < 9218) ⊎ (((25602 ≤ k) × (k < 45314)) ⊎ (46338 ≤ k)) → (k < place) ⊎ (place + wide ≤ k)
+  not-rows k (inl o) = inl (omega arith)
+  not-rows k (inr (inl o)) = inr (omega arith)
+  not-rows k (inr (inr o)) = inr (omega arith)
+
+  -- a row that is not marked was not, and is none of those that are marked
+  row-unmarked : (k r : ℕ) → markedIn stored k r ≡ false → (markedIn l k r ≡ false) × ((k ≡ n) → has marks r ≡ false)
+  row-unmarked k r z =
+      by-cases (ℕ-discrete k n)
+      (λ (c : k ≡ n).
+      let z′ : (has due r || has marks r) ≡ false =
+      sym (has-or due marks r) ∙ ap (λ (x : ℕ). has x r) (sym (ap (marksIn stored) c ∙ node-marks)) ∙ z in (
+        ap (λ (x : ℕ). has x r) (ap (marksIn l) c ∙ due-marks) ∙ fails-of (has due r) (λ y. true≢false (sym (or-left (has due r) (has marks r) y) ∙ z′)),
+        λ y. fails-of (has marks r) (λ x. true≢false (sym (or-right (has due r) (has marks r) x) ∙ z′)),
+      ))
+      (λ (c : k ≡ n → ⊥). (ap (λ (x : ℕ). has x r) (sym (other-marks k c)) ∙ z, λ y. absurd (c y)))
+
+  -- all of it
+  pub marks-joined : MarksJoined l (putNumber 2 w (45314 + n * 2) (bitOr due marks)) n marks
+  marks-joined = record {
+    kept = record {
+      long = length-put 2 w (45314 + n * 2) (bitOr due marks) ∙ first-long;
+      outside = λ k o.
+          getD-put-outside 2 w (45314 + n * 2) (bitOr due marks) k 0 (not-marks n few k o)
+          ∙ rw d (getD-put-outside wide l place v k 0 (not-rows k o));
+    };
+    rise = omega (arith, marks-change l stored n 0 65535 few other-marks (omega (arith, node-marks, due-fits)));
+    unmarked-row = row-unmarked;
+  }
+
 -- ---- rows of pairs
 
 module _ (l : List ℕ) (n p s : ℕ) (long : 65536 ≤ length l) (few : n < 512) (small : p < 16) (bytes : AreBytes l) (fits : s < 65536) where
@@ -230,17 +268,14 @@ module _ (l : List ℕ) (n p s : ℕ) (long : 65536 ≤ length l) (few : n < 512
     abbrev m : List ℕ
     m = putNumber 2 w (45314 + n * 2) (with due p)
 
-    -- the first store keeps the length
-    w-long : length w ≡ length l
-    w-long = rw d (length-put 2 l (9218 + (n * 16 + p) * 2) (bitOr old s))
+    -- what they leave of the marks
+    joined-marks : MarksJoined l m n (2 ^ p)
+    joined-marks =
+        marks-joined 2 (9218 + (n * 16 + p) * 2) (bitOr old s) l w n due (2 ^ p) (omega arith) (omega arith) long few bytes were d (pow-lt small)
 
     -- the union has two bytes
     new-fits : bitOr old s < 65536
     new-fits = or-lt 16 old s (rw e (number-lt 2 l (9218 + (n * 16 + p) * 2) bytes)) fits
-
-    -- so have the marks
-    due-fits : with due p < 65536
-    due-fits = with-lt 16 due p (rw were (number-lt 2 l (45314 + n * 2) bytes)) small
 
     -- the row joined
     row-here : numberAt 2 m (9218 + (n * 16 + p) * 2) ≡ bitOr old s
@@ -253,39 +288,13 @@ module _ (l : List ℕ) (n p s : ℕ) (long : 65536 ≤ length l) (few : n < 512
     row-other i x y =
         number-front w n (with due p) (9218 + i * 2) (omega arith) ∙ rw d (number-row l 9218 i (n * 16 + p) (bitOr old s) y)
 
-    -- the marks of the node
-    node-marks : marksIn m n ≡ with due p
-    node-marks = marks-here w n (with due p) (omega (arith, w-long)) few due-fits
-
-    -- as they were
-    due-marks : marksIn l n ≡ due
-    unfolding marksIn
-    due-marks = sym were
-
-    -- the marks of another node
-    other-marks : (k : ℕ) → (k ≡ n → ⊥) → marksIn m k ≡ marksIn l k
-    unfolding marksIn
-    other-marks k x =
-        marks-other w n (with due p) k x
-        ∙ rw d (number-put-other 2 2 l (9218 + (n * 16 + p) * 2) (45314 + k * 2) (bitOr old s) (inr (omega arith)))
-
-    -- all but rows and marks
-    kept : SearchKept l m
-    kept = record {
-      long = length-put 2 w (45314 + n * 2) (with due p) ∙ w-long;
-      outside = λ k o.
-          getD-put-outside 2 w (45314 + n * 2) (with due p) k 0 (not-marks n few k o)
-          ∙ rw d (getD-put-outside 2 l (9218 + (n * 16 + p) * 2) (bitOr old s) k 0 (not-row n p few small k o));
-    }
-
     -- the room falls by one at least, which counts for more than the mark
     less : pairsLeft m ≤ pairsLeft l
     unfolding pairsLeft
     less =
         let a = or-above old s in
         let rows = room-falls l m 9218 (n * 16 + p) 1 (omega arith) row-other (omega (arith, row-here)) (omega (arith, row-here, new-fits)) in
-        let marks = marks-change l m n 0 65535 few other-marks (omega (arith, node-marks, due-fits)) in
-        omega arith
+        omega (arith, joined-marks .rise)
 
     -- a pair that was held
     held : (k r q : ℕ) → k < 512 → r < 16 → Held l k r q → Held m k r q
@@ -310,23 +319,18 @@ module _ (l : List ℕ) (n p s : ℕ) (long : 65536 ≤ length l) (few : n < 512
         (or-passes (has old q) (has s q) (sym (has-or old s q) ∙ z′)))
         (λ (c : k * 16 + r ≡ n * 16 + p → ⊥). inl (rw (row-other (k * 16 + r) (omega arith) c) at z))
 
-    -- a row that is not marked was not, and is another
-    unmarked-row : (k r : ℕ) → markedIn m k r ≡ false → (markedIn l k r ≡ false) × ((k ≡ n) × (r ≡ p) → ⊥)
-    unmarked-row k r z =
-        by-cases (ℕ-discrete k n)
-        (λ (c : k ≡ n).
-        let z′ : has (with due p) r ≡ false = ap (λ (x : ℕ). has x r) (sym (ap (marksIn m) c ∙ node-marks)) ∙ z in
-        let ne : r ≡ p → ⊥ = λ y. true≢false (sym (has-with-same due p) ∙ ap (has (with due p)) (sym y) ∙ z′) in
-        (ap (λ (x : ℕ). has x r) (ap (marksIn l) c ∙ due-marks) ∙ sym (has-with-other due p r ne) ∙ z′, λ y. ne (y .1)))
-        (λ (c : k ≡ n → ⊥). (ap (λ (x : ℕ). has x r) (sym (other-marks k c)) ∙ z, λ y. c (y .0)))
-
-    -- so it is as it was
+    -- a row that is not marked is another, as it was
     quiet
         : (k r : ℕ) → k < 512 → r < 16 → markedIn m k r ≡ false → (markedIn l k r ≡ false) × (pairRowIn m k r ≡ pairRowIn l k r)
     unfolding pairRowIn
     quiet k r x y z =
-        let u = unmarked-row k r z in
-        (u .0, row-other (k * 16 + r) (omega arith) (λ c. u .1 (omega arith, omega arith)))
+        let u = joined-marks .unmarked-row k r z in (
+          u .0,
+          row-other (k * 16 + r) (omega arith)
+              (λ c.
+              let e : r ≡ p = omega arith in
+              true≢false (sym (has-pow p p ∙ eq-eqb p p refl) ∙ ap (has (2 ^ p)) (sym e) ∙ u .1 (omega arith))),
+        )
 
     -- a set that makes the row grow
     grows : PairsJoined l m n p s
@@ -339,7 +343,7 @@ module _ (l : List ℕ) (n p s : ℕ) (long : 65536 ≤ length l) (few : n < 512
             ← were,
             ← d,
           );
-      grown = record { kept = kept; held = held; quiet = quiet; left = less };
+      grown = record { kept = joined-marks .kept; held = held; quiet = quiet; left = less };
       here = λ q x. ap (λ (z : ℕ). has z q) row-here ∙ has-or old s q ∙ or-right (has old q) (has s q) x;
       new = fresh;
     }

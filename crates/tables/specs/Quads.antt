@@ -17,6 +17,10 @@ InQuad rows k q = (q < 16) × (has rows (k * 16 + q) ≡ true)
 abbrev pub InQuads : List ℕ → ℕ → ℕ → Type 0
 InQuads quads p q = InQuad (getD quads (p / 4) 0) (p % 4) q
 
+-- the mark of row k of four rows is 1 where the row is not empty
+abbrev pub RowMarked : ℕ → ℕ → ℕ → Type 0
+RowMarked rows k mark = (q : ℕ) → InQuad rows k q → mark ≡ 1
+
 -- row i * 4 + k is among the marks where row k of four rows is not empty
 abbrev pub QuadMarked : ℕ → ℕ → ℕ → Type 0
 QuadMarked i rows marks = (k q : ℕ) → k < 4 → InQuad rows k q → has marks (i * 4 + k) ≡ true

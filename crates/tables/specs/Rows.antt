@@ -1,11 +1,10 @@
 -- Rows of pairs on values: a state of the full monitor, and a set of states of the residual one.
 -- Assumes nothing.
-use mathlib.Core.Bool.{Bool, true, false, cond, not}
+use mathlib.Core.Bool.{Bool, true, false, not}
 use mathlib.Core.List.{List}
 use Prim.Native.Nat.{ℕ, _<_}
 use lib.Dec.{eqb}
-use lib.Bits.{bitAnd, bitOr}
-use Rattle.laws.specs.Bounded.{anyBelow}
+use lib.Bits.{bitAnd}
 use Rattle.laws.specs.Bits.{has, image}
 use Rattle.automaton.specs.Automaton.{cell}
 use Rattle.job.specs.Job.{Kind, plain, event, call}

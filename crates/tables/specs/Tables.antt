@@ -31,9 +31,17 @@ foundPart = 41986
 abbrev pub planPart : ℕ
 planPart = 44034
 
--- the marks of the rows of pairs that have grown, two bytes a node
+-- the first byte past it
+abbrev pub planEnd : ℕ
+planEnd = 44546
+
+-- the marks of the rows of pairs that may have grown, two bytes a node
 abbrev pub marksPart : ℕ
 marksPart = 45314
+
+-- the first byte past them
+abbrev pub marksEnd : ℕ
+marksEnd = 46338
 
 -- ---- what they hold
 
@@ -53,7 +61,7 @@ enabledIn work n = eqb (getD work (planPart + n) 0) 1
 unfoldable pub marksIn : List ℕ → ℕ → ℕ
 marksIn work n = numberAt 2 work (marksPart + n * 2)
 
--- row p of node n is marked: it has grown since it was last looked at
+-- row p of node n is marked: it may have grown since it was last looked at
 abbrev pub markedIn : List ℕ → ℕ → ℕ → Bool
 markedIn work n p = has (marksIn work n) p
 
@@ -113,7 +121,7 @@ apartLeft work = sumBelow 8192 (λ i. 65535 - numberAt 2 work (classPart + i * 2
 -- the bytes apart from the rows of pairs and the marks are as they were
 pub record SearchKept (l m : List ℕ) : Type 0 where
   pub long : length m ≡ length l
-  pub outside : (k : ℕ) → (k < 9218) ⊎ (((25602 ≤ k) × (k < 45314)) ⊎ (46338 ≤ k)) → getD m k 0 ≡ getD l k 0
+  pub outside : (k : ℕ) → (k < pairPart) ⊎ (((classPart ≤ k) × (k < marksPart)) ⊎ (marksEnd ≤ k)) → getD m k 0 ≡ getD l k 0
 
 -- the rows have grown; a row that is not marked was not, and is as it was
 pub record Grown (l m : List ℕ) : Type 0 where

@@ -7,14 +7,10 @@ ghost use Rattle.job.specs.Job.{event};
 ghost use Rattle.joblines.specs.Layout.{nodeIn, startIn, targetIn};
 ghost use Rattle.tables.specs.Rows.{callSet, isEvent};
 ghost use Rattle.tables.specs.Tables.{enabledIn};
+use joblines::layout::PLAN;
+use joblines::layout::STARTS;
+use joblines::layout::TARGETS;
 use words::read16;
-
-// Where the index of each node's first edge lies in the work buffer, where the ends of the edges do, and where the plan does.
-const STARTS: usize = 4096;
-
-const TARGETS: usize = 5122;
-
-const PLAN: usize = 44034;
 
 // Whether node n is a shadow.
 pub fn is_shadow(work: &[u8], n: usize) -> bool

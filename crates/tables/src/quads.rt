@@ -3,7 +3,7 @@ ghost use mathlib.Core.Path.{_≡_};
 ghost use Prim.Native.Nat.{_*_, _^_, _<_, _≤_};
 ghost use lib.Bits.{bitOr};
 ghost use lib.ListN.{length};
-ghost use Rattle.tables.specs.Quads.{QuadMarked, QuadJoined};
+ghost use Rattle.tables.specs.Quads.{RowMarked, QuadMarked, QuadJoined};
 use super::rows::MARKS;
 use super::rows::PAIRS;
 use words::read16;
@@ -19,16 +19,24 @@ pub fn with_row(rows: u64, k: usize, s: u16) -> u64
     rows | ((s as u64) << (k * 16))
 }
 
+// The mark of row k of four rows: 1 where the row is not empty.
+fn row_mark(rows: u64, k: usize) -> u16
+    requires { ⌜ k < 4 ⌝ }
+    ensures { λ r. ⌜ RowMarked rows k r ⌝ }
+{
+    ((((rows >> (k * 16)) & 65535) + 65535) >> 16) as u16
+}
+
 // The marks of rows i * 4 to i * 4 + 3 of a node, where each of four rows that is not empty is marked.
 fn quad_marks(i: usize, rows: u64) -> u16
     requires { ⌜ i < 4 ⌝ }
     ensures { λ r. ⌜ QuadMarked i rows r ⌝ }
 {
-    let first = (rows % 65536 + 65535) / 65536;
-    let second = (rows / 65536 % 65536 + 65535) / 65536;
-    let third = (rows / 4294967296 % 65536 + 65535) / 65536;
-    let fourth = (rows / 281474976710656 + 65535) / 65536;
-    ((first + 2 * second + 4 * third + 8 * fourth) as u16) << (i * 4)
+    let first = row_mark(rows, 0);
+    let second = row_mark(rows, 1) << 1;
+    let third = row_mark(rows, 2) << 2;
+    let fourth = row_mark(rows, 3) << 3;
+    (first | second | third | fourth) << (i * 4)
 }
 
 // Joins four rows into rows i * 4 to i * 4 + 3 of node n; where one of them grows, those that something was joined into are marked.

@@ -5,9 +5,6 @@ use writer::write_line;
 ghost use Prim.Native.Nat.{_+_, _*_, _<_, _≤_};
 ghost use lib.ListN.{length};
 
-// The longest file.
-pub const LONGEST: usize = 49914;
-
 // The length of a J line, and of the R, P and F lines of these jobs.
 pub const HEAD: usize = 26;
 

@@ -1,12 +1,14 @@
 // One trial: its title, its job, an empty line, and the answer. Trials are parted by an empty line.
 // A job that is cut within a line has that line's end in place of the first empty line.
 use super::large::HEAD;
-use super::large::LONGEST;
 use super::large::write_counter;
 use checking::check::Verdict;
 use checking::check::check_plan;
+use joblines::layout::WORK;
 use libc::STDOUT_FILENO;
+use listings::list::ROOM;
 use listings::print::print_job;
+use reader::read::LONGEST;
 ghost use Prim.Native.Nat.{_≤_};
 
 // Writes to standard output, or says why it cannot.
@@ -26,8 +28,8 @@ fn print_job_under(title: &[u8], job: &[u8]) {
 
 // Prints the listing of a job, or the X line of its refusal.
 fn print_listing(job: &[u8]) {
-    let mut work = [0u8; 65536];
-    let mut out = [0u8; 32768];
+    let mut work = [0u8; WORK];
+    let mut out = [0u8; ROOM];
     let length = print_job(job, &mut work, &mut out);
     print(&out[0..length]);
     print(b"\n");
@@ -79,7 +81,7 @@ pub fn list_counter(title: &[u8], states: usize, nodes: usize, edges: usize)
 
 // Checks a plan of a job.
 pub fn check(title: &[u8], job: &[u8], plan: &[u8]) {
-    let mut work = [0u8; 65536];
+    let mut work = [0u8; WORK];
     print_job_under(title, job);
     print(b"plan");
     print_marks(plan);

@@ -1,4 +1,4 @@
--- `lines::write::column` meets its contract: the test is that of `columnOf`.
+-- `writer::column` meets its contract: the test is that of `columnOf`.
 -- Assumes nothing.
 use borrow.Author.Needs.{needs}
 use borrow.Author.Tests.{eq-eqb, ne-eqb}

@@ -1,4 +1,4 @@
--- `lines::write::write_fields` meets its contract.
+-- `writer::write_fields` meets its contract.
 -- Invariant: the first k fields are stored, and storing the others leaves what storing all leaves. Measure: the fields that are due.
 -- Assumes nothing.
 use Prim.Native.Nat.{_-_}

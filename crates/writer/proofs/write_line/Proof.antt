@@ -1,4 +1,4 @@
--- `lines::write::write_line` meets its contract: the letter, the fields and the end byte are stored in turn.
+-- `writer::write_line` meets its contract: the letter, the fields and the end byte are stored in turn.
 -- Assumes nothing.
 use native.Mathlib.Omega.{arith}
 use lib.ListN.{length-set}

@@ -1,4 +1,4 @@
--- `reader::edge::edge_line` meets its contract: nothing or no line, a field that is no number, numbers that do not pass, or the key of an edge.
+-- `joblines::edge::edge_line` meets its contract: nothing or no line, a field that is no number, numbers that do not pass, or the key of an edge.
 -- Assumes nothing.
 use mathlib.Core.Path.{sym, _∙_}
 use native.Mathlib.Omega.{arith}

@@ -1,4 +1,4 @@
--- `reader::edge::edge_lines` meets its contract.
+-- `joblines::edge::edge_lines` meets its contract.
 -- Invariant: the first e lines pass and their targets are stored; `next` is one more than the key of the last; the starts of the nodes up to its
 -- source are stored. Measure: the lines still to be read.
 -- Assumes nothing.

@@ -1,4 +1,4 @@
--- `reader::edge::fill_starts` meets its contract.
+-- `joblines::edge::fill_starts` meets its contract.
 -- Invariant: the starts from a up to j are v, and nothing else differs. Measure: the starts still to be stored.
 -- Assumes nothing.
 use Prim.Native.Nat.{_≤_, _-_}

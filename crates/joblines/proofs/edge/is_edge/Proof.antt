@@ -1,4 +1,4 @@
--- `reader::edge::is_edge` meets its contract: each test that fails denies one part, and past them edges ascend as their keys do.
+-- `joblines::edge::is_edge` meets its contract: each test that fails denies one part, and past them edges ascend as their keys do.
 -- Assumes nothing.
 use native.Mathlib.Omega.{arith}
 use borrow.Author.Needs.{needs}

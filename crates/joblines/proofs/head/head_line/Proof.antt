@@ -1,4 +1,4 @@
--- `reader::head::head_line` meets its contract: nothing or no line, numbers outside their limits, or the numbers.
+-- `joblines::head::head_line` meets its contract: nothing or no line, numbers outside their limits, or the numbers.
 -- Assumes nothing.
 use borrow.Author.Needs.{needs}
 use Rattle.joblines.proofs.HeadLaws.{head-stop, head-fails, head-found}

@@ -1,4 +1,4 @@
--- `reader::head::is_head` meets its contract: each test that fails denies one limit, and past them the last one is the whole.
+-- `joblines::head::is_head` meets its contract: each test that fails denies one limit, and past them the last one is the whole.
 -- Assumes nothing.
 use borrow.Author.Tests.{le-leb, lt-leb}
 use Rattle.joblines.proofs.head.is_head.Statement.{statement}

@@ -1,4 +1,4 @@
--- `reader::head::turned_back` meets its contract: the number, and zeros beside it.
+-- `joblines::head::turned_back` meets its contract: the number, and zeros beside it.
 -- Assumes nothing.
 use mathlib.Core.Path.{refl}
 use Rattle.joblines.proofs.head.turned_back.Statement.{statement}

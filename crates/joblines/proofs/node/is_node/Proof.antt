@@ -1,4 +1,4 @@
--- `reader::node::is_node` meets its contract: each test that fails denies one part of `goodNode`.
+-- `joblines::node::is_node` meets its contract: each test that fails denies one part of `goodNode`.
 -- Assumes nothing.
 use mathlib.Core.Path.{sym, _∙_}
 use borrow.Author.Needs.{needs}

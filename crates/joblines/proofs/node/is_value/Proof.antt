@@ -1,4 +1,4 @@
--- `reader::node::is_value` meets its contract, by cases on the kind.
+-- `joblines::node::is_value` meets its contract, by cases on the kind.
 -- Assumes nothing.
 use mathlib.Core.Path.{sym}
 use borrow.Author.Needs.{needs}

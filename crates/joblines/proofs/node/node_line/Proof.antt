@@ -1,4 +1,4 @@
--- `reader::node::node_line` meets its contract: nothing or no line, a field that is no number, numbers that do not pass, or a node that is stored.
+-- `joblines::node::node_line` meets its contract: nothing or no line, a field that is no number, numbers that do not pass, or a node that is stored.
 -- Assumes nothing.
 use mathlib.Core.Path.{sym, _∙_}
 use native.Mathlib.Omega.{arith}

@@ -1,4 +1,4 @@
--- `reader::node::node_lines` meets its contract.
+-- `joblines::node::node_lines` meets its contract.
 -- Invariant: the first n lines pass, their nodes are stored, and sum is that of their entry sets. Measure: the lines still to be read.
 -- Assumes nothing.
 use Prim.Native.Nat.{_≤_, _-_}

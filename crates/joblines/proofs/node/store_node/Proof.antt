@@ -1,4 +1,4 @@
--- `reader::node::store_node` meets its contract: each number is read back from its own bytes, and no other byte differs.
+-- `joblines::node::store_node` meets its contract: each number is read back from its own bytes, and no other byte differs.
 -- Assumes nothing.
 use native.Mathlib.Omega.{arith}
 use borrow.Author.Needs.{needs}

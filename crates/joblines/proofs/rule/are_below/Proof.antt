@@ -1,4 +1,4 @@
--- `reader::rule::are_below` meets its contract.
+-- `joblines::rule::are_below` meets its contract.
 -- Invariant: the first c next states are below S. Measure: the next states still to be looked at.
 -- Assumes nothing.
 use Prim.Native.Nat.{ℕ, _+_, _≤_, _-_}

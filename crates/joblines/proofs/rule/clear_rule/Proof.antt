@@ -1,4 +1,4 @@
--- `reader::rule::clear_rule` meets its contract.
+-- `joblines::rule::clear_rule` meets its contract.
 -- Invariant: the first k bytes of the part are zero, and nothing else differs. Measure: the bytes still to be cleared.
 -- Assumes nothing.
 use Prim.Native.Nat.{ℕ, _+_, _≤_, _<_, _-_}

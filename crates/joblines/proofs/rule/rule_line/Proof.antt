@@ -1,4 +1,4 @@
--- `reader::rule::rule_line` meets its contract: nothing or no line, one of the three tests fails, or a row that is stored.
+-- `joblines::rule::rule_line` meets its contract: nothing or no line, one of the three tests fails, or a row that is stored.
 -- Assumes nothing.
 use borrow.Author.Needs.{needs}
 use lib.ListN.{drop}

@@ -1,4 +1,4 @@
--- `reader::rule::rule_lines` meets its contract.
+-- `joblines::rule::rule_lines` meets its contract.
 -- Invariant: the first q lines pass, their rows are stored, and finals is the set of their final states. Measure: the lines still to be read.
 -- Assumes nothing.
 use Prim.Native.Nat.{_≤_, _-_}

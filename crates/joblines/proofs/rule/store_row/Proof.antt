@@ -1,4 +1,4 @@
--- `reader::rule::store_row` meets its contract.
+-- `joblines::rule::store_row` meets its contract.
 -- Invariant: the first c cells of the row are stored, and nothing else differs. Measure: the cells still to be stored.
 -- Assumes nothing.
 use Prim.Native.Nat.{_≤_, _-_}

@@ -1,4 +1,4 @@
--- `findings::list::list_held` meets its contract: what is found is the job's, and its lines are written.
+-- `listings::list::list_held` meets its contract: what is found is the job's, and its lines are written.
 -- Assumes nothing.
 use borrow.Author.Needs.{needs}
 use Rattle.checking.proofs.CheckLaws.{table-usable}

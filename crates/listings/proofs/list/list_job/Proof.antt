@@ -1,4 +1,4 @@
--- `findings::list::list_job` meets its contract: refusals 1 and 2, the file's own, then the listing of the job that was read; what is left in
+-- `listings::list::list_job` meets its contract: refusals 1 and 2, the file's own, then the listing of the job that was read; what is left in
 -- the work buffer is cleared.
 -- Assumes nothing.
 use mathlib.Core.Path.{_∙_}

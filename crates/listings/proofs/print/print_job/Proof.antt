@@ -1,9 +1,9 @@
--- `findings::print::print_job` meets its contract: the answer of `list_job` is a length, and the listing is written, or a refusal's
+-- `listings::print::print_job` meets its contract: the answer of `list_job` is a length, and the listing is written, or a refusal's
 -- number, and its X line is.
 -- Assumes nothing.
 use lib.ListN.{length}
 use borrow.Author.Needs.{needs}
-use Rattle.listings.proofs.PrintLaws.{listing-printed, refusal-fits, refusal-printed}
+use Rattle.listings.proofs.PrintLaws.{print-left, listing-printed, refusal-fits, refusal-printed}
 use Rattle.listings.proofs.print.print_job.Statement.{statement}
 use Rattle.listings.proofs.print.print_job.Tie as tie
 
@@ -37,8 +37,11 @@ returns c =
     let start = call .before .before .before .before .before .before in
     let x = start .args in
     let r = call .list-job in
-    listing-printed (x .file .now) (x .out .now) (r .last .1 .1 .0) (length (x .work .now)) (r .result) (start .pre .0) (start .pre .1)
-    (r .ensures .0) (r .ensures .2) (c .before .listed .given .0 .0) (c .before .listed .given .1)
+    let printed = listing-printed (x .file .now) (x .out .now) (r .last .1 .1 .0) (length (x .work .now)) (r .result) (start .pre .0) (start .pre .1)
+    (r .ensures .0) (r .ensures .2) (c .before .listed .given .0 .0) (c .before .listed .given .1) in
+    let left = print-left (x .file .now) (x .out .now) (r .last .1 .1 .0) (length (x .work .now)) (r .result) (start .pre .0) (start .pre .1)
+    (r .ensures .0) (r .ensures .2) _ _ (r .ensures .1) in
+    (printed .0, printed .1, printed .2, left)
 
 same-length-3 : tie.Need-same-length-3
 same-length-3 c = search needs
@@ -52,8 +55,11 @@ returns-2 c =
     let start = call .before .before .before .before .before .before in
     let x = start .args in
     let r = call .list-job in
-    refusal-printed (x .file .now) (x .out .now) (r .last .1 .1 .0) (length (x .work .now)) (r .result) (start .pre .0) (start .pre .1)
-    (r .ensures .0) (r .ensures .2) (c .before .before .before .before .before .listed2 .given .0 .0) (c .before .before .before .before .before .listed2 .given .1) _ (c .before .before .write-refusal-line .ensures)
+    let printed = refusal-printed (x .file .now) (x .out .now) (r .last .1 .1 .0) (length (x .work .now)) (r .result) (start .pre .0) (start .pre .1)
+    (r .ensures .0) (r .ensures .2) (c .before .before .before .before .before .listed2 .given .0 .0) (c .before .before .before .before .before .listed2 .given .1) _ (c .before .before .write-refusal-line .ensures) in
+    let left = print-left (x .file .now) (x .out .now) (r .last .1 .1 .0) (length (x .work .now)) (r .result) (start .pre .0) (start .pre .1)
+    (r .ensures .0) (r .ensures .2) _ _ (r .ensures .1) in
+    (printed .0, printed .1, printed .2, left)
 
 pub print-job-spec : {M : Type 1} → statement M
 print-job-spec =

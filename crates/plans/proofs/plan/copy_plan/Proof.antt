@@ -1,4 +1,4 @@
--- `planning::plan::copy_plan` meets its contract.
+-- `plans::plan::copy_plan` meets its contract.
 -- Invariant: the first n bytes of the plan are copied. Measure: the bytes still to be copied.
 -- Assumes nothing.
 use mathlib.Core.Path.{_≡_, ap, _∙_}

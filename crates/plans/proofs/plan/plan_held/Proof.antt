@@ -1,4 +1,4 @@
--- `planning::plan::plan_held` meets its contract: after words, planning, and the plan copied.
+-- `plans::plan::plan_held` meets its contract: after words, planning, and the plan copied.
 -- Assumes nothing.
 use borrow.Author.Needs.{needs}
 use Rattle.checking.proofs.CheckLaws.{table-usable, after-usable}

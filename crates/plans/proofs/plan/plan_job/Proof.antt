@@ -1,4 +1,4 @@
--- `planning::plan::plan_job` meets its contract: refusals 1 and 2, the file's own, then the plan of the job that was read; what is left in the
+-- `plans::plan::plan_job` meets its contract: refusals 1 and 2, the file's own, then the plan of the job that was read; what is left in the
 -- work buffer is cleared.
 -- Assumes nothing.
 use mathlib.Core.Path.{_∙_}

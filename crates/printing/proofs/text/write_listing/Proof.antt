@@ -1,4 +1,4 @@
--- `findings::text::write_listing` meets its contract: the W lines, and the T line after them.
+-- `printing::text::write_listing` meets its contract: the W lines, and the T line after them.
 -- Assumes nothing.
 use borrow.Author.Needs.{needs}
 use Rattle.printing.proofs.TextLaws.{lines-written}

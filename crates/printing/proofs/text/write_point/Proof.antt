@@ -1,4 +1,4 @@
--- `findings::text::write_point` meets its contract: no line at a node that is no shadow, and at a shadow the line of what is read there.
+-- `printing::text::write_point` meets its contract: no line at a node that is no shadow, and at a shadow the line of what is read there.
 -- Assumes nothing.
 use mathlib.Core.Path.{sym, ap, _∙_}
 use native.Mathlib.Omega.{arith}

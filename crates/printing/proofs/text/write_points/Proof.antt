@@ -1,4 +1,4 @@
--- `findings::text::write_points` meets its contract.
+-- `printing::text::write_points` meets its contract.
 -- Invariant: the lines of the nodes before n are stored, and storing the others from `at` on leaves what storing all leaves.
 -- Measure: the nodes still to be written.
 -- Assumes nothing.

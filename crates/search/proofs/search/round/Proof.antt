@@ -3,7 +3,7 @@
 -- are closed but for its edges, and `quads` has their pairs past the node, which the edges then get.
 -- Measure: the nodes, and within a node the set of rows, still to be looked at.
 -- Assumes nothing.
-use Prim.Native.Nat.{ℕ, _-_, _<_}
+use Prim.Native.Nat.{_-_}
 use mathlib.Core.Path.{_≡_, refl, _∙_}
 use native.Mathlib.Omega.{arith}
 use borrow.Author.Needs.{needs}
