@@ -1,6 +1,6 @@
 //! Nanoseconds for one event: the library's call beside a plain Rust step that makes the same tests
 //! on the same 256 bytes in place. `cargo bench --offline` runs it.
-use dapohiru::{event, Refusal, Report};
+use dapohiru::event;
 use std::hint::black_box;
 use std::time::Instant;
 
@@ -8,53 +8,6 @@ use std::time::Instant;
 const EVENTS: usize = 2_000;
 /// Repetitions of each step, taken in turn.
 const REPETITIONS: usize = 501;
-
-/// The event step in plain Rust.
-#[inline(never)]
-fn plain(
-    rule: &[u8],
-    states: u64,
-    symbols: u64,
-    finals: u64,
-    symbol: u64,
-    record: &mut [u8],
-) -> Result<Report, Refusal> {
-    let count = 1..=16;
-    if rule.len() != 256
-        || !count.contains(&states)
-        || !count.contains(&symbols)
-        || finals >> states != 0
-    {
-        return Err(Refusal(13));
-    }
-    for row in rule.chunks_exact(16).take(states as usize) {
-        if row[..symbols as usize]
-            .iter()
-            .any(|&next| u64::from(next) >= states)
-        {
-            return Err(Refusal(13));
-        }
-    }
-    if symbol >= symbols {
-        return Err(Refusal(14));
-    }
-    let Ok(record) = <&mut [u8; 16]>::try_from(record) else {
-        return Err(Refusal(15));
-    };
-    let (state_bytes, total_bytes) = record.split_at_mut(8);
-    let state = u64::from_le_bytes(state_bytes[..8].try_into().unwrap());
-    if state >= states {
-        return Err(Refusal(15));
-    }
-    let next = u64::from(rule[(16 * state + symbol) as usize]);
-    state_bytes.copy_from_slice(&next.to_le_bytes());
-    if finals >> next & 1 == 0 {
-        return Ok(Report::Quiet);
-    }
-    let total = u64::from_le_bytes(total_bytes[..8].try_into().unwrap());
-    total_bytes.copy_from_slice(&total.saturating_add(1).to_le_bytes());
-    Ok(Report::Alarm)
-}
 
 /// A rule of `size` states and symbols, and the events to take.
 struct Load {
@@ -113,7 +66,7 @@ fn main() {
         let (mut ours, mut theirs) = (Vec::new(), Vec::new());
         for _ in 0..REPETITIONS {
             let (our_time, our_record) = time!(event, &load);
-            let (their_time, their_record) = time!(plain, &load);
+            let (their_time, their_record) = time!(plain::event::event, &load);
             assert_eq!(our_record, their_record, "the two steps differ");
             ours.push(our_time);
             theirs.push(their_time);

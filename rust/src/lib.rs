@@ -1,7 +1,101 @@
 //! Planning, listing, the plan check and the event step of the monitor, for Rust: safe forms of the C
 //! calls in the proved static library.
-//! A refusal carries its number in document 01, "Turned back, by number".
+//!
+//! A job file holds a rule over events and the flow graph of a procedure. [`plan`] says which points of
+//! the graph must stay watched, [`list`] what was found at each, [`check`] whether somebody else's plan
+//! is faithful, and [`event`] (or [`Rule::event`]) takes one event on the record of a running monitor.
+//! A refusal carries its number in "Turned back, by
+//! number". The functions of [`numbers`] are the C calls as they are.
+//!
+//! The calls keep nothing between them and share nothing: any number of threads may be in them, each
+//! with buffers and a record of its own. No function here panics or allocates.
+//!
+//! # One job from plan to alarm
+//! The procedure PAIR seals a batch, seals it again and writes to it; a write to a sealed batch is an
+//! alarm. Either seal may go unwatched, not both.
+//!
+//! ```
+//! use dapohiru::{check, plan, Counts, Record, Report, Rule, Verdict, PLAN_LEN, WORK_LEN};
+//!
+//! # fn main() -> Result<(), dapohiru::Refusal> {
+//! let job = b"\
+//! J     3     3     3     2
+//! R     0     0     1     0     0
+//! R     1     0     1     0     2
+//! R     2     1     1     0     2
+//! P     0     1     0     1     0     0
+//! P     1     1     0     0     0     0
+//! P     2     1     2     0     1     0
+//! F     0     1
+//! F     1     2
+//! ";
+//! let mut work = vec![0; WORK_LEN];
+//!
+//! // The plan: one byte for each node, here 0 to 2.
+//! let mut bytes = [0; PLAN_LEN];
+//! let counts = plan(job, &mut bytes, &mut work)?;
+//! assert_eq!(counts, Counts { points: 3, watched: 2, passes: 2 });
+//! let plan = &bytes[..3];
+//! assert_eq!(plan, [0, 1, 1]);
+//!
+//! // Plans of one's own: without the second seal, and without both.
+//! assert_eq!(check(job, &[1, 0, 1], &mut work)?, Verdict::Faithful);
+//! assert_eq!(check(job, &[0, 0, 1], &mut work)?, Verdict::Different);
+//!
+//! // Two monitors on the walk seal, seal, write: one has all points watched, one is under the plan.
+//! let mut table = [0; 256];
+//! table[..3].copy_from_slice(&[1, 0, 0]);
+//! table[16..19].copy_from_slice(&[1, 0, 2]);
+//! table[32..35].copy_from_slice(&[1, 0, 2]);
+//! let rule = Rule { table, states: 3, symbols: 3, finals: 0b100 };
+//! let (mut full, mut planned) = (Record::default(), Record::default());
+//! for (node, symbol) in [(0, 0), (1, 0), (2, 2)] {
+//!     let report = rule.event(symbol, &mut full)?;
+//!     let under_plan = match plan[node] {
+//!         1 => rule.event(symbol, &mut planned)?,
+//!         _ => Report::Quiet,
+//!     };
+//!     assert_eq!(report, under_plan);
+//!     assert_eq!(full.alarms, planned.alarms);
+//! }
+//! assert_eq!(planned, Record { state: 2, alarms: 1 });
+//! # Ok(())
+//! # }
+//! ```
+//!
+//! # Threads
+//! A monitor is its record. Monitors of one rule share the rule and nothing else:
+//!
+//! ```
+//! use dapohiru::{Record, Report, Rule};
+//! use std::thread;
+//!
+//! // one state, which is final
+//! let rule = Rule { table: [0; 256], states: 1, symbols: 1, finals: 1 };
+//! let mut batches = [Record::default(); 4];
+//! thread::scope(|scope| {
+//!     for record in &mut batches {
+//!         let rule = &rule;
+//!         scope.spawn(move || {
+//!             for _ in 0..1_000 {
+//!                 assert_eq!(rule.event(0, record), Ok(Report::Alarm));
+//!             }
+//!         });
+//!     }
+//! });
+//! assert!(batches.iter().all(|record| record.alarms == 1_000));
+//! ```
+pub mod numbers;
+mod record;
+
+pub use record::{Record, Rule};
+
 use std::{error, fmt};
+
+/// The Rust code of docs/SERVICE.md, to be compiled with the examples.
+#[cfg(doctest)]
+#[doc = include_str!("../../docs/SERVICE.md")]
+struct Service;
 
 /// The C calls of the static library.
 mod ffi {
@@ -58,38 +152,19 @@ pub const WORK_LEN: usize = 65_536;
 pub const PLAN_LEN: usize = 512;
 /// The least length of a listing buffer.
 pub const LISTING_LEN: usize = 32_768;
-
-/// The number of an accepted event without an alarm.
-const QUIET: u64 = 1 << 48;
-/// The number of an accepted event with an alarm.
-const ALARM: u64 = QUIET + 1;
-
-/// What the monitor reports of an event that it takes.
-#[derive(Clone, Copy, Debug, PartialEq, Eq)]
-pub enum Report {
-    /// The state moved to is not final.
-    Quiet,
-    /// The state moved to is final.
-    Alarm,
-}
-
-/// The number of a faithful plan.
-const FAITHFUL: u64 = 1 << 48;
-/// The number of a plan that is not faithful.
-const DIFFERENT: u64 = FAITHFUL + 1;
-
-/// What the plan check finds.
-#[derive(Clone, Copy, Debug, PartialEq, Eq)]
-pub enum Verdict {
-    /// On every walk, from every admitted start, the monitor under the plan and the one with all
-    /// points watched alarm at the same events.
-    Faithful,
-    /// There is a walk on which they do not.
-    Different,
-}
+/// The length of a rule.
+pub const RULE_LEN: usize = 256;
+/// The length of a record.
+pub const RECORD_LEN: usize = 16;
 
 /// The number of a refusal: 1 for the file's length, 2 for a buffer, 3 to 10 for what the file holds,
 /// 11 and 12 for the plan, 13 for the rule, 14 for the symbol, 15 for the record.
+///
+/// ```
+/// let refusal = dapohiru::plan(b"", &mut [0; 512], &mut [0; 65_536]).unwrap_err();
+/// assert_eq!(refusal, dapohiru::Refusal(3));
+/// assert_eq!(refusal.to_string(), "refused 3");
+/// ```
 #[derive(Clone, Copy, Debug, PartialEq, Eq)]
 pub struct Refusal(pub u64);
 
@@ -100,36 +175,6 @@ impl fmt::Display for Refusal {
 }
 
 impl error::Error for Refusal {}
-
-/// Checks a plan: whether it is faithful to the job of a job file.
-///
-/// `plan` is one byte for each node, 1 at a watched point and 0 at all else. `work` is at least 65,536
-/// bytes. Refusals 1 and 2 leave `work` as it was. After any other answer its first 65,536 bytes are
-/// zero, and the rest is as it was.
-#[inline]
-pub fn check(job: &[u8], plan: &[u8], work: &mut [u8]) -> Result<Verdict, Refusal> {
-    // SAFETY: each pointer and length are of one slice, `job` and `plan` are only read, and nothing
-    // else holds `work` during the call.
-    let number = unsafe {
-        ffi::dapohiru_check(
-            job.as_ptr(),
-            job.len(),
-            plan.as_ptr(),
-            plan.len(),
-            work.as_mut_ptr(),
-            work.len(),
-        )
-    };
-    match number {
-        FAITHFUL => Ok(Verdict::Faithful),
-        DIFFERENT => Ok(Verdict::Different),
-        1..=12 => Err(Refusal(number)),
-        _ => unreachable!("dapohiru_check returned {number}, which is none of its answers"),
-    }
-}
-
-/// What is added to the counts of accepted planning, and to the length of a listing.
-const ACCEPTED: u64 = 1 << 48;
 
 /// What planning counts.
 #[derive(Clone, Copy, Debug, PartialEq, Eq)]
@@ -142,34 +187,62 @@ pub struct Counts {
     pub passes: u64,
 }
 
+/// What the plan check finds.
+#[derive(Clone, Copy, Debug, PartialEq, Eq)]
+pub enum Verdict {
+    /// On every walk, from every admitted start, the monitor under the plan and the one with all
+    /// points watched alarm at the same events.
+    Faithful,
+    /// There is a walk on which they do not.
+    Different,
+}
+
+/// What the monitor reports of an event that it takes.
+#[derive(Clone, Copy, Debug, PartialEq, Eq)]
+pub enum Report {
+    /// The state moved to is not final.
+    Quiet,
+    /// The state moved to is final.
+    Alarm,
+}
+
 /// Plans: writes the plan of the job of a job file to the start of `plan`, and gives the counts.
 ///
 /// The plan is one byte for each node, 1 at a watched point and 0 at all else; bytes of `plan` past
-/// them are as they were. `plan` is at least 512 bytes, and `work` at least 65,536. A refusal leaves
-/// `plan` as it was. Refusals 1 and 2 leave `work` as it was; after any other answer its first 65,536
-/// bytes are zero, and the rest is as it was.
+/// them are as they were. `plan` is at least 512 bytes, and `work` at least 65,536.
+///
+/// Refused are 1 to 10. A refusal leaves `plan` as it was. Refusals 1 and 2 leave `work` as it was;
+/// after any other answer its first 65,536 bytes are zero, and the rest is as it was.
+///
+/// ```
+/// use dapohiru::{plan, Refusal, PLAN_LEN, WORK_LEN};
+///
+/// let (mut bytes, mut work) = ([7; PLAN_LEN], vec![7; WORK_LEN]);
+/// // one state and one node, an event that is the entry; nothing can alarm
+/// let job = b"\
+/// J     1     1     1     0
+/// R     0     0     0
+/// P     0     1     0     1     0     0
+/// ";
+/// let counts = plan(job, &mut bytes, &mut work).unwrap();
+/// assert_eq!((counts.points, counts.watched, counts.passes), (1, 0, 2));
+/// assert_eq!(bytes[..2], [0, 7]);
+/// assert!(work.iter().all(|&byte| byte == 0));
+///
+/// // a cut line is refused as 4, and the plan stays
+/// assert_eq!(plan(&job[..9], &mut bytes, &mut work), Err(Refusal(4)));
+/// assert_eq!(bytes[..2], [0, 7]);
+/// ```
 #[inline]
 pub fn plan(job: &[u8], plan: &mut [u8], work: &mut [u8]) -> Result<Counts, Refusal> {
-    // SAFETY: each pointer and length are of one slice, `job` is only read, and nothing else holds
-    // `plan` and `work` during the call.
-    let number = unsafe {
-        ffi::dapohiru_plan(
-            job.as_ptr(),
-            job.len(),
-            work.as_mut_ptr(),
-            work.len(),
-            plan.as_mut_ptr(),
-            plan.len(),
-        )
-    };
-    match number {
-        1..=10 => Err(Refusal(number)),
-        _ if number & !0xffff_ffff_ffff == ACCEPTED => Ok(Counts {
+    let number = numbers::plan(job, work, plan);
+    match number >> 48 {
+        1 => Ok(Counts {
             points: number >> 32 & 0xffff,
             watched: number >> 16 & 0xffff,
             passes: number & 0xffff,
         }),
-        _ => unreachable!("dapohiru_plan returned {number}, which is none of its answers"),
+        _ => Err(Refusal(number)),
     }
 }
 
@@ -177,33 +250,93 @@ pub fn plan(job: &[u8], plan: &mut [u8], work: &mut [u8]) -> Result<Counts, Refu
 /// length.
 ///
 /// Bytes of `listing` past the lines are as they were. `listing` is at least 32,768 bytes, and `work`
-/// at least 65,536. A refusal leaves `listing` as it was. Refusals 1 and 2 leave `work` as it was;
+/// at least 65,536.
+///
+/// Refused are 1 to 10. A refusal leaves `listing` as it was. Refusals 1 and 2 leave `work` as it was;
 /// after any other answer its first 65,536 bytes are zero, and the rest is as it was.
+///
+/// ```
+/// use dapohiru::{list, Refusal, LISTING_LEN, WORK_LEN};
+///
+/// let (mut listing, mut work) = (vec![b'?'; LISTING_LEN], vec![0; WORK_LEN]);
+/// let job = b"\
+/// J     1     1     1     0
+/// R     0     0     0
+/// P     0     1     0     1     0     0
+/// ";
+/// let len = list(job, &mut listing, &mut work).unwrap();
+/// let lines = b"\
+/// W     0     0     1     1     1     0
+/// T     1     0     2
+/// ";
+/// assert_eq!(&listing[..len], lines);
+/// assert_eq!(listing[len], b'?');
+///
+/// assert_eq!(list(job, &mut listing[1..], &mut work), Err(Refusal(2)));
+/// ```
 #[inline]
 pub fn list(job: &[u8], listing: &mut [u8], work: &mut [u8]) -> Result<usize, Refusal> {
-    // SAFETY: each pointer and length are of one slice, `job` is only read, and nothing else holds
-    // `listing` and `work` during the call.
-    let number = unsafe {
-        ffi::dapohiru_list(
-            job.as_ptr(),
-            job.len(),
-            work.as_mut_ptr(),
-            work.len(),
-            listing.as_mut_ptr(),
-            listing.len(),
-        )
-    };
-    match number.checked_sub(ACCEPTED) {
-        None if (1..=10).contains(&number) => Err(Refusal(number)),
+    let number = numbers::list(job, work, listing);
+    match number.checked_sub(numbers::ACCEPTED) {
         Some(len) if len <= listing.len() as u64 => Ok(len as usize),
-        _ => unreachable!("dapohiru_list returned {number}, which is none of its answers"),
+        _ => Err(Refusal(number)),
+    }
+}
+
+/// Checks a plan: whether it is faithful to the job of a job file.
+///
+/// `plan` is one byte for each node, 1 at a watched point and 0 at all else. `work` is at least 65,536
+/// bytes.
+///
+/// Refused are 1 to 12. Refusals 1 and 2 leave `work` as it was. After any other answer its first
+/// 65,536 bytes are zero, and the rest is as it was.
+///
+/// ```
+/// use dapohiru::{check, Refusal, Verdict, WORK_LEN};
+///
+/// let mut work = vec![0; WORK_LEN];
+/// // the only state is final, so that the point alarms at every visit
+/// let job = b"\
+/// J     1     1     1     0
+/// R     0     1     0
+/// P     0     1     0     1     0     0
+/// ";
+/// assert_eq!(check(job, &[1], &mut work), Ok(Verdict::Faithful));
+/// assert_eq!(check(job, &[0], &mut work), Ok(Verdict::Different));
+/// assert_eq!(check(job, &[0, 0], &mut work), Err(Refusal(11)));
+/// assert_eq!(check(job, &[2], &mut work), Err(Refusal(12)));
+/// ```
+#[inline]
+pub fn check(job: &[u8], plan: &[u8], work: &mut [u8]) -> Result<Verdict, Refusal> {
+    match numbers::check(job, plan, work) {
+        numbers::ACCEPTED => Ok(Verdict::Faithful),
+        numbers::DIFFERENT => Ok(Verdict::Different),
+        number => Err(Refusal(number)),
     }
 }
 
 /// Takes one event: moves the record to the next state, and raises its alarm total at an alarm.
 ///
-/// `rule` is 256 bytes, sixteen rows of sixteen next states. `record` is 16 bytes, the state and
-/// then the alarm total, each with its lowest byte first. A refusal leaves `record` as it was.
+/// `rule` is 256 bytes, sixteen rows of sixteen next states; those past `states` rows and `symbols`
+/// columns have no meaning. `finals` is the set of final states, bit q for state q. `record` is 16
+/// bytes, the state and then the alarm total, each with its lowest byte first; the total stays at
+/// 2^64-1 once there.
+///
+/// Refused are 13 to 15. A refusal leaves `record` as it was.
+///
+/// ```
+/// use dapohiru::{event, Refusal, Report};
+///
+/// // two states that take turns on the only symbol; 1 is final
+/// let mut rule = [0; 256];
+/// rule[0] = 1;
+/// let mut record = [0; 16];
+/// assert_eq!(event(&rule, 2, 1, 0b10, 0, &mut record), Ok(Report::Alarm));
+/// assert_eq!(record, [1, 0, 0, 0, 0, 0, 0, 0, 1, 0, 0, 0, 0, 0, 0, 0]);
+/// assert_eq!(event(&rule, 2, 1, 0b10, 1, &mut record), Err(Refusal(14)));
+/// assert_eq!(event(&rule, 2, 1, 0b10, 0, &mut record), Ok(Report::Quiet));
+/// assert_eq!(record, [0, 0, 0, 0, 0, 0, 0, 0, 1, 0, 0, 0, 0, 0, 0, 0]);
+/// ```
 #[inline]
 pub fn event(
     rule: &[u8],
@@ -213,80 +346,9 @@ pub fn event(
     symbol: u64,
     record: &mut [u8],
 ) -> Result<Report, Refusal> {
-    // SAFETY: each pointer and length are of one slice, `rule` is only read, and nothing else holds
-    // `record` during the call.
-    let number = unsafe {
-        ffi::dapohiru_event(
-            rule.as_ptr(),
-            rule.len(),
-            states,
-            symbols,
-            finals,
-            symbol,
-            record.as_mut_ptr(),
-            record.len(),
-        )
-    };
-    match number {
-        QUIET => Ok(Report::Quiet),
-        ALARM => Ok(Report::Alarm),
-        13..=15 => Err(Refusal(number)),
-        _ => unreachable!("dapohiru_event returned {number}, which is none of its answers"),
-    }
-}
-
-/// A rule: states 0 to `states` - 1, symbols 0 to `symbols` - 1.
-#[derive(Clone, Debug, PartialEq, Eq)]
-pub struct Rule {
-    /// The next state of state q on symbol a, at 16 q + a; other places have no meaning.
-    pub table: [u8; 256],
-    /// How many states there are, 1 to 16.
-    pub states: u64,
-    /// How many symbols there are, 1 to 16.
-    pub symbols: u64,
-    /// The set of final states: bit q stands for state q.
-    pub finals: u64,
-}
-
-impl Rule {
-    /// Takes one event on `record`. A refusal leaves `record` as it was.
-    pub fn event(&self, symbol: u64, record: &mut Record) -> Result<Report, Refusal> {
-        let mut bytes = record.to_bytes();
-        let report = event(
-            &self.table,
-            self.states,
-            self.symbols,
-            self.finals,
-            symbol,
-            &mut bytes,
-        )?;
-        *record = Record::from_bytes(bytes);
-        Ok(report)
-    }
-}
-
-/// A running monitor.
-#[derive(Clone, Copy, Debug, Default, PartialEq, Eq)]
-pub struct Record {
-    /// The state that the monitor is in.
-    pub state: u64,
-    /// The alarms so far; the total stays at 2^64-1 once there.
-    pub alarms: u64,
-}
-
-impl Record {
-    /// The sixteen bytes of the C call: the state, then the alarm total, each with its lowest byte first.
-    pub fn to_bytes(self) -> [u8; 16] {
-        let both = u128::from(self.alarms) << 64 | u128::from(self.state);
-        both.to_le_bytes()
-    }
-
-    /// The record that has these sixteen bytes.
-    pub fn from_bytes(bytes: [u8; 16]) -> Self {
-        let both = u128::from_le_bytes(bytes);
-        Record {
-            state: both as u64,
-            alarms: (both >> 64) as u64,
-        }
+    match numbers::event(rule, states, symbols, finals, symbol, record) {
+        numbers::ACCEPTED => Ok(Report::Quiet),
+        numbers::ALARM => Ok(Report::Alarm),
+        number => Err(Refusal(number)),
     }
 }

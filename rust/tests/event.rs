@@ -1,58 +1,19 @@
 //! The event step of the library, beside a second implementation and by itself.
-mod calls;
-mod second;
+mod library;
 
-use calls::Call;
 use dapohiru::{event, Record, Refusal, Report, Rule};
-use second::{Answer, Second, Slip};
+use library::LIBRARY;
 use walks::random::Random;
+use walks::stepping::{Answer, Call, Second, Slip};
 
 /// What the library answers, with the record altered as it does.
 fn answer(call: &mut Call) -> Answer {
-    let (states, symbols, finals, symbol) = (call.states, call.symbols, call.finals, call.symbol);
-    let (rule, record) = call.lend();
-    match event(rule, states, symbols, finals, symbol, record) {
-        Ok(Report::Quiet) => Answer::Quiet,
-        Ok(Report::Alarm) => Answer::Alarm,
-        Err(Refusal(number)) => Answer::Refused(number),
-    }
-}
-
-/// What the second implementation answers, with the record altered as it does.
-fn second_answer(second: Second, call: &mut Call) -> Answer {
-    let (states, symbols, finals, symbol) = (call.states, call.symbols, call.finals, call.symbol);
-    let (rule, record) = call.lend();
-    second.event(rule, states, symbols, finals, symbol, record)
+    walks::stepping::answer(LIBRARY, call)
 }
 
 /// What a comparison of one call finds: the library's answer, or in words how the two differ.
 fn compare(second: Second, call: &Call) -> Result<Answer, String> {
-    let (mut ours, mut theirs) = (call.clone(), call.clone());
-    let (answer, wanted) = (answer(&mut ours), second_answer(second, &mut theirs));
-    let what = if answer != wanted {
-        format!("the answer is {answer:?}, and {wanted:?} by the second implementation")
-    } else if ours.record() != theirs.record() {
-        format!(
-            "after {answer:?} the record is {:?}, and {:?} by the second implementation",
-            ours.record(),
-            theirs.record()
-        )
-    } else if ours.around != theirs.around {
-        format!("{answer:?} changes bytes beside the record")
-    } else if ours.rule() != call.rule() {
-        format!("{answer:?} changes the rule")
-    } else {
-        return Ok(answer);
-    };
-    Err(format!(
-        "{what}; S {}, A {}, finals {:#x}, symbol {}, record {:?}, rule {:?}",
-        call.states,
-        call.symbols,
-        call.finals,
-        call.symbol,
-        call.record(),
-        call.rule()
-    ))
+    walks::stepping::compare(LIBRARY, second, call)
 }
 
 /// The PAIR rule of document 01: symbols seal, reopen and write.

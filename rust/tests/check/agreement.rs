@@ -1,8 +1,8 @@
 //! The library and the second implementation on the same calls.
-use crate::cases::{cases, Case};
-use crate::memory::{Memory, Said};
+use crate::library::LIBRARY;
 use plain::check::Checker;
 use walks::call::WORK;
+use walks::checking::{cases, Case, Memory, Said};
 use walks::features::Features;
 use walks::job::Job;
 use walks::large::{self, Order};
@@ -27,7 +27,7 @@ fn needs_a_long_call_word(job: &Job) -> bool {
 fn small_jobs_with_all_their_plans_agree_with_the_walks() {
     const JOBS: usize = 8_000;
     let mut random = Random::of_this_run();
-    let mut memory = Memory::new();
+    let mut memory = Memory::new(LIBRARY);
     let mut counts = Counts::default();
     let mut features = [0; 5];
     let mut long_words = 0;
@@ -72,7 +72,7 @@ fn small_jobs_with_all_their_plans_agree_with_the_walks() {
 fn jobs_of_512_nodes_agree_with_the_walks() {
     const JOBS: u64 = 40;
     let mut random = Random::of_this_run();
-    let mut memory = Memory::new();
+    let mut memory = Memory::new(LIBRARY);
     let mut checker = Checker::default();
     let mut counts = Counts::default();
     for number in 0..JOBS {

@@ -1,9 +1,7 @@
 //! The plan check of the library, beside a second implementation that walks, and by itself.
 mod agreement;
-mod cases;
-mod memory;
-#[path = "../records/mod.rs"]
-mod records;
+#[path = "../library/mod.rs"]
+mod library;
 mod refusals;
 mod replay;
 mod sizes;

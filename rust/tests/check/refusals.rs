@@ -1,7 +1,7 @@
 //! Every refusal, alone and beside another fault.
-use crate::cases::Case;
-use crate::memory::{Memory, Said};
+use crate::library::LIBRARY;
 use walks::call::{LONGEST, WORK};
+use walks::checking::{Case, Memory, Said};
 use walks::faults::NUMBERS;
 use walks::job::Job;
 use walks::memory::Counts;
@@ -31,7 +31,7 @@ fn with_fault(case: Case, random: &mut Random, number: u64) -> Case {
 #[test]
 fn lower_of_two_faults_decides() {
     let mut random = Random::of_this_run();
-    let mut memory = Memory::new();
+    let mut memory = Memory::new(LIBRARY);
     let mut counts = Counts::default();
     let job = with_plain_node();
     let walks = Walks::new(&job, None);
@@ -65,7 +65,7 @@ fn lower_of_two_faults_decides() {
 
 #[test]
 fn file_of_the_greatest_length_is_looked_at_and_one_byte_more_is_1() {
-    let mut memory = Memory::new();
+    let mut memory = Memory::new(LIBRARY);
     let plan = [0, 0];
     for (len, wanted) in [(LONGEST, 9), (LONGEST + 1, 1), (200_000, 1)] {
         let mut file = in_loop().file();
@@ -84,7 +84,7 @@ fn file_of_the_greatest_length_is_looked_at_and_one_byte_more_is_1() {
 
 #[test]
 fn plan_of_another_length_is_11() {
-    let mut memory = Memory::new();
+    let mut memory = Memory::new(LIBRARY);
     for job in [pair(), in_loop(), turn()] {
         let nodes = job.nodes.len();
         for len in (0..600).filter(|&len| len != nodes) {
@@ -101,7 +101,7 @@ fn plan_of_another_length_is_11() {
 #[test]
 fn plan_byte_above_1_or_1_at_no_event_is_12_at_every_node() {
     let mut random = Random::of_this_run();
-    let mut memory = Memory::new();
+    let mut memory = Memory::new(LIBRARY);
     let mut refused = 0;
     for _ in 0..60 {
         let job = walks::small::job(&mut random);
@@ -127,7 +127,7 @@ fn plan_byte_above_1_or_1_at_no_event_is_12_at_every_node() {
 
 #[test]
 fn last_node_of_512_is_tested_as_the_first() {
-    let mut memory = Memory::new();
+    let mut memory = Memory::new(LIBRARY);
     let mut job = pair();
     job.nodes.resize(512, PLAIN_NODE);
     for (node, byte, wanted) in [

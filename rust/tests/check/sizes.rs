@@ -1,6 +1,7 @@
 //! Jobs of full size in which the last nodes, edges or rounds decide.
-use crate::memory::{Memory, Said};
+use crate::library::LIBRARY;
 use walks::call::WORK;
+use walks::checking::{Memory, Said};
 use walks::job::{Job, Node};
 use walks::large::{self, Order};
 use walks::memory::Counts;
@@ -16,7 +17,7 @@ use walks::walk::Walks;
 fn small_jobs_spread_over_many_nodes_keep_their_verdicts() {
     const JOBS: usize = 1_200;
     let mut random = Random::of_this_run();
-    let mut memory = Memory::new();
+    let mut memory = Memory::new(LIBRARY);
     let mut counts = Counts::default();
     for number in 0..JOBS {
         let job = small::job(&mut random);
@@ -73,7 +74,7 @@ fn ring(last: u64, backward: bool) -> (Job, usize) {
 
 #[test]
 fn alarm_after_fourteen_rounds_of_512_nodes_is_found() {
-    let mut memory = Memory::new();
+    let mut memory = Memory::new(LIBRARY);
     for backward in [false, true] {
         for (last, wanted) in [(13, Said::Faithful), (14, Said::Different)] {
             let (job, striking) = ring(last, backward);

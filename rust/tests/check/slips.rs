@@ -1,6 +1,6 @@
 //! Wrong readings of document 01, which a comparison must notice.
-use crate::cases::cases;
-use crate::memory::Memory;
+use crate::library::LIBRARY;
+use walks::checking::{cases, Memory};
 use walks::random::Random;
 use walks::slip::Slip;
 use walks::small;
@@ -11,7 +11,7 @@ fn every_slip_of_the_second_implementation_is_noticed() {
     const JOBS: usize = 2_000;
     const MOST_JOBS: usize = 20_000;
     let mut random = Random::of_this_run();
-    let mut memory = Memory::new();
+    let mut memory = Memory::new(LIBRARY);
     let (mut jobs, mut calls) = (0, 0);
     let slips = Slip::of_check();
     let mut noticed = vec![0; slips.len()];

@@ -1,6 +1,7 @@
 //! The trials of document 01 that concern plans, with the answers by hand.
-use crate::memory::{Memory, Said};
+use crate::library::LIBRARY;
 use walks::call::WORK;
+use walks::checking::{Memory, Said};
 use walks::job::Job;
 use walks::listing::listing;
 use walks::planning::plan;
@@ -13,7 +14,7 @@ use Said::{Different, Faithful};
 
 /// Asks that the library and the walks find each plan faithful or different as said.
 fn verdicts(job: &Job, plans: &[(&[u8], Said)]) {
-    let mut memory = Memory::new();
+    let mut memory = Memory::new(LIBRARY);
     let walks = Walks::new(job, None);
     for &(plan, wanted) in plans {
         let seen = memory.call(&job.file(), plan, WORK).unwrap();

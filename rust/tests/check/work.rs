@@ -1,13 +1,17 @@
 //! What a call leaves in the work buffer, and that it does not depend on what is there.
-use crate::cases::{cases, Case};
-use crate::memory::Said;
-use dapohiru::check;
+use crate::library::LIBRARY;
 use walks::call::{LONGEST, WORK};
+use walks::checking::{cases, Case, Said};
 use walks::faults::{refused, NUMBERS};
 use walks::memory::Counts;
 use walks::random::Random;
 use walks::samples::{pair, turn};
 use walks::small;
+
+/// The plan check of the library, by number.
+fn check(job: &[u8], plan: &[u8], work: &mut [u8]) -> u64 {
+    (LIBRARY.check)(job, plan, work)
+}
 
 #[test]
 fn work_buffer_is_unchanged_after_1_and_2_and_else_zero_in_its_first_65536_bytes_alone() {

@@ -1,6 +1,5 @@
 //! The library and the second implementation on the same calls.
-use crate::cases::{cases, Case};
-use crate::memory::{Memory, Said};
+use crate::library::LIBRARY;
 use std::collections::BTreeMap;
 use walks::apart::Apart;
 use walks::features::Features;
@@ -10,6 +9,7 @@ use walks::memory::Counts;
 use walks::random::Random;
 use walks::search::difference;
 use walks::served::Given;
+use walks::serving::{cases, Case, Memory, Said};
 use walks::slip::Slip;
 use walks::walk::{Place, Walks};
 use walks::{rings, small};
@@ -40,7 +40,7 @@ fn needs_a_long_call_word(job: &Job, given: &Given) -> bool {
 fn small_jobs_agree_with_the_walks() {
     const JOBS: usize = 8_000;
     let mut random = Random::fixed(2);
-    let mut memory = Memory::new();
+    let mut memory = Memory::new(LIBRARY);
     let mut counts = Counts::default();
     let mut features = [0; 5];
     let (mut long_words, mut nop_stays, mut other_goes) = (0, 0, 0);

@@ -1,9 +1,10 @@
 //! Buffers of all lengths around the limits, and of none.
-use crate::memory::{number, Memory};
+use crate::library::LIBRARY;
 use walks::call::{LONGEST, WORK};
 use walks::random::Random;
 use walks::samples::{in_loop, pair};
 use walks::served::{Given, Service};
+use walks::serving::Memory;
 use walks::small;
 use walks::walk::Walks;
 
@@ -16,7 +17,7 @@ fn around(limit: usize) -> impl Iterator<Item = usize> {
 
 #[test]
 fn plan_and_listing_buffers_below_their_limit_are_2_also_where_less_would_do() {
-    let mut memory = Memory::new();
+    let mut memory = Memory::new(LIBRARY);
     let mut calls = 0;
     for job in [pair(), in_loop()] {
         let given = Given::of(&Walks::new(&job, None));
@@ -44,7 +45,7 @@ fn plan_and_listing_buffers_below_their_limit_are_2_also_where_less_would_do() {
 
 #[test]
 fn work_buffer_below_65536_bytes_is_2() {
-    let mut memory = Memory::new();
+    let mut memory = Memory::new(LIBRARY);
     let file = pair().file();
     for service in Service::BOTH {
         for work_len in around(WORK) {
@@ -60,7 +61,7 @@ fn work_buffer_below_65536_bytes_is_2() {
 
 #[test]
 fn file_of_the_greatest_length_is_looked_at_and_one_byte_more_is_1() {
-    let mut memory = Memory::new();
+    let mut memory = Memory::new(LIBRARY);
     for service in Service::BOTH {
         for (len, wanted) in [(LONGEST, 9), (LONGEST + 1, 1), (200_000, 1)] {
             let mut file = in_loop().file();
@@ -90,7 +91,7 @@ fn answer_does_not_depend_on_what_the_buffers_hold() {
             let fills = [vec![0; WORK], vec![1; WORK], vec![255; WORK], any.clone()];
             let answers = fills.map(|mut work| {
                 let mut lent = work[..service.least()].to_vec();
-                let number = number(service, &file, &mut lent, &mut work);
+                let number = LIBRARY.serve(service, &file, &mut lent, &mut work);
                 assert!(work.iter().all(|&byte| byte == 0));
                 let len = match service {
                     Service::Plan => job.nodes.len(),
@@ -111,8 +112,8 @@ fn one_call_leaves_nothing_for_the_next() {
     let files = [pair.file(), in_loop.file(), pair.file()[..50].to_vec()];
     for round in 0..6 {
         let file = &files[round % 3];
-        let plan = number(Service::Plan, file, &mut [3; 512], &mut work);
-        let list = number(Service::List, file, &mut [3; 32_768], &mut work);
+        let plan = LIBRARY.serve(Service::Plan, file, &mut [3; 512], &mut work);
+        let list = LIBRARY.serve(Service::List, file, &mut [3; 32_768], &mut work);
         let wanted = match round % 3 {
             0 => (
                 (1 << 48) + (3 << 32) + (2 << 16) + 2,

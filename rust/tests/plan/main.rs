@@ -1,14 +1,12 @@
 //! Planning and listing of the library, beside a second implementation that walks, and by themselves;
 //! the two monitors on walks of planned jobs.
 mod agreement;
-mod cases;
 mod damaged;
 mod lengths;
-mod memory;
+#[path = "../library/mod.rs"]
+mod library;
 mod monitors;
 mod needed;
-#[path = "../records/mod.rs"]
-mod records;
 mod refusals;
 mod sizes;
 mod slips;

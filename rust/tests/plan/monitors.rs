@@ -1,13 +1,13 @@
 //! The first half of the third promise: two records on long walks, one under the plan of the library.
-use crate::records::{Records, Tally};
+use crate::library::LIBRARY;
 use dapohiru::plan;
 use walks::call::WORK;
 use walks::job::Job;
 use walks::large::{self, Order};
+use walks::promise::{self, walk};
 use walks::random::Random;
+use walks::records::Tally;
 use walks::walk::Walks;
-use walks::walker::Walker;
-use walks::{rings, small};
 
 /// The plan that the library writes for a job.
 pub fn plan_of(job: &Job) -> Vec<u8> {
@@ -15,43 +15,6 @@ pub fn plan_of(job: &Job) -> Vec<u8> {
     plan(&job.file(), &mut bytes, &mut [0; WORK]).expect("the job is planned");
     bytes.truncate(job.nodes.len());
     bytes
-}
-
-/// An alarm total to begin with: 0, near the highest, or any.
-pub fn first_total(random: &mut Random) -> u64 {
-    match random.below(3) {
-        0 => 0,
-        1 => u64::MAX - random.below(6),
-        _ => random.number(),
-    }
-}
-
-/// What one walk came to.
-#[derive(Default)]
-struct Walked {
-    tally: Tally,
-    /// How often the walk came to the point that it came to most.
-    rounds: u64,
-    /// Whether the reports differ at the last event.
-    differs: bool,
-}
-
-/// Takes one random walk of at most so many events, with refused calls between, and ends at the first
-/// difference.
-fn walk(random: &mut Random, walks: &Walks, plan: &[u8], most: u64) -> Walked {
-    let mut walker = Walker::begin(random, walks);
-    let alarms = first_total(random);
-    let mut records = Records::new(walks.job, plan, walker.start, alarms);
-    let mut left = most;
-    let differs = records.first_difference(random, |random| {
-        left = left.checked_sub(1)?;
-        walker.next_event(random)
-    });
-    Walked {
-        tally: records.tally,
-        rounds: walker.visits.into_iter().max().unwrap_or(0),
-        differs: differs.is_some(),
-    }
 }
 
 /// What walks of many jobs came to.
@@ -74,7 +37,7 @@ impl Totals {
         let of_job = Walks::new(job, None);
         let (mut tally, mut different) = (Tally::default(), false);
         for _ in 0..walks {
-            let walked = walk(random, &of_job, plan, most);
+            let walked = walk(LIBRARY, random, &of_job, plan, most).unwrap();
             different |= walked.differs;
             tally.add(walked.tally);
             self.longest = self.longest.max(walked.tally.events);
@@ -94,9 +57,11 @@ impl Totals {
             alarms,
             skipped,
             refused,
+            saturated,
         } = self.tally;
+        let refused: u64 = refused.iter().sum();
         println!(
-            "{what}: {} jobs, {} walks, {events} events, {alarms} alarms, {skipped} skipped, {refused} refused calls; the longest walk has {} events, the most rounds are {}; {} jobs have alarms and skipped events, {} differ",
+            "{what}: {} jobs, {} walks, {events} events, {alarms} alarms, {skipped} skipped, {refused} refused calls, {saturated} alarms at the highest total; the longest walk has {} events, the most rounds are {}; {} jobs have alarms and skipped events, {} differ",
             self.jobs, self.walks, self.longest, self.rounds, self.both, self.different
         );
     }
@@ -105,7 +70,7 @@ impl Totals {
     /// alarms and skipped events.
     fn same_alarms(&self) {
         assert_eq!(self.different, 0, "the reports differ");
-        assert!(self.tally.refused > 0);
+        assert!(self.tally.refused.iter().all(|&count| count > 0));
         assert!(
             self.both * 10 >= self.jobs,
             "{} of {}",
@@ -115,29 +80,17 @@ impl Totals {
     }
 }
 
-/// A job of a few nodes, or of some dozens with a rule under which many points matter.
-fn small_job(random: &mut Random) -> Job {
-    match random.below(4) {
-        0 => rings::job(random),
-        1 => small::job(random),
-        _ => {
-            let order = random.pick(&[Order::Flow, Order::Parts]);
-            let nodes = random.between(16, 48);
-            large::job_of(random, order, nodes)
-        }
-    }
-}
-
 #[test]
 fn two_records_alarm_alike_on_many_walks_of_small_jobs() {
     let mut random = Random::fixed(13);
     let mut totals = Totals::default();
     for _ in 0..4_000 {
-        let job = small_job(&mut random);
+        let job = promise::job(&mut random);
         totals.walk(&mut random, &job, &plan_of(&job), 4, 300);
     }
     totals.print("small jobs");
     totals.same_alarms();
+    assert!(totals.tally.saturated > 0, "no total reached 2^64-1");
     assert!(totals.tally.events > 1_000_000);
 }
 
@@ -146,17 +99,25 @@ fn two_records_alarm_alike_on_walks_of_a_million_events() {
     const MOST: u64 = 1_000_000;
     let mut random = Random::fixed(14);
     let mut totals = Totals::default();
-    while totals.jobs < 8 {
-        let job = small_job(&mut random);
+    for _ in 0..20_000 {
+        if totals.jobs == 8 {
+            break;
+        }
+        let job = promise::job(&mut random);
         let plan = plan_of(&job);
         // jobs whose loops have alarms and points that are skipped
         let mut first = Totals::default();
         first.walk(&mut random, &job, &plan, 1, 2_000);
+        assert_eq!(first.different, 0, "the reports differ");
         if first.rounds >= 200 && first.tally.alarms >= 100 && first.tally.skipped >= 100 {
             totals.walk(&mut random, &job, &plan, 1, MOST);
         }
     }
     totals.print("long walks");
+    assert_eq!(
+        totals.jobs, 8,
+        "too few jobs have loops with alarms and skipped points"
+    );
     totals.same_alarms();
     assert!(totals.longest == MOST && totals.rounds > 10_000);
 }
@@ -179,8 +140,11 @@ fn two_records_alarm_alike_on_walks_of_512_nodes() {
 fn with_one_needed_byte_cleared_the_two_records_differ() {
     let mut random = Random::fixed(16);
     let mut totals = Totals::default();
-    while totals.jobs < 400 {
-        let job = small_job(&mut random);
+    for _ in 0..20_000 {
+        if totals.jobs == 400 {
+            break;
+        }
+        let job = promise::job(&mut random);
         let mut plan = plan_of(&job);
         let watched: Vec<_> = (0..plan.len()).filter(|&node| plan[node] == 1).collect();
         if watched.is_empty() {
@@ -190,6 +154,7 @@ fn with_one_needed_byte_cleared_the_two_records_differ() {
         totals.walk(&mut random, &job, &plan, 40, 300);
     }
     totals.print("one needed byte cleared");
+    assert_eq!(totals.jobs, 400, "too few plans have a watched point");
     // the walks are random, and some differences need one that is rare
     assert!(
         totals.different * 2 >= totals.jobs,
@@ -204,7 +169,7 @@ fn with_a_plan_of_zeros_the_two_records_differ() {
     let mut random = Random::fixed(20);
     let mut totals = Totals::default();
     for _ in 0..400 {
-        let job = small_job(&mut random);
+        let job = promise::job(&mut random);
         totals.walk(&mut random, &job, &job.plan_of(&[]), 10, 300);
     }
     totals.print("plans of zeros");

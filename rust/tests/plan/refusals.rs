@@ -1,18 +1,18 @@
 //! Every refusal, alone and beside another fault.
-use crate::cases::Case;
-use crate::memory::{Memory, Said};
+use crate::library::LIBRARY;
 use walks::faults::NUMBERS;
 use walks::memory::Counts;
 use walks::random::Random;
 use walks::samples::pair;
 use walks::served::{Given, Service};
+use walks::serving::{Case, Memory, Said};
 use walks::small;
 use walks::walk::Walks;
 
 #[test]
 fn lower_of_two_faults_decides() {
     let mut random = Random::fixed(9);
-    let mut memory = Memory::new();
+    let mut memory = Memory::new(LIBRARY);
     let mut counts = Counts::default();
     let job = pair();
     let given = Given::of(&Walks::new(&job, None));
@@ -45,7 +45,7 @@ fn lower_of_two_faults_decides() {
 #[test]
 fn every_refusal_leaves_plan_and_listing_buffer() {
     let mut random = Random::fixed(10);
-    let mut memory = Memory::new();
+    let mut memory = Memory::new(LIBRARY);
     let mut counts = Counts::default();
     for number in 0..400 {
         let job = small::job(&mut random);

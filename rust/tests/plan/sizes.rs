@@ -1,12 +1,12 @@
 //! The library and the second implementation on jobs of many nodes.
 use crate::agreement::agree;
-use crate::cases::{cases, Case};
-use crate::memory::Memory;
+use crate::library::LIBRARY;
 use walks::job::Job;
 use walks::large::{self, Order};
 use walks::memory::Counts;
 use walks::random::Random;
 use walks::served::{Given, Service};
+use walks::serving::{cases, Case, Memory};
 use walks::sized::FULL;
 use walks::small;
 use walks::spread::Spread;
@@ -16,7 +16,7 @@ use walks::walk::Walks;
 fn small_jobs_spread_over_many_nodes_agree_with_the_walks() {
     const JOBS: usize = 300;
     let mut random = Random::fixed(3);
-    let mut memory = Memory::new();
+    let mut memory = Memory::new(LIBRARY);
     let mut counts = Counts::default();
     for number in 0..JOBS {
         let job = small::job(&mut random);
@@ -39,7 +39,7 @@ fn small_jobs_spread_over_many_nodes_agree_with_the_walks() {
 fn jobs_of_512_nodes_agree_with_the_walks() {
     const JOBS: usize = 12;
     let mut random = Random::fixed(4);
-    let mut memory = Memory::new();
+    let mut memory = Memory::new(LIBRARY);
     let mut counts = Counts::default();
     let (mut points, mut watched) = (0, 0);
     for number in 0..JOBS {
@@ -67,7 +67,7 @@ fn jobs_of_512_nodes_agree_with_the_walks() {
 
 #[test]
 fn longest_listing_fits() {
-    let mut memory = Memory::new();
+    let mut memory = Memory::new(LIBRARY);
     let mut random = Random::fixed(5);
     let mut job = Job::random(&mut random, FULL);
     for node in &mut job.nodes {

@@ -1,8 +1,8 @@
 //! Wrong readings of document 01, which a comparison must notice.
-use crate::cases::cases;
-use crate::memory::Memory;
+use crate::library::LIBRARY;
 use walks::random::Random;
 use walks::served::Given;
+use walks::serving::{cases, Case, Memory};
 use walks::slip::Slip;
 use walks::small;
 use walks::walk::Walks;
@@ -13,7 +13,7 @@ fn every_slip_of_the_second_implementation_is_noticed() {
     // a slip that has been noticed so often is not tried again
     const ENOUGH: usize = 5;
     let mut random = Random::fixed(1);
-    let mut memory = Memory::new();
+    let mut memory = Memory::new(LIBRARY);
     let slips = Slip::of_planning();
     // for each slip how often it was noticed, and at which job for the first time
     let mut noticed = vec![(0, 0); slips.len()];
@@ -35,8 +35,7 @@ fn every_slip_of_the_second_implementation_is_noticed() {
                 continue;
             }
             let given = Given::of(&Walks::new(&job, Some(slip)));
-            let differs =
-                |(case, seen): &(crate::cases::Case, _)| case.wanted(&given, Some(slip)) != *seen;
+            let differs = |(case, seen): &(Case, _)| case.wanted(&given, Some(slip)) != *seen;
             if seen.iter().any(differs) {
                 *times += 1;
                 *first = if *first == 0 { jobs } else { *first };

@@ -1,5 +1,5 @@
 //! The trials of document 01 that concern planning and listing, with the answers by hand.
-use crate::memory::Memory;
+use crate::library::LIBRARY;
 use dapohiru::{list, plan, Counts, Refusal};
 use walks::call::WORK;
 use walks::job::Job;
@@ -9,6 +9,7 @@ use walks::samples::{
     event, in_loop, one_seal, pair, turn, two_writes, PAIR, PLAIN_NODE, REOPEN, SEAL, WRITE,
 };
 use walks::served::Service;
+use walks::serving::Memory;
 use walks::sized::{Sizes, FULL};
 
 /// Asks for this plan and these counts: event nodes, watched points, passes.
@@ -36,7 +37,7 @@ fn listed(job: &Job, wanted: &str) {
 
 /// The refusal of a file by both calls.
 fn refused(file: &[u8], number: u64) {
-    let mut memory = Memory::new();
+    let mut memory = Memory::new(LIBRARY);
     for service in Service::BOTH {
         let seen = memory.call(service, file, service.least(), WORK).unwrap();
         assert_eq!((seen.number, seen.written), (number, vec![]), "{service:?}");

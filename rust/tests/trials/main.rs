@@ -1,9 +1,13 @@
-//! The stored output of the programs `trials` and `listing`, beside a second implementation that walks.
-//! No test here calls the library.
+//! The stored output of the programs `trials` and `listing`, and what `listing` prints, beside a second
+//! implementation that walks. No test here calls the library.
 mod jobs;
 mod stored;
 
 use jobs::{job_of, refusal};
+use std::io::Write;
+use std::path::Path;
+use std::process::{Command, Stdio};
+use std::thread;
 use stored::{file, trials, Asked, Trial};
 use walks::call::{check, Answer, Call, WORK};
 use walks::job::{spell, Line};
@@ -85,4 +89,40 @@ fn listing_program_prints_what_the_walks_list() {
     let job = file("crates/listing/stdin");
     assert_eq!(file("crates/listing/stdout"), listed(&job));
     assert_eq!(job, file("examples/pair.job"));
+}
+
+/// What the program `listing`, which `rt check listing` builds, prints for a file on standard input.
+fn printed(file: &[u8]) -> Vec<u8> {
+    let program = Path::new(env!("CARGO_MANIFEST_DIR")).join("../target/bin/listing");
+    let mut child = Command::new(&program)
+        .stdin(Stdio::piped())
+        .stdout(Stdio::piped())
+        .spawn()
+        .unwrap_or_else(|why| panic!("{}: {why}: run `rt check listing`", program.display()));
+    let mut input = child.stdin.take().unwrap();
+    let bytes = file.to_vec();
+    // the program stops reading past the limit, so the pipe may close early
+    let writer = thread::spawn(move || drop(input.write_all(&bytes)));
+    let output = child.wait_with_output().unwrap();
+    writer.join().unwrap();
+    output.stdout
+}
+
+#[test]
+fn the_listing_program_prints_what_the_walks_say_of_every_trial_job() {
+    for trial in trials() {
+        assert_eq!(printed(&trial.file), listed(&trial.file), "{}", trial.title);
+    }
+}
+
+#[test]
+fn the_listing_program_refuses_longer_input_and_does_not_cut_it() {
+    let pair = file("examples/pair.job");
+    for (len, number) in [(0, 3), (49_914, 4), (49_915, 1), (200_000, 1)] {
+        assert_eq!(printed(&vec![b'J'; len]), refused(number), "{len} bytes");
+    }
+    let mut long = pair.clone();
+    long.resize(200_000, b'\n');
+    assert_eq!(printed(&long), refused(1));
+    assert_eq!(printed(&pair), listed(&pair));
 }

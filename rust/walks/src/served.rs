@@ -33,6 +33,8 @@ pub struct Given {
     pub listing: Vec<u8>,
     /// The nodes that are points.
     points: Vec<usize>,
+    /// The slip that the walks have.
+    pub slip: Option<Slip>,
 }
 
 impl Given {
@@ -43,6 +45,7 @@ impl Given {
             listing: lines(walks, &planned),
             planned,
             points: walks.job.points(),
+            slip: walks.slip,
         }
     }
 }

@@ -12,6 +12,12 @@ macro_rules! slips {
 
         impl Slip {
             $($(#[$about])* pub const $group: &[Slip] = &[$(Slip::$name,)*];)*
+
+            /// The slip that has this name.
+            pub fn named(name: &str) -> Option<Slip> {
+                let mut all = [$(Slip::$group,)*].into_iter().flatten();
+                all.find(|slip| format!("{slip:?}") == name).copied()
+            }
         }
     };
 }

@@ -1,0 +1,70 @@
+/*
+ * A service in C: plans a job, then takes the events of one walk on two records, one with all points watched and
+ * one under the plan.
+ *
+ *     cc -std=c99 -Iinclude examples/service.c target/staticlib/libdapohiru.a -o service && ./service examples/pair.job
+ */
+#include "dapohiru.h"
+
+#include <inttypes.h>
+#include <stdio.h>
+
+/* PAIR's rule: seal, reopen and write are 0, 1 and 2; state 2 is final. */
+static const uint8_t rule[DAPOHIRU_RULE_LEN] = {
+    [0] = 1,  [1] = 0,  [2] = 0,  /* open */
+    [16] = 1, [17] = 0, [18] = 2, /* sealed */
+    [32] = 1, [33] = 0, [34] = 2, /* written to while sealed */
+};
+
+static uint64_t take(uint64_t symbol, uint8_t *rec)
+{
+    return dapohiru_event(rule, sizeof rule, 3, 3, 1u << 2, symbol, rec, DAPOHIRU_RECORD_LEN);
+}
+
+/* The alarm total of a record. */
+static uint64_t alarms(const uint8_t *rec)
+{
+    uint64_t total = 0;
+    int k;
+    for (k = 7; k >= 0; k--)
+        total = total << 8 | rec[8 + k];
+    return total;
+}
+
+int main(int argc, char **argv)
+{
+    static uint8_t job[DAPOHIRU_JOB_LEN + 1], work[DAPOHIRU_WORK_LEN], plan[DAPOHIRU_PLAN_LEN];
+    static const struct { size_t node; uint64_t symbol; } walk[] = {{0, 0}, {1, 0}, {2, 2}};
+    uint8_t full[DAPOHIRU_RECORD_LEN] = {0}, planned[DAPOHIRU_RECORD_LEN] = {0};
+    uint64_t answer;
+    size_t job_len, k;
+    FILE *file = argc == 2 ? fopen(argv[1], "rb") : NULL;
+
+    if (file == NULL) {
+        fprintf(stderr, "usage: service JOB\n");
+        return 2;
+    }
+    /* one byte more than the longest file, so that a longer one is refused and not cut */
+    job_len = fread(job, 1, sizeof job, file);
+    if (ferror(file) || fclose(file) != 0) {
+        fprintf(stderr, "service: %s cannot be read\n", argv[1]);
+        return 2;
+    }
+    answer = dapohiru_plan(job, job_len, work, sizeof work, plan, sizeof plan);
+    if (DAPOHIRU_IS_REFUSAL(answer)) {
+        fprintf(stderr, "service: refused %" PRIu64 "\n", answer);
+        return 2;
+    }
+    printf("points %" PRIu64 ", watched %" PRIu64 ", passes %" PRIu64 "\n", DAPOHIRU_POINTS(answer),
+           DAPOHIRU_WATCHED(answer), DAPOHIRU_PASSES(answer));
+    for (k = 0; k < sizeof walk / sizeof *walk; k++) {
+        uint64_t report = take(walk[k].symbol, full), under_plan = DAPOHIRU_QUIET;
+        if (plan[walk[k].node] == 1)
+            under_plan = take(walk[k].symbol, planned);
+        printf("node %zu, symbol %" PRIu64 ": full %s, under the plan %s%s\n", walk[k].node, walk[k].symbol,
+               report == DAPOHIRU_ALARM ? "alarm" : "quiet", under_plan == DAPOHIRU_ALARM ? "alarm" : "quiet",
+               plan[walk[k].node] == 1 ? "" : " (not told)");
+    }
+    printf("alarm totals %" PRIu64 " and %" PRIu64 "\n", alarms(full), alarms(planned));
+    return 0;
+}

@@ -1,0 +1,102 @@
+/*
+ * Planning, listing, the plan check and the event step of the monitor: the four calls of the static
+ * library libdapohiru.a, for C (from C99 on) and C++.
+ *
+ * Each call gets byte buffers, each as a pointer and a length, and returns one 64-bit number. A number
+ * from 1 to 15 is a refusal. Every other answer has DAPOHIRU_ACCEPTED added.
+ *
+ * The caller owns every buffer, before and after. Buffers marked const are only read. A pointer is valid
+ * for its length; where the length is 0 it is not looked at, and may be anything but NULL. Buffers that a
+ * call writes to overlap no other, and nothing else holds them during the call.
+ *
+ * The calls keep nothing between them, allocate nothing, and read and write no file. Any number of threads
+ * may be in them at once, each with a work buffer and a record of its own.
+ *
+ * The work buffer, of at least DAPOHIRU_WORK_LEN bytes, may hold anything. Refusals 1 and 2 leave it as it
+ * was. After any other answer its first DAPOHIRU_WORK_LEN bytes are zero, and the rest is as it was.
+ */
+#ifndef DAPOHIRU_H
+#define DAPOHIRU_H
+
+#include <stddef.h>
+#include <stdint.h>
+
+#ifdef __cplusplus
+extern "C" {
+#endif
+
+/* Lengths in bytes. A job file may be shorter, and the three buffers may be longer. */
+#define DAPOHIRU_JOB_LEN 49914     /* the longest job file */
+#define DAPOHIRU_WORK_LEN 65536    /* the shortest work buffer */
+#define DAPOHIRU_PLAN_LEN 512      /* the shortest plan buffer for planning */
+#define DAPOHIRU_LISTING_LEN 32768 /* the shortest listing buffer */
+#define DAPOHIRU_RULE_LEN 256      /* a rule: sixteen rows of sixteen next states */
+#define DAPOHIRU_RECORD_LEN 16     /* a record: state, then alarm total, lowest byte first */
+
+/* Answers. */
+#define DAPOHIRU_ACCEPTED (UINT64_C(1) << 48)
+#define DAPOHIRU_FAITHFUL DAPOHIRU_ACCEPTED
+#define DAPOHIRU_DIFFERENT (DAPOHIRU_ACCEPTED + 1)
+#define DAPOHIRU_QUIET DAPOHIRU_ACCEPTED
+#define DAPOHIRU_ALARM (DAPOHIRU_ACCEPTED + 1)
+
+/* Whether an answer is a refusal. */
+#define DAPOHIRU_IS_REFUSAL(answer) ((answer) < DAPOHIRU_ACCEPTED)
+
+/* The counts in the answer of accepted planning. */
+#define DAPOHIRU_POINTS(answer) ((answer) >> 32 & 0xffff)
+#define DAPOHIRU_WATCHED(answer) ((answer) >> 16 & 0xffff)
+#define DAPOHIRU_PASSES(answer) ((answer) & 0xffff)
+
+/* The length in the answer of accepted listing. */
+#define DAPOHIRU_LENGTH(answer) ((answer) - DAPOHIRU_ACCEPTED)
+
+/* Refusals. The lowest that applies is returned; the lines of a file are tested in turn, 3 to 8 on each. */
+#define DAPOHIRU_FILE_TOO_LONG 1     /* the file is longer than DAPOHIRU_JOB_LEN */
+#define DAPOHIRU_BUFFER_TOO_SHORT 2  /* a work, plan or listing buffer is shorter than stated above */
+#define DAPOHIRU_LINE_MISSING 3      /* the file ends where a line is due */
+#define DAPOHIRU_LINE_MALFORMED 4    /* the line due has not its letter, its fields or its end byte */
+#define DAPOHIRU_BAD_SIZES 5         /* a J number is outside its limits */
+#define DAPOHIRU_BAD_RULE_LINE 6     /* an R line */
+#define DAPOHIRU_BAD_NODE_LINE 7     /* a P line */
+#define DAPOHIRU_BAD_EDGE_LINE 8     /* an F line names a node of N or more, or does not ascend */
+#define DAPOHIRU_BYTES_FOLLOW 9      /* bytes follow the last line */
+#define DAPOHIRU_NO_ENTRY 10         /* no node is an entry */
+#define DAPOHIRU_BAD_PLAN_LENGTH 11  /* a plan to be checked is not exactly one byte for each node */
+#define DAPOHIRU_BAD_PLAN_BYTE 12    /* a plan byte is above 1, or is 1 at a node that is no event */
+#define DAPOHIRU_BAD_RULE 13         /* the rule of the event step: its length, S, A, a next or a final state */
+#define DAPOHIRU_BAD_SYMBOL 14       /* the event's symbol is A or more */
+#define DAPOHIRU_BAD_RECORD 15       /* the record's length is not 16, or its state is S or more */
+
+/*
+ * Plans: writes one byte for each node of the job, 1 at a watched point and 0 at all else, to the start of
+ * plan, and no other byte of it. Returns DAPOHIRU_ACCEPTED plus event nodes times 2^32, watched points times
+ * 2^16, and passes. Refusals 1 to 10 leave plan as it was.
+ */
+uint64_t dapohiru_plan(const uint8_t *job, size_t job_len, uint8_t *work, size_t work_len, uint8_t *plan, size_t plan_len);
+
+/*
+ * Lists: writes the W and T lines of the job to the start of listing, and no other byte of it; there is no
+ * zero byte at their end. Returns DAPOHIRU_ACCEPTED plus their length. Refusals 1 to 10 leave listing as it was.
+ */
+uint64_t dapohiru_list(const uint8_t *job, size_t job_len, uint8_t *work, size_t work_len, uint8_t *listing, size_t listing_len);
+
+/*
+ * Checks a plan of exactly one byte for each node. Returns DAPOHIRU_FAITHFUL or DAPOHIRU_DIFFERENT, or a refusal,
+ * 1 to 12.
+ */
+uint64_t dapohiru_check(const uint8_t *job, size_t job_len, const uint8_t *plan, size_t plan_len, uint8_t *work, size_t work_len);
+
+/*
+ * Takes one event: moves the record to the next state, and raises its alarm total by one at an alarm; the total
+ * stays at 2^64-1 once there. The next state of state q on symbol a is rule[16 * q + a]; bytes past S rows and A
+ * columns have no meaning. finals has bit q for a final state q. Returns DAPOHIRU_QUIET or DAPOHIRU_ALARM. Refusals 13
+ * to 15 leave the record as it was.
+ */
+uint64_t dapohiru_event(const uint8_t *rule, size_t rule_len, uint64_t states, uint64_t symbols, uint64_t finals, uint64_t symbol, uint8_t *rec, size_t rec_len);
+
+#ifdef __cplusplus
+}
+#endif
+
+#endif

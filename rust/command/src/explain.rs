@@ -1,0 +1,112 @@
+//! A listing as a table with headings, and in words.
+use crate::job::set;
+use crate::names::Names;
+use crate::table::{table, Side};
+
+/// The numbers of a W line.
+struct Found {
+    node: usize,
+    symbol: usize,
+    before: u16,
+    classes: usize,
+    nop: bool,
+    watched: bool,
+}
+
+/// The W and T lines of a job with so many states, in a table and in words.
+pub fn explained(listing: &[u8], states: usize, names: &Names) -> String {
+    let headings = ["node", "symbol", "before", "classes", "nop", "plan"];
+    let mut rows = vec![headings.map(str::to_string)];
+    let mut words = String::new();
+    let mut totals = String::new();
+    for line in listing.split(|&byte| byte == b'\n') {
+        match (line.first(), &numbers(line)[..]) {
+            (Some(b'W'), &[node, symbol, before, classes, nop, watched]) => {
+                let found = Found {
+                    node,
+                    symbol,
+                    before: before as u16,
+                    classes,
+                    nop: nop == 1,
+                    watched: watched == 1,
+                };
+                rows.push(found.row(names));
+                words += &found.words(states, names);
+            }
+            (Some(b'T'), &[points, watched, passes]) => {
+                totals =
+                    format!("{points} event nodes, {watched} of them watched, {passes} passes\n");
+            }
+            _ => {}
+        }
+    }
+    let sides = [
+        Side::Right,
+        Side::Left,
+        Side::Left,
+        Side::Right,
+        Side::Left,
+        Side::Left,
+    ];
+    table(sides, &rows) + &totals + &words
+}
+
+/// The numbers after a line's letter.
+fn numbers(line: &[u8]) -> Vec<usize> {
+    let fields = line.get(1..).unwrap_or_default().chunks(6);
+    let number = |field: &[u8]| std::str::from_utf8(field).ok()?.trim().parse().ok();
+    fields.filter_map(number).collect()
+}
+
+impl Found {
+    fn row(&self, names: &Names) -> [String; 6] {
+        [
+            self.node.to_string(),
+            names.of(self.symbol),
+            set(self.before),
+            self.classes.to_string(),
+            if self.nop { "yes" } else { "no" }.to_string(),
+            if self.watched { "watched" } else { "unwatched" }.to_string(),
+        ]
+    }
+
+    fn words(&self, states: usize, names: &Names) -> String {
+        let arrives = match self.before.count_ones() {
+            0 => "No walk arrives here.".to_string(),
+            1 => format!(
+                "With all points watched, walks arrive here in state {} only.",
+                self.before.trailing_zeros()
+            ),
+            _ => format!(
+                "With all points watched, walks arrive here in the states {}.",
+                set(self.before)
+            ),
+        };
+        let classes = match self.classes {
+            _ if states == 1 => "There is one state alone.".to_string(),
+            1 => format!("After it, no alarm tells one of the {states} states from another."),
+            all if all == states => {
+                format!("After it, later alarms tell all {states} states apart.")
+            }
+            some => format!(
+                "After it, the {states} states fall into {some} classes; later alarms tell states of different classes apart, and no others."
+            ),
+        };
+        let nop = match (self.before, self.nop) {
+            (0, _) => "So its event changes nothing (nop).",
+            (_, true) => "From each state in which walks arrive, its event raises no alarm and leads to a state of the same class (nop).",
+            (_, false) => "From some state in which walks arrive, its event raises an alarm or leads to a state of another class.",
+        };
+        let plan = match self.watched {
+            true => "The plan watches it: with this point alone unwatched too, some walk has other alarms.",
+            false => "The plan leaves it unwatched: on every walk the alarms stay the same.",
+        };
+        let symbol = names.of(self.symbol);
+        let lines = [arrives, classes, nop.to_string(), plan.to_string()];
+        format!(
+            "\nNode {}, symbol {symbol}:\n  {}\n",
+            self.node,
+            lines.join("\n  ")
+        )
+    }
+}

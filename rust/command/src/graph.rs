@@ -1,0 +1,111 @@
+//! The command `graph`: the flow graph of a job, with its plan.
+use crate::args::{Command, Given};
+use crate::job::{self, set, CALL, EVENT};
+use crate::{dot, input, output, refusal};
+use plain::read::{Decoded, Node};
+use std::io::{self, IsTerminal};
+
+pub const COMMAND: Command = Command {
+    name: "graph",
+    usage: "graph JOB [PLAN] [--svg | --png] [-o FILE]",
+    summary: "Draws the flow graph of a job for Graphviz, with the watched points marked.",
+    details: "
+  JOB      a job file
+  PLAN     a file that holds a line of 0 and 1; without it the plan that `plan` makes
+  --svg    a picture, made by Graphviz's program dot, which must be installed
+  --png    likewise
+  -o FILE  writes there and not to standard output; the file is written whole or not at all
+One of JOB and PLAN may be - for standard input.
+
+Event nodes are boxes, filled where watched and dashed where not; calls are hexagons, plain nodes
+ellipses. An entry has an arrow from its set of start states, an exit one to `exit`.
+Exit status: 0 drawn; 2 a refused job or plan, or something else that is wrong.
+",
+    names: &["JOB"],
+    more: 1,
+    flags: &["--svg", "--png"],
+    options: &[("-o", "FILE")],
+    run,
+};
+
+fn run(given: &Given) -> Result<u8, String> {
+    let picture = match (given.has("--svg"), given.has("--png")) {
+        (true, true) => return Err("graph: --svg and --png are two pictures, take one".to_string()),
+        (true, false) => Some("svg"),
+        (false, true) => Some("png"),
+        (false, false) => None,
+    };
+    let to = given.value("-o");
+    if picture == Some("png") && to.is_none() && io::stdout().is_terminal() {
+        return Err("graph: a PNG picture is not for a terminal, take -o FILE".to_string());
+    }
+    if let Some(plan) = given.further(1) {
+        input::at_most_one_is_input(given.name(0), plan)?;
+    }
+    let file = input::job(given.name(0))?;
+    let job = job::accepted(&file)?;
+    let plan = match given.further(1) {
+        None => job::planned(&file.bytes)
+            .map(|(plan, _)| plan)
+            .map_err(|refusal| refusal::of_job(&file, refusal))?,
+        Some(plan) => {
+            let plan = input::plan(plan)?;
+            job::checked(&file, &plan)?;
+            plan.bytes
+        }
+    };
+    let text = drawn(&job, &plan);
+    let bytes = match picture {
+        None => text.into_bytes(),
+        Some(picture) => dot::picture(picture, text)?,
+    };
+    output::deliver(to, &bytes).map(|()| 0)
+}
+
+/// The graph of a job under a plan, as Graphviz reads it.
+fn drawn(job: &Decoded, plan: &[u8]) -> String {
+    let mut text = "digraph job {\n  node [fontname=\"Helvetica\"];\n".to_string();
+    for (number, node) in job.nodes[..job.node_count].iter().enumerate() {
+        text += &drawn_node(number, node, plan[number] == 1);
+    }
+    for (from, to) in &job.edges[..job.edge_count] {
+        text += &format!("  n{from} -> n{to};\n");
+    }
+    text + "}\n"
+}
+
+/// A node with its entry and its exit.
+fn drawn_node(number: usize, node: &Node, watched: bool) -> String {
+    let (label, look) = match node.kind {
+        EVENT if watched => (
+            format!("{number}: symbol {}\\nwatched", node.value),
+            "shape=box, style=\"filled,bold\", fillcolor=\"gold\"",
+        ),
+        EVENT => (
+            format!("{number}: symbol {}\\nunwatched", node.value),
+            "shape=box, style=\"dashed\"",
+        ),
+        CALL => (
+            format!("{number}: call {}", set(node.value)),
+            "shape=hexagon",
+        ),
+        _ => (number.to_string(), "shape=ellipse"),
+    };
+    let mut text = format!("  n{number} [label=\"{label}\", {look}];\n");
+    if node.entry != 0 {
+        let states = set(node.entry);
+        text += &format!(
+            "  entry{number} [label=\"entry {states}\", shape=plaintext];\n  entry{number} -> n{number};\n"
+        );
+    }
+    if node.exit {
+        let after = match node.after {
+            0 => String::new(),
+            after => format!("\\nafter {}", set(after)),
+        };
+        text += &format!(
+            "  exit{number} [label=\"exit{after}\", shape=plaintext];\n  n{number} -> exit{number};\n"
+        );
+    }
+    text
+}

@@ -1,0 +1,68 @@
+//! What is read: job files and plan files.
+use std::ffi::OsStr;
+use std::fs::File;
+use std::io::{self, Read};
+
+/// The bytes of a plan file that are read; no plan is as long.
+const PLAN_FILE: usize = 4_096;
+
+/// A file that was read.
+pub struct Input {
+    /// Its name, for messages.
+    pub shown: String,
+    pub bytes: Vec<u8>,
+}
+
+/// A plan file: one byte for each digit.
+pub struct Plan {
+    pub shown: String,
+    pub bytes: Vec<u8>,
+}
+
+/// Reads a job file; of one that is too long one byte more than is allowed.
+pub fn job(name: &OsStr) -> Result<Input, String> {
+    read(name, dapohiru::JOB_LEN + 1)
+}
+
+/// Reads a plan file, a line of digits. What a digit above 1 means is for the plan check to say.
+pub fn plan(name: &OsStr) -> Result<Plan, String> {
+    let Input { shown, bytes } = read(name, PLAN_FILE)?;
+    let line = bytes.strip_suffix(b"\n").unwrap_or(&bytes);
+    if let Some(place) = line.iter().position(|byte| !byte.is_ascii_digit()) {
+        let (found, ending) = match line[place] {
+            b'\n' => ("the end of the line".to_string(), " and nothing after it"),
+            byte => (format!("`{}`", byte.escape_ascii()), ""),
+        };
+        return Err(format!(
+            "{shown}: line 1, column {}: found {found}\n  expected: one line of 0 and 1, a digit for each node{ending}",
+            place + 1
+        ));
+    }
+    Ok(Plan {
+        shown,
+        bytes: line.iter().map(|digit| digit - b'0').collect(),
+    })
+}
+
+/// Reads a file, or standard input for `-`, up to so many bytes.
+pub fn read(name: &OsStr, most: usize) -> Result<Input, String> {
+    let (shown, file): (_, Box<dyn Read>) = if name == "-" {
+        ("standard input".to_string(), Box::new(io::stdin().lock()))
+    } else {
+        let shown = name.to_string_lossy().into_owned();
+        let file = File::open(name).map_err(|why| format!("{shown}: {why}"))?;
+        (shown, Box::new(file))
+    };
+    let mut bytes = Vec::new();
+    let done = file.take(most as u64).read_to_end(&mut bytes);
+    done.map_err(|why| format!("{shown}: {why}"))?;
+    Ok(Input { shown, bytes })
+}
+
+/// Refuses two files that are both standard input.
+pub fn at_most_one_is_input(one: &OsStr, other: &OsStr) -> Result<(), String> {
+    match one == "-" && other == "-" {
+        true => Err("JOB and PLAN cannot both be standard input".to_string()),
+        false => Ok(()),
+    }
+}

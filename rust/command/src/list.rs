@@ -1,0 +1,59 @@
+//! The command `list`: what was found at each point of a job.
+use crate::args::{Command, Given};
+use crate::explain::explained;
+use crate::names::Names;
+use crate::{input, job, output, refusal};
+use dapohiru::Refusal;
+
+pub const COMMAND: Command = Command {
+    name: "list",
+    usage: "list JOB [--explain] [--names FILE]",
+    summary: "Plans a job and lists what was found at each point.",
+    details: "
+  JOB           a job file, or - for standard input
+  --explain     a table with headings, and in words what it says of each point
+  --names FILE  with --explain, names for the symbols: a line for each, its number, a space and its name
+
+Without --explain it prints a W line for each event node (node, symbol, before set, class count, nop
+mark, watched) and the T line (event nodes, watched, passes), or for a refusal X and its number.
+Exit status: 0 a listing; 2 a refused job or something else that is wrong.
+",
+    names: &["JOB"],
+    more: 0,
+    flags: &["--explain"],
+    options: &[("--names", "FILE")],
+    run,
+};
+
+fn run(given: &Given) -> Result<u8, String> {
+    let names = given.value("--names");
+    if names.is_some() && !given.has("--explain") {
+        return Err("list: --names is only of use with --explain".to_string());
+    }
+    if names.is_some_and(|names| names == "-") && given.name(0) == "-" {
+        return Err("list: JOB and the names cannot both be standard input".to_string());
+    }
+    let file = input::job(given.name(0))?;
+    let mut listing = vec![0; dapohiru::LISTING_LEN];
+    match dapohiru::list(&file.bytes, &mut listing, &mut vec![0; dapohiru::WORK_LEN]) {
+        Ok(len) => listing.truncate(len),
+        Err(refusal) => {
+            let told = refusal::of_job(&file, refusal);
+            let Refusal(number) = refusal;
+            let printed = match given.has("--explain") {
+                true => Ok(()),
+                false => output::print(format!("X{number:>6}\n").as_bytes()),
+            };
+            return Err(match printed {
+                Ok(()) => told,
+                Err(why) => format!("{told}\n{why}"),
+            });
+        }
+    }
+    if given.has("--explain") {
+        let job = job::accepted(&file)?;
+        let names = Names::read(names, job.symbols)?;
+        listing = explained(&listing, job.states, &names).into_bytes();
+    }
+    output::print(&listing).map(|()| 0)
+}

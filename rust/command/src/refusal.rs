@@ -1,0 +1,105 @@
+//! What is said of a refusal: its number, and where the second reader finds the same number also the
+//! meaning, the place and what was expected there.
+use crate::input::{Input, Plan};
+use crate::lines::Fault;
+use crate::place::first_fault;
+use dapohiru::Refusal;
+use plain::read::Decoded;
+
+/// What is said of a refused job file.
+pub fn of_job(job: &Input, refusal: Refusal) -> String {
+    told(&job.shown, refusal, first_fault(&job.bytes))
+}
+
+/// What is said of a refused job file or plan, whichever it is.
+pub fn of_plan(job: &Input, plan: &Plan, refusal: Refusal) -> String {
+    match refusal.0 {
+        11 | 12 => told(&plan.shown, refusal, plan_fault(job, &plan.bytes)),
+        _ => of_job(job, refusal),
+    }
+}
+
+/// The refusal of the proved call, and the fault that a second reader found.
+fn told(shown: &str, refusal: Refusal, fault: Option<Fault>) -> String {
+    let Some(fault) = fault.filter(|fault| fault.number == refusal.0) else {
+        return format!("{shown}: {refusal}");
+    };
+    let place = match fault.place {
+        Some((line, first, last)) if first == last => format!("line {line}, column {first}: "),
+        Some((line, first, last)) => format!("line {line}, columns {first} to {last}: "),
+        None => String::new(),
+    };
+    let meaning = meaning(fault.number);
+    let Fault {
+        found, expected, ..
+    } = fault;
+    format!("{shown}: {refusal}: {meaning}\n  {place}found {found}\n  expected: {expected}")
+}
+
+/// The first fault of a plan for a job that is accepted.
+fn plan_fault(job: &Input, plan: &[u8]) -> Option<Fault> {
+    let mut decoded = Decoded::new();
+    decoded.decode(&job.bytes).ok()?;
+    let nodes = &decoded.nodes[..decoded.node_count];
+    let fault = |number, column, found, expected| {
+        Some(Fault {
+            number,
+            place: Some((1, column, column)),
+            found,
+            expected,
+        })
+    };
+    if plan.len() != nodes.len() {
+        let place = plan.len().min(nodes.len());
+        let found = match plan.get(place) {
+            Some(digit) => format!("`{digit}`"),
+            None => "the end of the plan".to_string(),
+        };
+        let expected = format!("a digit for each of the {} nodes and no more", nodes.len());
+        return fault(11, place + 1, found, expected);
+    }
+    let place = |(node, &digit): (usize, &u8)| digit > u8::from(nodes[node].kind == 1);
+    let node = plan.iter().enumerate().position(place)?;
+    let expected = match nodes[node].kind {
+        1 => format!("0 or 1 at node {node}, an event node"),
+        _ => format!("0 at node {node}, which is no event node"),
+    };
+    fault(12, node + 1, format!("`{}`", plan[node]), expected)
+}
+
+/// What a refusal means (document 01, "Turned back, by number").
+fn meaning(number: u64) -> &'static str {
+    match number {
+        1 => "the file is too long",
+        2 => "a buffer is too short",
+        3 => "the file ends where a line is due",
+        4 => "the line due has not its letter, its fields or its end byte",
+        5 => "a number of the J line is outside its limits",
+        6 => "an R line has a state out of order, a final mark above 1 or a next state that the job lacks",
+        7 => "a P line has a node out of order, a wrong kind or mark, or a value or set that the job lacks",
+        8 => "an F line names a node that the job lacks, or does not ascend",
+        9 => "bytes follow the last line",
+        10 => "no node is an entry",
+        11 => "the plan has not one digit for each node",
+        12 => "the plan has a digit above 1, or a 1 at a node that is no event node",
+        _ => "no refusal of a job or a plan",
+    }
+}
+
+#[cfg(test)]
+mod tests {
+    use super::*;
+
+    #[test]
+    fn differing_second_reader_leaves_the_proved_number_alone() {
+        let fault = || first_fault(b"K");
+        assert_eq!(fault().unwrap().number, 4);
+        assert_eq!(told("x.job", Refusal(5), fault()), "x.job: refused 5");
+        assert_eq!(told("x.job", Refusal(5), None), "x.job: refused 5");
+        assert_eq!(
+            told("x.job", Refusal(4), fault()),
+            "x.job: refused 4: the line due has not its letter, its fields or its end byte\n  \
+             line 1, column 1: found `K`\n  expected: the letter J"
+        );
+    }
+}

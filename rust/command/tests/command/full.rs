@@ -1,0 +1,156 @@
+//! Output that cannot be written: a full disk, a closed pipe, files that are no place for a plan.
+use crate::program::{ended, example, file, folder, names, program, run, shell, PAIR};
+use std::fs::{self, File};
+use std::io::{pipe, Write};
+use std::process::Stdio;
+
+/// The commands that print, each with its standard input.
+fn printing() -> Vec<(Vec<String>, &'static str)> {
+    let job = example("pair.job");
+    let folder = folder("full-release");
+    file(&folder, "pair.job", PAIR.as_bytes());
+    let release = folder.display().to_string();
+    [
+        (vec!["--help"], ""),
+        (vec!["plan", "--help"], ""),
+        (vec!["plan", &job], ""),
+        (vec!["list", &job], ""),
+        (vec!["list", &job, "--explain"], ""),
+        (vec!["list", "-"], ""),
+        (vec!["check", &job, "-"], "011\n"),
+        (vec!["check", &job, "-"], "001\n"),
+        (vec!["watch", &job], ""),
+        (vec!["watch", &job], "0\n2\n2\n2\n"),
+        (vec!["release", &release], ""),
+        (vec!["graph", &job], ""),
+    ]
+    .map(|(words, input)| (words.into_iter().map(str::to_string).collect(), input))
+    .into()
+}
+
+/// Runs every command that prints to this standard output, which takes nothing.
+fn nothing_is_taken(output: impl Fn() -> Stdio, why: &str) {
+    for (words, input) in printing() {
+        let words: Vec<_> = words.iter().map(String::as_str).collect();
+        let mut command = program(&words);
+        let mut child = command
+            .stdin(Stdio::piped())
+            .stdout(output())
+            .spawn()
+            .unwrap();
+        drop(command);
+        let _ = child.stdin.take().unwrap().write_all(input.as_bytes());
+        let (status, _, wrong) = ended(child);
+        assert_eq!(status, 2, "{words:?}");
+        // a refusal is told before it
+        let refused = words == ["list", "-"];
+        let begins = match refused {
+            true => "dapohiru: standard input: refused 3: ",
+            false => "dapohiru: standard output",
+        };
+        assert!(wrong.starts_with(begins), "{words:?}: {wrong}");
+        assert!(wrong.ends_with(&format!("{why}\n")), "{words:?}: {wrong}");
+        assert_eq!(wrong.lines().count() > 1, refused, "{words:?}: {wrong}");
+    }
+}
+
+#[test]
+fn full_disk_on_standard_output_is_told() {
+    nothing_is_taken(
+        || {
+            File::options()
+                .write(true)
+                .open("/dev/full")
+                .unwrap()
+                .into()
+        },
+        "standard output: No space left on device (os error 28)",
+    );
+}
+
+#[test]
+fn closed_pipe_is_told() {
+    nothing_is_taken(
+        || pipe().unwrap().1.into(),
+        "standard output was closed before all was written",
+    );
+}
+
+#[test]
+fn reader_that_ends_early_ends_the_run() {
+    let job = example("pair.job");
+    let script = "set -o pipefail; (echo 0; while echo 2; do :; done) 2>/dev/null | \"$1\" watch \"$2\" | head -1";
+    let (status, printed, wrong) = shell(script, &[&job]);
+    assert_eq!(
+        printed,
+        "alarm at event 2 (line 2): node 2, symbol 2, state 2\n"
+    );
+    assert_eq!(
+        wrong,
+        "dapohiru: standard output was closed before all was written\n"
+    );
+    assert_ne!(status, 0);
+}
+
+#[test]
+fn counts_that_cannot_be_written_end_with_status_2() {
+    let done = shell("\"$1\" plan \"$2\" 2>/dev/full", &[&example("pair.job")]);
+    assert_eq!(done, (2, "011\n".to_string(), String::new()));
+}
+
+#[test]
+fn message_that_cannot_be_written_still_ends_with_status_2() {
+    let done = shell("\"$1\" plan /no/such/file 2>/dev/full", &[]);
+    assert_eq!(done, (2, String::new(), String::new()));
+}
+
+#[test]
+fn file_on_a_full_disk_stays_as_it_was() {
+    let folder = folder("full-file");
+    let plan = file(&folder, "pair.plan", b"111\n");
+    let new = folder.join("new.plan").display().to_string();
+    // a limit of no bytes for files stands for a full disk
+    let script = "trap '' XFSZ; ulimit -f 0; exec \"$@\"";
+    for to in [&plan, &new] {
+        let done = shell(script, &["plan", &example("pair.job"), "-o", to]);
+        let wrong = format!("dapohiru: {to} is not written: File too large (os error 27)\n");
+        assert_eq!(done, (2, String::new(), wrong));
+        assert_eq!(fs::read_to_string(&plan).unwrap(), "111\n");
+        assert_eq!(names(&folder), ["pair.plan"]);
+    }
+    file(&folder, "a.job", PAIR.as_bytes());
+    let (status, printed, wrong) = shell(script, &["release", folder.to_str().unwrap()]);
+    assert_eq!((status, printed.lines().count()), (2, 2));
+    assert!(wrong.starts_with("dapohiru: 1 of 1 jobs not read or not written:\n"));
+    assert_eq!(names(&folder), ["a.job", "pair.plan"]);
+}
+
+#[test]
+fn what_is_no_regular_file_is_not_replaced() {
+    let folder = folder("full-places");
+    let link = folder.join("link");
+    std::os::unix::fs::symlink("nothing", &link).unwrap();
+    for (to, why) in [
+        (
+            "/dev/full",
+            ": it is no regular file, and only such a file is written whole",
+        ),
+        (
+            "/dev/null",
+            ": it is no regular file, and only such a file is written whole",
+        ),
+        (folder.to_str().unwrap(), ": it is a folder"),
+        (link.to_str().unwrap(), ": it is a link to nothing"),
+        (
+            "/no/such/folder/plan",
+            ": no file can be made beside it: No such file or directory (os error 2)",
+        ),
+    ] {
+        for command in ["plan", "graph"] {
+            let done = run(&[command, &example("pair.job"), "-o", to], "");
+            let wrong = format!("dapohiru: {to}{why}\n");
+            assert_eq!(done, (2, String::new(), wrong));
+        }
+    }
+    assert_eq!(names(&folder), ["link"]);
+}

@@ -1,0 +1,124 @@
+//! The command `list`.
+use crate::program::{example, file, folder, run, PAIR};
+use walks::listing::listing;
+use walks::random::Random;
+
+#[test]
+fn listing_is_printed_as_document_01_has_it() {
+    let printed = include_str!("../expected/pair.txt").to_string();
+    let wanted = (0, printed, String::new());
+    assert_eq!(run(&["list", &example("pair.job")], ""), wanted);
+    assert_eq!(run(&["list", "-"], PAIR), wanted);
+}
+
+#[test]
+fn refused_job_is_x_and_the_number_with_its_meaning_on_standard_error() {
+    let (status, printed, wrong) = run(&["list", "-"], &(PAIR.to_string() + "\n"));
+    assert_eq!((status, printed.as_str()), (2, "X     9\n"));
+    assert_eq!(
+        wrong,
+        "dapohiru: standard input: refused 9: bytes follow the last line\n  \
+         line 10, column 1: found `\\n`\n  expected: the end of the file\n"
+    );
+    let explained = run(&["list", "-", "--explain"], &(PAIR.to_string() + "\n"));
+    assert_eq!(explained, (2, String::new(), wrong));
+}
+
+#[test]
+fn explained_listing_names_the_symbols() {
+    let printed = include_str!("../expected/explained.txt").to_string();
+    let (job, names) = (example("pair.job"), example("pair.names"));
+    for words in [
+        &["list", &job, "--explain", "--names", &names][..],
+        &["list", "--explain", &format!("--names={names}"), &job],
+    ] {
+        let wanted = (0, printed.clone(), String::new());
+        assert_eq!(run(words, ""), wanted);
+    }
+}
+
+#[test]
+fn explained_listing_has_the_numbers_of_the_listing() {
+    let mut random = Random::of_this_run();
+    for _ in 0..40 {
+        let job = walks::small::job(&mut random);
+        let file = String::from_utf8(job.file()).unwrap();
+        let (status, printed, wrong) = run(&["list", "-", "--explain"], &file);
+        assert_eq!((status, wrong.as_str()), (0, ""));
+        let listing = String::from_utf8(listing(&job)).unwrap();
+        for (line, row) in listing.lines().zip(printed.lines().skip(1)) {
+            let numbers: Vec<u64> = line[1..]
+                .split_whitespace()
+                .map(|number| number.parse().unwrap())
+                .collect();
+            let cells: Vec<_> = row.split_whitespace().collect();
+            match numbers[..] {
+                [node, symbol, before, classes, nop, watched] => assert_eq!(
+                    cells,
+                    [
+                        node.to_string(),
+                        symbol.to_string(),
+                        members(before),
+                        classes.to_string(),
+                        ["no", "yes"][nop as usize].to_string(),
+                        ["unwatched", "watched"][watched as usize].to_string(),
+                    ]
+                ),
+                [points, watched, passes] => assert_eq!(
+                    row,
+                    format!("{points} event nodes, {watched} of them watched, {passes} passes")
+                ),
+                _ => panic!("{line}"),
+            }
+        }
+    }
+}
+
+/// A set as the table shows it.
+fn members(set: u64) -> String {
+    let members: Vec<_> = walks::job::members(set)
+        .map(|member| member.to_string())
+        .collect();
+    format!("{{{}}}", members.join(","))
+}
+
+#[test]
+fn wrong_names_file_is_refused_with_its_line() {
+    let folder = folder("names");
+    let job = example("pair.job");
+    for (number, (text, why)) in [
+        ("0 seal\n0 seal\n", "line 2: symbol 0 has a name already"),
+        (
+            "3 tear\n",
+            "line 1: the symbols of the job are 0 to 2, and the line names 3",
+        ),
+        (
+            "0 seal\nwrite\n",
+            "line 2: `write` is not a symbol, a space and a name",
+        ),
+        ("0 \n", "line 1: `0 ` is not a symbol, a space and a name"),
+        ("\n", "line 1: `` is not a symbol, a space and a name"),
+        (
+            " 0 seal\n",
+            "line 1: ` 0 seal` is not a symbol, a space and a name",
+        ),
+        (
+            "0 a\tb\n",
+            "line 1: `0 a\\tb` is not a symbol, a space and a name",
+        ),
+        (
+            "99999999999999999999999 x\n",
+            "line 1: `99999999999999999999999 x` is not a symbol, a space and a name",
+        ),
+    ]
+    .into_iter()
+    .enumerate()
+    {
+        let names = file(&folder, &number.to_string(), text.as_bytes());
+        let done = run(&["list", &job, "--explain", "--names", &names], "");
+        assert_eq!(
+            done,
+            (2, String::new(), format!("dapohiru: {names}: {why}\n"))
+        );
+    }
+}

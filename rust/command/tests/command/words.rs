@@ -1,0 +1,161 @@
+//! The words of the command line: wrong ones, missing files, and the help.
+use crate::program::{example, run};
+
+const COMMANDS: [&str; 6] = ["plan", "list", "check", "watch", "release", "graph"];
+
+#[test]
+fn unknown_command_is_told_with_the_known_ones() {
+    let known = "the commands are plan, list, check, watch, release, graph; `dapohiru --help` tells of each\n";
+    for (words, why) in [
+        (&[][..], "no command is given"),
+        (&["monitor"], "monitor is no command"),
+        (&["-"], "- is no command"),
+        (&["--quick", "plan"], "--quick is no command"),
+    ] {
+        let wrong = format!("dapohiru: {why}\n{known}");
+        assert_eq!(run(words, ""), (2, String::new(), wrong));
+    }
+}
+
+#[test]
+fn wrong_words_are_told_with_the_usage() {
+    let job = example("pair.job");
+    for (words, why) in [
+        (&["plan"][..], "JOB is missing"),
+        (&["list", "--explain"], "JOB is missing"),
+        (&["check"], "JOB is missing"),
+        (&["check", &job], "PLAN is missing"),
+        (&["watch"], "JOB is missing"),
+        (&["release"], "DIR is missing"),
+        (&["graph", "--svg"], "JOB is missing"),
+        (&["plan", &job, "b"], "b is one name too many"),
+        (&["list", &job, "b"], "b is one name too many"),
+        (&["check", &job, "b", "c"], "c is one name too many"),
+        (&["watch", &job, "b", "c"], "c is one name too many"),
+        (&["release", "a", "b"], "b is one name too many"),
+        (&["graph", &job, "b", "c"], "c is one name too many"),
+        (&["plan", &job, "--", "-o"], "-o is one name too many"),
+        (&["plan", "--quick", &job], "--quick is no option"),
+        (&["plan", &job, "--state=1"], "--state=1 is no option"),
+        (&["list", &job, "-o", "x"], "-o is no option"),
+        (
+            &["list", &job, "--explain=yes"],
+            "--explain=yes is no option",
+        ),
+        (&["plan", &job, "-o"], "-o is not followed by FILE"),
+        (&["plan", &job, "-o", ""], "-o is not followed by FILE"),
+        (&["release", &job, "-o"], "-o is not followed by OUTDIR"),
+        (&["watch", &job, "--state"], "--state is not followed by Q"),
+        (&["watch", &job, "--state="], "--state is not followed by Q"),
+        (
+            &["list", &job, "--names"],
+            "--names is not followed by FILE",
+        ),
+        (&["plan", &job, "-o", "a", "-o", "b"], "-o is given twice"),
+        (
+            &["watch", &job, "--state=0", "--state", "1"],
+            "--state is given twice",
+        ),
+    ] {
+        let (status, printed, wrong) = run(words, "");
+        assert_eq!((status, printed.as_str()), (2, ""));
+        let name = words[0];
+        let begins = format!("dapohiru: {name}: {why}\nusage: dapohiru {name} ");
+        assert!(wrong.starts_with(&begins), "{wrong}");
+        assert!(wrong.ends_with(&format!("`dapohiru {name} --help` tells more\n")));
+    }
+}
+
+#[test]
+fn words_that_do_not_go_together_are_told() {
+    let job = example("pair.job");
+    for (words, why) in [
+        (
+            &["list", &job, "--names", "x"][..],
+            "list: --names is only of use with --explain",
+        ),
+        (
+            &["list", "-", "--explain", "--names=-"],
+            "list: JOB and the names cannot both be standard input",
+        ),
+        (
+            &["check", "-", "-"],
+            "JOB and PLAN cannot both be standard input",
+        ),
+        (
+            &["graph", "-", "-"],
+            "JOB and PLAN cannot both be standard input",
+        ),
+        (
+            &["watch", "-"],
+            "watch: standard input holds the events, so JOB and PLAN are files",
+        ),
+        (
+            &["watch", &job, "-"],
+            "watch: standard input holds the events, so JOB and PLAN are files",
+        ),
+        (
+            &["graph", &job, "--svg", "--png"],
+            "graph: --svg and --png are two pictures, take one",
+        ),
+    ] {
+        let wrong = format!("dapohiru: {why}\n");
+        assert_eq!(run(words, ""), (2, String::new(), wrong));
+    }
+}
+
+#[test]
+fn missing_file_is_named() {
+    let job = example("pair.job");
+    let missing = "/no/such/file";
+    for words in [
+        &["plan", missing][..],
+        &["list", missing],
+        &["list", missing, "--explain"],
+        &["list", &job, "--explain", "--names", missing],
+        &["check", missing, missing],
+        &["check", &job, missing],
+        &["watch", missing],
+        &["watch", &job, missing],
+        &["release", missing],
+        &["graph", missing],
+        &["graph", &job, missing],
+    ] {
+        let wrong = format!("dapohiru: {missing}: No such file or directory (os error 2)\n");
+        assert_eq!(run(words, "0\n"), (2, String::new(), wrong), "{words:?}");
+    }
+    let (status, _, wrong) = run(&["plan", "/"], "");
+    assert_eq!(
+        (status, wrong.as_str()),
+        (2, "dapohiru: /: Is a directory (os error 21)\n")
+    );
+}
+
+#[test]
+fn help_is_printed_for_all_and_for_each() {
+    for words in [&["--help"][..], &["-h"]] {
+        let (status, printed, wrong) = run(words, "");
+        assert_eq!((status, wrong.as_str()), (0, ""));
+        assert!(printed.starts_with("usage: dapohiru COMMAND"));
+        for name in COMMANDS {
+            assert!(printed.contains(&format!("\n  {name} ")), "{printed}");
+        }
+    }
+    for name in COMMANDS {
+        for words in [
+            &[name, "--help"][..],
+            &[name, "-h"],
+            &[name, "a", "b", "c", "d", "--help"],
+        ] {
+            let (status, printed, wrong) = run(words, "");
+            assert_eq!((status, wrong.as_str()), (0, ""));
+            assert!(printed.starts_with(&format!("usage: dapohiru {name} ")));
+            let first = ["\n\n  JOB ", "\n\n  DIR "];
+            assert!(
+                first.iter().any(|first| printed.contains(first)),
+                "{printed}"
+            );
+            assert!(printed.contains("\nExit status: 0 "));
+        }
+    }
+}

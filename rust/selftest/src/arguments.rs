@@ -1,0 +1,113 @@
+//! The command line.
+use std::ffi::OsString;
+use std::ops::Range;
+use walks::{slip, stepping};
+
+pub const USAGE: &str = "\
+usage: dapohiru-selftest SEED N
+       dapohiru-selftest again SEED NUMBER
+       dapohiru-selftest memory SEED N
+       dapohiru-selftest soak EVENTS
+
+SEED N       makes N rounds of random and damaged calls of planning, listing, the plan check and the
+             event step, and walks with two monitors, and compares every answer and every lent byte
+             with a second implementation. Ends at the first difference.
+again        makes one round again, by its seed and number.
+memory       makes calls on N damaged files and on buffers of all lengths around the limits, each
+             buffer an allocation of its own size, for valgrind to watch (tools/fuzz).
+soak         takes EVENTS events, compares reports and records with a plain step after each batch,
+             and gives the events per second.
+
+Exit status: 0 no difference, 1 a difference, 2 wrong arguments or an output that cannot be written.
+";
+
+/// What a command line asks for.
+pub enum Asked {
+    Help,
+    Rounds(Rounds),
+    Memory { seed: u64, files: u64 },
+    Soak { events: u64 },
+}
+
+/// Rounds to be made.
+pub struct Rounds {
+    pub seed: u64,
+    pub numbers: Range<u64>,
+    pub slips: Slips,
+}
+
+/// A wrong reading that the second implementation is given, so that the comparison must go red.
+#[derive(Clone, Copy, Default)]
+pub struct Slips {
+    pub walks: Option<slip::Slip>,
+    pub step: Option<stepping::Slip>,
+}
+
+/// What the arguments ask for, or in words what is wrong with them.
+pub fn read(arguments: impl Iterator<Item = OsString>) -> Result<Asked, String> {
+    let mut words = Vec::new();
+    for argument in arguments {
+        let word = argument.into_string();
+        words.push(word.map_err(|word| format!("{} is no text", word.display()))?);
+    }
+    let slips = take_slip(&mut words)?;
+    let words: Vec<_> = words.iter().map(String::as_str).collect();
+    let asked = match words[..] {
+        ["--help" | "-h" | "help"] => Asked::Help,
+        ["again", seed, number] => {
+            let number = numeral(number, "NUMBER")?;
+            let past = number.checked_add(1).ok_or("NUMBER is too large")?;
+            Asked::Rounds(Rounds {
+                seed: numeral(seed, "SEED")?,
+                numbers: number..past,
+                slips,
+            })
+        }
+        ["memory", seed, files] => Asked::Memory {
+            seed: numeral(seed, "SEED")?,
+            files: numeral(files, "N")?,
+        },
+        ["soak", events] => Asked::Soak {
+            events: numeral(events, "EVENTS")?,
+        },
+        [seed, count] => Asked::Rounds(Rounds {
+            seed: numeral(seed, "SEED")?,
+            numbers: 0..numeral(count, "N")?,
+            slips,
+        }),
+        [] => return Err("SEED and N are missing".to_string()),
+        _ => return Err(format!("'{}' asks for nothing known", words.join(" "))),
+    };
+    Ok(asked)
+}
+
+/// A decimal number.
+fn numeral(word: &str, what: &str) -> Result<u64, String> {
+    word.parse()
+        .map_err(|_| format!("{what} is a decimal number, and '{word}' is none"))
+}
+
+/// Takes `--slip NAME` out of the words. It is for the tests of this program.
+fn take_slip(words: &mut Vec<String>) -> Result<Slips, String> {
+    let mut slips = Slips::default();
+    if let Some(place) = words.iter().position(|word| word == "--slip") {
+        let taken: Vec<_> = words.drain(place..words.len().min(place + 2)).collect();
+        let name = taken.get(1).ok_or("--slip has no name")?;
+        slips = Slips {
+            walks: slip::Slip::named(name),
+            step: stepping::Slip::named(name),
+        };
+        if slips.words().is_none() {
+            return Err(format!("'{name}' is no slip"));
+        }
+    }
+    Ok(slips)
+}
+
+impl Slips {
+    /// The name of the slip that is switched on.
+    pub fn words(self) -> Option<String> {
+        let of_walks = self.walks.map(|slip| format!("{slip:?}"));
+        of_walks.or(self.step.map(|slip| format!("{slip:?}")))
+    }
+}

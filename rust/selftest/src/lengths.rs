@@ -1,0 +1,137 @@
+//! Buffers of all lengths around the limits, in every place of every call.
+use crate::library::LIBRARY;
+use crate::memory::{exact, filled, Calls};
+use walks::call::{LONGEST, WORK};
+use walks::library::ACCEPTED;
+use walks::random::Random;
+use walks::samples::pair;
+use walks::served::Service;
+use walks::stepping::{self, Answer};
+
+/// The lengths that every buffer has in turn.
+const LENGTHS: [usize; 17] = [
+    0, 1, 15, 16, 17, 255, 256, 257, 511, 512, 513, 32_767, 32_768, 32_769, 65_535, 65_536, 65_537,
+];
+
+/// Says that a number is not the one wanted.
+fn same(number: u64, wanted: u64, what: &str) -> Result<(), String> {
+    match number == wanted {
+        true => Ok(()),
+        false => Err(format!("{number} and not {wanted}: {what}")),
+    }
+}
+
+/// All the lengths.
+pub fn run(calls: &mut Calls, random: &mut Random) -> Result<(), String> {
+    plan_and_listing_buffers(calls)?;
+    plans(calls)?;
+    files(calls)?;
+    rules_and_records(calls)?;
+    events(calls, random)
+}
+
+/// Plan, listing and work buffers.
+fn plan_and_listing_buffers(calls: &mut Calls) -> Result<(), String> {
+    let file = pair().file();
+    for service in Service::BOTH {
+        let accepted = calls.serve(service, &file, service.least(), WORK);
+        for lent in LENGTHS {
+            for work in LENGTHS {
+                let fits = lent >= service.least() && work >= WORK;
+                let number = calls.serve(service, &file, lent, work);
+                let what = format!("{service:?} with {lent} and {work} bytes");
+                same(number, if fits { accepted } else { 2 }, &what)?;
+            }
+        }
+    }
+    Ok(())
+}
+
+/// Plans to be checked, with work buffers.
+fn plans(calls: &mut Calls) -> Result<(), String> {
+    let file = pair().file();
+    for plan in LENGTHS.into_iter().chain([2, 3, 4]) {
+        for work in LENGTHS {
+            let number = calls.check(&file, &vec![0; plan], work);
+            let wanted = match plan {
+                _ if work < WORK => 2,
+                // no point of PAIR is watched
+                3 => ACCEPTED + 1,
+                _ => 11,
+            };
+            same(number, wanted, &format!("plan of {plan} and {work} bytes"))?;
+        }
+    }
+    Ok(())
+}
+
+/// Files, cut short or with bytes past their last line.
+fn files(calls: &mut Calls) -> Result<(), String> {
+    let whole = pair().file();
+    let around = LONGEST - 1..=LONGEST + 1;
+    for len in LENGTHS.into_iter().chain(around).chain(0..=whole.len()) {
+        let mut file = whole.clone();
+        file.resize(len, b'\n');
+        let wanted = match len {
+            _ if len > LONGEST => 1,
+            _ if len > whole.len() => 9,
+            _ if len == whole.len() => ACCEPTED,
+            _ if len == 0 || whole[len - 1] == b'\n' => 3,
+            _ => 4,
+        };
+        for service in Service::BOTH {
+            let number = calls.serve(service, &file, service.least(), WORK);
+            let number = if number > ACCEPTED { ACCEPTED } else { number };
+            same(number, wanted, &format!("{service:?} of {len} bytes"))?;
+        }
+        let number = calls.check(&file, &[1, 1, 1], WORK);
+        same(number, wanted, &format!("check of {len} bytes"))?;
+    }
+    Ok(())
+}
+
+/// Rules and records of the event step.
+fn rules_and_records(calls: &mut Calls) -> Result<(), String> {
+    for rule in LENGTHS {
+        for record in LENGTHS {
+            let (table, mut lent) = (filled(rule, 0), filled(record, 0));
+            let number = (LIBRARY.event)(&table, 16, 16, 0, 15, &mut lent);
+            let wanted = match (rule, record) {
+                (256, 16) => ACCEPTED,
+                (256, _) => 15,
+                _ => 13,
+            };
+            same(
+                number,
+                wanted,
+                &format!("rule of {rule}, record of {record}"),
+            )?;
+            match number {
+                ACCEPTED => calls.tally.quiet += 1,
+                _ => calls.tally.add_refused(number, 1),
+            }
+        }
+    }
+    Ok(())
+}
+
+/// Calls of the event step with any rule, symbol and record.
+fn events(calls: &mut Calls, random: &mut Random) -> Result<(), String> {
+    for _ in 0..5_000 {
+        let call = stepping::Call::any(random);
+        let (rule, mut record) = (exact(call.rule()), exact(call.record()));
+        let (states, symbols, finals) = (call.states, call.symbols, call.finals);
+        let number = (LIBRARY.event)(&rule, states, symbols, finals, call.symbol, &mut record);
+        let wanted = stepping::answer(LIBRARY, &mut call.clone());
+        let answer = match number.checked_sub(ACCEPTED) {
+            Some(0) => Answer::Quiet,
+            Some(1) => Answer::Alarm,
+            _ => Answer::Refused(number),
+        };
+        if answer != wanted {
+            return Err(format!("{answer:?} and then {wanted:?} for the same event"));
+        }
+        calls.tally.add_stepped(answer);
+    }
+    Ok(())
+}

@@ -1,0 +1,49 @@
+//! `dapohiru-selftest`: the C calls of the static library beside the second implementation that walks.
+mod arguments;
+mod lengths;
+mod library;
+mod memory;
+mod progress;
+mod rounds;
+mod run;
+mod soak;
+mod tally;
+
+use arguments::{Asked, USAGE};
+use std::io::{self, Write};
+use std::process::ExitCode;
+
+/// Whether the library did what it should.
+pub enum Found {
+    Nothing,
+    Difference,
+}
+
+/// Does what is asked, and writes what it found.
+fn answer(asked: &Asked, out: &mut impl Write) -> io::Result<Found> {
+    match asked {
+        Asked::Help => out.write_all(USAGE.as_bytes()).map(|()| Found::Nothing),
+        Asked::Rounds(rounds) => run::run(rounds, out),
+        Asked::Memory { seed, files } => memory::run(*seed, *files, out),
+        Asked::Soak { events } => soak::run(*events, out),
+    }
+}
+
+fn main() -> ExitCode {
+    let asked = match arguments::read(std::env::args_os().skip(1)) {
+        Ok(asked) => asked,
+        Err(why) => {
+            let _ = writeln!(io::stderr(), "dapohiru-selftest: {why}\n\n{USAGE}");
+            return ExitCode::from(2);
+        }
+    };
+    let mut out = io::stdout().lock();
+    match answer(&asked, &mut out).and_then(|found| out.flush().map(|()| found)) {
+        Ok(Found::Nothing) => ExitCode::SUCCESS,
+        Ok(Found::Difference) => ExitCode::from(1),
+        Err(why) => {
+            let _ = writeln!(io::stderr(), "dapohiru-selftest: standard output: {why}");
+            ExitCode::from(2)
+        }
+    }
+}

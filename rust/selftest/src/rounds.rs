@@ -1,0 +1,195 @@
+//! One round: random calls that its seed and number determine, each beside the second implementation.
+use crate::arguments::Slips;
+use crate::library::LIBRARY;
+use crate::tally::Tally;
+use plain::read::Decoded;
+use walks::checking;
+use walks::damage::damaged;
+use walks::job::Job;
+use walks::large::{self, Order};
+use walks::promise;
+use walks::random::Random;
+use walks::samples::pair;
+use walks::served::{Given, Service};
+use walks::serving;
+use walks::sized::FULL;
+use walks::spread::Spread;
+use walks::stepping::{compare, Call, Second};
+use walks::walk::Walks;
+use walks::{rings, small};
+
+/// What rounds use again and again.
+pub struct Rounds {
+    seed: u64,
+    slips: Slips,
+    serving: serving::Memory,
+    checking: checking::Memory,
+    decoded: Box<Decoded>,
+    pub tally: Tally,
+}
+
+impl Rounds {
+    /// The rounds of a seed.
+    pub fn new(seed: u64, slips: Slips) -> Self {
+        Rounds {
+            seed,
+            slips,
+            serving: serving::Memory::new(LIBRARY),
+            checking: checking::Memory::new(LIBRARY),
+            decoded: Decoded::new(),
+            tally: Tally::default(),
+        }
+    }
+
+    /// Makes one round; says in words how the library differs.
+    pub fn make(&mut self, number: u64) -> Result<(), String> {
+        let mut random = Random(self.seed ^ Random(number).number());
+        self.serving.begin(random.number());
+        self.checking.begin(random.number());
+        let random = &mut random;
+        match number % 8 {
+            0 | 4 => {
+                let job = if random.once_in(4) {
+                    rings::job(random)
+                } else {
+                    small::job(random)
+                };
+                self.serve(random, &job)
+            }
+            1 | 5 => {
+                let job = small::job(random);
+                self.check(random, &job)
+            }
+            2 => self.damaged(random),
+            3 => self.step(random),
+            6 => self.walk(random),
+            _ if number % 1_024 == 1_023 => self.large(random),
+            _ => self.spread(random),
+        }
+    }
+
+    /// Compares calls of planning and listing.
+    fn serve_cases(&mut self, job: &Job, cases: &[serving::Case]) -> Result<Given, String> {
+        let given = Given::of(&Walks::new(job, self.slips.walks));
+        for case in cases {
+            let seen = case.compare(&mut self.serving, &given)?;
+            self.tally.add_served(case.said(&seen));
+        }
+        Ok(given)
+    }
+
+    /// Compares calls of the plan check.
+    fn check_cases(&mut self, job: &Job, cases: &[checking::Case]) -> Result<(), String> {
+        let walks = Walks::new(job, self.slips.walks);
+        for case in cases {
+            let seen = case.compare(&mut self.checking, &walks)?;
+            self.tally.add_checked(seen.said);
+        }
+        Ok(())
+    }
+
+    /// Planning and listing of a job, some of them with faults.
+    fn serve(&mut self, random: &mut Random, job: &Job) -> Result<(), String> {
+        let cases = serving::cases(random, job);
+        self.serve_cases(job, &cases).map(drop)
+    }
+
+    /// The plan check of a job under all its plans or many of them, some with faults.
+    fn check(&mut self, random: &mut Random, job: &Job) -> Result<(), String> {
+        let cases = checking::cases(random, job);
+        self.check_cases(job, &cases)
+    }
+
+    /// A damaged file in all three calls; the plain reader says what it deserves.
+    fn damaged(&mut self, random: &mut Random) -> Result<(), String> {
+        for _ in 0..8 {
+            let whole = small::job(random);
+            let file = damaged(random, &whole);
+            let unread = self.decoded.decode(&file).err();
+            // a file that is refused spells no job, and any will do for what is given
+            let job = match unread {
+                None => self.decoded.job(),
+                Some(_) => pair(),
+            };
+            let cases = Service::BOTH.map(|service| serving::Case {
+                file: file.clone(),
+                unread,
+                ..serving::Case::of(service, &job)
+            });
+            self.serve_cases(&job, &cases)?;
+            let plan = match random.below(2) {
+                0 => job.all_watched(),
+                _ => job.plan_of(&[]),
+            };
+            let case = checking::Case {
+                file,
+                unread,
+                ..checking::Case::of(&job, plan)
+            };
+            self.check_cases(&job, &[case])?;
+        }
+        Ok(())
+    }
+
+    /// Calls of the event step, valid, damaged and at the limits.
+    fn step(&mut self, random: &mut Random) -> Result<(), String> {
+        for _ in 0..512 {
+            let second = Second {
+                slip: self.slips.step,
+            };
+            let answer = compare(LIBRARY, second, &Call::any(random))?;
+            self.tally.add_stepped(answer);
+        }
+        Ok(())
+    }
+
+    /// Both halves of the third promise on the plan that the library writes.
+    fn walk(&mut self, random: &mut Random) -> Result<(), String> {
+        let job = promise::job(random);
+        let file = job.file();
+        let said = |why: String| format!("{why}; job:\n{}", String::from_utf8_lossy(&file));
+        let mut plan = [7; dapohiru::PLAN_LEN];
+        let counts = dapohiru::plan(&file, &mut plan, &mut [0; dapohiru::WORK_LEN]);
+        counts.map_err(|refusal| said(refusal.to_string()))?;
+        self.tally.planned += 1;
+        let plan = &plan[..job.nodes.len()];
+        let walks = Walks::new(&job, self.slips.walks);
+        for _ in 0..4 {
+            let walked = promise::walk(LIBRARY, random, &walks, plan, 300).map_err(&said)?;
+            self.tally.add_walk(&walked);
+            if walked.differs {
+                return Err(said(format!("two monitors differ under plan {plan:?}")));
+            }
+        }
+        let needed = promise::needed(LIBRARY, random, &walks, plan, 2).map_err(&said)?;
+        self.tally.add_needed(&needed);
+        Ok(())
+    }
+
+    /// A small job spread over up to 512 nodes, in all three calls.
+    fn spread(&mut self, random: &mut Random) -> Result<(), String> {
+        let small = small::job(random);
+        let nodes = random.pick(&[16, 17, 64, 65, 255, 256, 257, 511, 512]);
+        let job = Spread::random(random, &small, nodes).job;
+        self.whole(&job)
+    }
+
+    /// A job of 512 nodes with long loops, or of the longest file, in all three calls.
+    fn large(&mut self, random: &mut Random) -> Result<(), String> {
+        let job = match random.below(4) {
+            0 => Job::random(random, FULL),
+            1 => large::job(random, Order::Flow),
+            _ => large::job(random, Order::Parts),
+        };
+        self.whole(&job)
+    }
+
+    /// Planning, listing, and the check of the plan and of two others.
+    fn whole(&mut self, job: &Job) -> Result<(), String> {
+        let both = Service::BOTH.map(|service| serving::Case::of(service, job));
+        let given = self.serve_cases(job, &both)?;
+        let plans = [given.planned.plan, job.all_watched(), job.plan_of(&[])];
+        let cases = plans.map(|plan| checking::Case::of(job, plan));
+        self.check_cases(job, &cases)
+    }
+}

@@ -1,0 +1,138 @@
+//! What the rounds came to.
+use std::fmt;
+use walks::promise::{Needed, Walked};
+use walks::records;
+use walks::stepping::Answer;
+use walks::{checking, serving};
+
+/// How often each answer came, and what the walks had.
+#[derive(Default)]
+pub struct Tally {
+    pub planned: u64,
+    pub listed: u64,
+    pub faithful: u64,
+    pub different: u64,
+    pub quiet: u64,
+    pub alarm: u64,
+    /// By number, 1 to 15.
+    pub refused: [u64; 16],
+    walks: u64,
+    /// What the two records of the walks were told.
+    told: records::Tally,
+    /// Watched points for which a walk was taken that needs them.
+    needed: u64,
+}
+
+/// What each refusal means.
+const MEANINGS: [&str; 15] = [
+    "the file is longer than 49,914 bytes",
+    "a lent buffer is too short",
+    "the file ends where a line is due",
+    "a line has not its letter, its fields or its end byte",
+    "a J number is outside its limits",
+    "an R line",
+    "a P line",
+    "an F line",
+    "bytes follow the last line",
+    "no node is an entry",
+    "a plan is not exactly N bytes",
+    "a plan byte is above 1, or is 1 at a node that is no event",
+    "a rule",
+    "a symbol",
+    "a record",
+];
+
+impl Tally {
+    /// Counts a refusal. The comparison has seen that the number is one.
+    pub fn add_refused(&mut self, number: u64, count: u64) {
+        if let Some(of) = self.refused.get_mut(number as usize) {
+            *of += count;
+        }
+    }
+
+    /// Counts an answer of planning or listing.
+    pub fn add_served(&mut self, said: serving::Said) {
+        match said {
+            serving::Said::Planned => self.planned += 1,
+            serving::Said::Listed => self.listed += 1,
+            serving::Said::Refused(number) => self.add_refused(number, 1),
+        }
+    }
+
+    /// Counts an answer of the plan check.
+    pub fn add_checked(&mut self, said: checking::Said) {
+        match said {
+            checking::Said::Faithful => self.faithful += 1,
+            checking::Said::Different => self.different += 1,
+            checking::Said::Refused(number) => self.add_refused(number, 1),
+        }
+    }
+
+    /// Counts an answer of the event step.
+    pub fn add_stepped(&mut self, answer: Answer) {
+        match answer {
+            Answer::Quiet => self.quiet += 1,
+            Answer::Alarm => self.alarm += 1,
+            Answer::Refused(number) => self.add_refused(number, 1),
+        }
+    }
+
+    /// Counts a walk.
+    pub fn add_walk(&mut self, walked: &Walked) {
+        self.walks += 1;
+        self.add_told(walked.tally);
+    }
+
+    /// Counts the walks that need a plan's watched points.
+    pub fn add_needed(&mut self, needed: &Needed) {
+        self.walks += 2 * needed.points as u64;
+        self.needed += needed.points as u64;
+        self.add_told(needed.tally);
+    }
+
+    fn add_told(&mut self, told: records::Tally) {
+        self.told.add(told);
+        for (number, count) in (13..).zip(told.refused) {
+            self.add_refused(number, count);
+        }
+    }
+
+    /// All calls.
+    pub fn calls(&self) -> u64 {
+        let accepted = self.planned + self.listed + self.faithful + self.different;
+        let on_walks = 2 * self.told.events - self.told.skipped;
+        let refused: u64 = self.refused.iter().sum();
+        accepted + self.quiet + self.alarm + on_walks + refused
+    }
+}
+
+/// A line for each answer that came, and for each refusal.
+impl fmt::Display for Tally {
+    fn fmt(&self, f: &mut fmt::Formatter<'_>) -> fmt::Result {
+        for (count, what) in [
+            (self.planned, "jobs planned"),
+            (self.listed, "jobs listed"),
+            (self.faithful, "plans faithful"),
+            (self.different, "plans different"),
+            (self.quiet, "events quiet"),
+            (self.alarm, "events with an alarm"),
+            (self.walks, "walks with two monitors"),
+            (self.told.events, "events of walks"),
+            (self.told.alarms, "alarms on walks"),
+            (self.told.skipped, "events skipped under a plan"),
+            (
+                self.needed,
+                "watched points, each with a walk that needs it",
+            ),
+        ] {
+            if count > 0 {
+                writeln!(f, "{count:>12}  {what}")?;
+            }
+        }
+        for (number, meaning) in (1..).zip(MEANINGS) {
+            let count = self.refused[number];
+            writeln!(f, "{count:>12}  refused {number:>2}: {meaning}")?;
+        }
+        Ok(())
+    }
+}

@@ -1,0 +1,150 @@
+//! The program `dapohiru-selftest`, run as anybody would.
+use std::process::{Command, Output, Stdio};
+use walks::{slip, stepping};
+
+/// Runs the program with these arguments.
+fn run(arguments: &[&str]) -> Output {
+    let mut program = Command::new(env!("CARGO_BIN_EXE_dapohiru-selftest"));
+    program.args(arguments).output().expect("the program runs")
+}
+
+/// The status, and what was printed.
+fn said(arguments: &[&str]) -> (Option<i32>, String) {
+    let output = run(arguments);
+    let text = String::from_utf8_lossy(&output.stdout).into_owned();
+    (output.status.code(), text)
+}
+
+/// The count that stands before these words.
+fn count(text: &str, words: &str) -> u64 {
+    let line = text.lines().find(|line| line.contains(words));
+    let line = line.unwrap_or_else(|| panic!("no '{words}' in\n{text}"));
+    line.split_whitespace().next().unwrap().parse().unwrap()
+}
+
+#[test]
+fn rounds_find_no_difference_and_every_answer_comes() {
+    let (status, text) = said(&["3", "1600"]);
+    print!("{text}");
+    assert_eq!(status, Some(0));
+    assert!(text.starts_with("seed 3: 1600 rounds, ") && text.ends_with("\nno difference\n"));
+    for number in 1..=15 {
+        assert!(
+            count(&text, &format!("refused {number:>2}:")) > 0,
+            "{number}"
+        );
+    }
+    for words in [
+        "jobs planned",
+        "jobs listed",
+        "plans faithful",
+        "plans different",
+        "events quiet",
+        "events with an alarm",
+        "alarms on walks",
+        "events skipped",
+        "a walk that needs it",
+    ] {
+        assert!(count(&text, words) > 0, "{words}");
+    }
+}
+
+#[test]
+fn same_seed_makes_the_same_rounds() {
+    let without_time = |text: String| text.split_once(" calls,").unwrap().0.to_string();
+    let one = without_time(said(&["5", "200"]).1);
+    assert_eq!(one, without_time(said(&["5", "200"]).1));
+    assert_ne!(one, without_time(said(&["6", "200"]).1));
+}
+
+#[test]
+fn every_slip_of_the_second_implementation_is_a_difference_that_can_be_seen_again() {
+    let of_walks = [slip::Slip::of_check(), slip::Slip::of_planning()].concat();
+    let of_walks = of_walks.iter().map(|slip| format!("{slip:?}"));
+    let of_step = stepping::Slip::ALL.iter().map(|slip| format!("{slip:?}"));
+    for slip in of_walks.chain(of_step) {
+        let (status, text) = said(&["11", "20000", "--slip", &slip]);
+        assert_eq!(status, Some(1), "{slip}: {text}");
+        assert!(text.contains("\ndifference in round "), "{text}");
+        let again = text.lines().last().expect("a last line");
+        let again = again.strip_prefix("to see it again: dapohiru-selftest ");
+        let words: Vec<_> = again.expect("the means to see it").split(' ').collect();
+        let (status, second) = said(&words);
+        assert_eq!(status, Some(1), "{words:?}");
+        let why = |text: &str| text.split("\ndifference in ").nth(1).map(str::to_string);
+        assert_eq!(why(&second), why(&text));
+        // without the slip the same round has no difference
+        assert_eq!(said(&words[..3]).0, Some(0), "{words:?}");
+        println!("{slip}: {}", words.join(" "));
+    }
+}
+
+#[test]
+fn soak_takes_every_event_and_finds_no_difference() {
+    let (status, text) = said(&["soak", "1000001"]);
+    print!("{text}");
+    assert_eq!(status, Some(0));
+    assert!(text.starts_with("1000001 events, ") && text.contains(" 245 batches compared"));
+    assert!(text.contains(" million events per second\n") && text.ends_with("no difference\n"));
+    assert_eq!(said(&["soak", "0"]).0, Some(0));
+}
+
+#[test]
+fn calls_on_exact_allocations_find_no_difference() {
+    let (status, text) = said(&["memory", "4", "3000"]);
+    print!("{text}");
+    assert_eq!(status, Some(0));
+    for number in 1..=15 {
+        assert!(
+            count(&text, &format!("refused {number:>2}:")) > 0,
+            "{number}"
+        );
+    }
+}
+
+#[test]
+fn wrong_arguments_are_status_2_with_the_usage() {
+    let wrong: [&[&str]; 9] = [
+        &[],
+        &["1"],
+        &["1", "x"],
+        &["-1", "5"],
+        &["again", "1"],
+        &["again", "1", "18446744073709551615"],
+        &["soak"],
+        &["1", "2", "--slip"],
+        &["1", "2", "--slip", "Nothing"],
+    ];
+    for arguments in wrong {
+        let output = run(arguments);
+        let text = String::from_utf8_lossy(&output.stderr).into_owned();
+        assert_eq!(output.status.code(), Some(2), "{arguments:?}");
+        assert!(text.contains("usage: dapohiru-selftest"), "{text}");
+        assert!(output.stdout.is_empty());
+    }
+    let (status, text) = said(&["--help"]);
+    assert_eq!(status, Some(0));
+    assert!(text.starts_with("usage: dapohiru-selftest"));
+}
+
+#[test]
+fn full_disk_on_output_is_status_2_with_words() {
+    let full = std::fs::OpenOptions::new().write(true).open("/dev/full");
+    let Ok(full) = full else {
+        println!("no /dev/full here");
+        return;
+    };
+    let mut program = Command::new(env!("CARGO_BIN_EXE_dapohiru-selftest"));
+    let output = program
+        .args(["1", "8"])
+        .stdout(full)
+        .stderr(Stdio::piped())
+        .output()
+        .expect("the program runs");
+    assert_eq!(output.status.code(), Some(2));
+    let text = String::from_utf8_lossy(&output.stderr).into_owned();
+    assert!(
+        text.starts_with("dapohiru-selftest: standard output: "),
+        "{text}"
+    );
+}

@@ -1,0 +1,97 @@
+//! The C calls as they are, on byte slices, in the order of their C arguments: each returns one number.
+//!
+//! A refusal is its number, 1 to 15. Every other answer has 2^48 added: planning returns event nodes
+//! times 2^32, watched points times 2^16 and passes, listing the length of its lines, the check 0 for
+//! faithful and 1 for different, the event step 0 for quiet and 1 for alarm.
+//!
+//! ```
+//! use dapohiru::numbers::{event, ALARM};
+//!
+//! assert_eq!(event(&[0; 256], 1, 1, 1, 0, &mut [0; 16]), ALARM);
+//! assert_eq!(event(&[0; 255], 1, 1, 1, 0, &mut [0; 16]), 13);
+//! ```
+use crate::ffi;
+
+/// What is added to the answer of an accepted call; the number of faithful and of quiet.
+pub const ACCEPTED: u64 = 1 << 48;
+/// The number of a plan that is not faithful.
+pub const DIFFERENT: u64 = ACCEPTED + 1;
+/// The number of an event with an alarm.
+pub const ALARM: u64 = ACCEPTED + 1;
+
+/// The number of [`crate::plan`].
+#[inline]
+pub fn plan(job: &[u8], work: &mut [u8], plan: &mut [u8]) -> u64 {
+    // SAFETY: each pointer and length are of one slice, `job` is only read, and nothing else holds
+    // `work` and `plan` during the call.
+    unsafe {
+        ffi::dapohiru_plan(
+            job.as_ptr(),
+            job.len(),
+            work.as_mut_ptr(),
+            work.len(),
+            plan.as_mut_ptr(),
+            plan.len(),
+        )
+    }
+}
+
+/// The number of [`crate::list`].
+#[inline]
+pub fn list(job: &[u8], work: &mut [u8], listing: &mut [u8]) -> u64 {
+    // SAFETY: each pointer and length are of one slice, `job` is only read, and nothing else holds
+    // `work` and `listing` during the call.
+    unsafe {
+        ffi::dapohiru_list(
+            job.as_ptr(),
+            job.len(),
+            work.as_mut_ptr(),
+            work.len(),
+            listing.as_mut_ptr(),
+            listing.len(),
+        )
+    }
+}
+
+/// The number of [`crate::check`].
+#[inline]
+pub fn check(job: &[u8], plan: &[u8], work: &mut [u8]) -> u64 {
+    // SAFETY: each pointer and length are of one slice, `job` and `plan` are only read, and nothing
+    // else holds `work` during the call.
+    unsafe {
+        ffi::dapohiru_check(
+            job.as_ptr(),
+            job.len(),
+            plan.as_ptr(),
+            plan.len(),
+            work.as_mut_ptr(),
+            work.len(),
+        )
+    }
+}
+
+/// The number of [`crate::event`].
+#[inline]
+pub fn event(
+    rule: &[u8],
+    states: u64,
+    symbols: u64,
+    finals: u64,
+    symbol: u64,
+    record: &mut [u8],
+) -> u64 {
+    // SAFETY: each pointer and length are of one slice, `rule` is only read, and nothing else holds
+    // `record` during the call.
+    unsafe {
+        ffi::dapohiru_event(
+            rule.as_ptr(),
+            rule.len(),
+            states,
+            symbols,
+            finals,
+            symbol,
+            record.as_mut_ptr(),
+            record.len(),
+        )
+    }
+}

@@ -1,0 +1,241 @@
+/*
+ * Calls every function of dapohiru.h on PAIR and on what each refusal names, and looks at the answers and at
+ * every byte that was lent. Prints how many tests there were; status 1 if one failed. Compiles as C99 and as C++.
+ */
+#include "dapohiru.h"
+
+#include <stdio.h>
+#include <stdlib.h>
+#include <string.h>
+
+/* Bytes past each buffer that no call may change. */
+#define PAST 64
+#define FILL 0xa5
+
+static const char PAIR[] = "J     3     3     3     2\n"
+                           "R     0     0     1     0     0\n"
+                           "R     1     0     1     0     2\n"
+                           "R     2     1     1     0     2\n"
+                           "P     0     1     0     1     0     0\n"
+                           "P     1     1     0     0     0     0\n"
+                           "P     2     1     2     0     1     0\n"
+                           "F     0     1\n"
+                           "F     1     2\n";
+static const char LINES[] = "W     0     0     1     1     1     0\n"
+                            "W     1     0     2     2     1     1\n"
+                            "W     2     2     2     1     0     1\n"
+                            "T     3     2     2\n";
+#define PAIR_LEN (sizeof PAIR - 1)
+#define LINES_LEN (sizeof LINES - 1)
+
+static int tests, failures;
+
+static void hold(int holds, const char *what, int line)
+{
+    tests++;
+    if (!holds) {
+        failures++;
+        printf("calls.c:%d: %s\n", line, what);
+    }
+}
+#define HOLD(fact) hold(fact, #fact, __LINE__)
+
+static uint8_t file[DAPOHIRU_JOB_LEN + 1];
+static uint8_t work[DAPOHIRU_WORK_LEN + PAST];
+static uint8_t plan[DAPOHIRU_PLAN_LEN + PAST];
+static uint8_t listing[DAPOHIRU_LISTING_LEN + PAST];
+
+static int all(const uint8_t *bytes, size_t len, uint8_t value)
+{
+    size_t k;
+    for (k = 0; k < len; k++)
+        if (bytes[k] != value)
+            return 0;
+    return 1;
+}
+
+/* PAIR as the file, and buffers that hold other bytes. */
+static void fresh(void)
+{
+    memcpy(file, PAIR, PAIR_LEN);
+    memset(work, FILL, sizeof work);
+    memset(plan, FILL, sizeof plan);
+    memset(listing, FILL, sizeof listing);
+}
+
+/* Whether the work buffer is as a call with this answer leaves it. */
+static int work_after(uint64_t answer)
+{
+    int kept = answer == DAPOHIRU_FILE_TOO_LONG || answer == DAPOHIRU_BUFFER_TOO_SHORT;
+    return all(work, DAPOHIRU_WORK_LEN, kept ? FILL : 0) && all(work + DAPOHIRU_WORK_LEN, PAST, FILL);
+}
+
+static void pair_is_planned_listed_and_checked(void)
+{
+    static const uint8_t planned[] = {0, 1, 1}, own[] = {1, 0, 1}, none[] = {0, 0, 1};
+    uint64_t answer;
+
+    fresh();
+    answer = dapohiru_plan(file, PAIR_LEN, work, sizeof work, plan, sizeof plan);
+    HOLD(answer == DAPOHIRU_ACCEPTED + (UINT64_C(3) << 32) + (UINT64_C(2) << 16) + 2);
+    HOLD(!DAPOHIRU_IS_REFUSAL(answer));
+    HOLD(DAPOHIRU_POINTS(answer) == 3 && DAPOHIRU_WATCHED(answer) == 2 && DAPOHIRU_PASSES(answer) == 2);
+    HOLD(memcmp(plan, planned, 3) == 0 && all(plan + 3, sizeof plan - 3, FILL));
+    HOLD(work_after(answer));
+
+    fresh();
+    answer = dapohiru_list(file, PAIR_LEN, work, sizeof work, listing, sizeof listing);
+    HOLD(answer == DAPOHIRU_ACCEPTED + LINES_LEN && DAPOHIRU_LENGTH(answer) == LINES_LEN);
+    HOLD(memcmp(listing, LINES, LINES_LEN) == 0);
+    HOLD(all(listing + LINES_LEN, sizeof listing - LINES_LEN, FILL));
+    HOLD(work_after(answer));
+
+    fresh();
+    HOLD(dapohiru_check(file, PAIR_LEN, own, 3, work, sizeof work) == DAPOHIRU_FAITHFUL);
+    HOLD(work_after(DAPOHIRU_FAITHFUL));
+    fresh();
+    HOLD(dapohiru_check(file, PAIR_LEN, none, 3, work, sizeof work) == DAPOHIRU_DIFFERENT);
+    HOLD(work_after(DAPOHIRU_DIFFERENT));
+}
+
+/* Asks that the three calls on the file refuse it by this number, and leave what a refusal leaves. */
+static void refused(uint64_t number, size_t file_len, size_t work_len)
+{
+    static const uint8_t own[] = {1, 0, 1};
+
+    HOLD(dapohiru_plan(file, file_len, work, work_len, plan, DAPOHIRU_PLAN_LEN) == number);
+    HOLD(DAPOHIRU_IS_REFUSAL(number));
+    HOLD(work_after(number));
+    memset(work, FILL, sizeof work);
+    HOLD(dapohiru_list(file, file_len, work, work_len, listing, DAPOHIRU_LISTING_LEN) == number);
+    HOLD(work_after(number));
+    memset(work, FILL, sizeof work);
+    HOLD(dapohiru_check(file, file_len, own, 3, work, work_len) == number);
+    HOLD(work_after(number));
+    HOLD(all(plan, sizeof plan, FILL) && all(listing, sizeof listing, FILL));
+}
+
+/* Puts one byte into PAIR and asks for the refusal. */
+static void refused_with(uint64_t number, size_t place, char byte)
+{
+    fresh();
+    file[place] = (uint8_t)byte;
+    refused(number, PAIR_LEN, sizeof work);
+}
+
+static void files_and_buffers_are_refused_by_number(void)
+{
+    /* the starts of the first R, P and F lines, and the length of an F line */
+    const size_t r = 26, p = r + 3 * 32, f = p + 3 * 38, f_len = 14;
+
+    fresh();
+    memset(file + PAIR_LEN, '\n', sizeof file - PAIR_LEN);
+    refused(DAPOHIRU_FILE_TOO_LONG, sizeof file, sizeof work);
+    fresh();
+    refused(DAPOHIRU_FILE_TOO_LONG, sizeof file, 0);
+    fresh();
+    refused(DAPOHIRU_BUFFER_TOO_SHORT, PAIR_LEN, DAPOHIRU_WORK_LEN - 1);
+    fresh();
+    refused(DAPOHIRU_BUFFER_TOO_SHORT, 0, 0);
+    fresh();
+    refused(DAPOHIRU_LINE_MISSING, 0, sizeof work);
+    fresh();
+    refused(DAPOHIRU_LINE_MISSING, PAIR_LEN - f_len, sizeof work);
+    fresh();
+    refused(DAPOHIRU_LINE_MALFORMED, PAIR_LEN - 1, sizeof work);
+    refused_with(DAPOHIRU_LINE_MALFORMED, r, 'Q');
+    refused_with(DAPOHIRU_BAD_SIZES, 6, '0');
+    refused_with(DAPOHIRU_BAD_RULE_LINE, r + 12, '2');
+    refused_with(DAPOHIRU_BAD_NODE_LINE, p + 12, '3');
+    refused_with(DAPOHIRU_BAD_EDGE_LINE, f + 12, '3');
+    refused_with(DAPOHIRU_BAD_EDGE_LINE, f + 6, '2');
+    fresh();
+    file[PAIR_LEN] = '\n';
+    refused(DAPOHIRU_BYTES_FOLLOW, PAIR_LEN + 1, sizeof work);
+    refused_with(DAPOHIRU_NO_ENTRY, p + 24, '0');
+
+    fresh();
+    HOLD(dapohiru_plan(file, PAIR_LEN, work, sizeof work, plan, DAPOHIRU_PLAN_LEN - 1) == DAPOHIRU_BUFFER_TOO_SHORT);
+    HOLD(dapohiru_list(file, PAIR_LEN, work, sizeof work, listing, DAPOHIRU_LISTING_LEN - 1) == DAPOHIRU_BUFFER_TOO_SHORT);
+    HOLD(all(plan, sizeof plan, FILL) && all(listing, sizeof listing, FILL));
+    HOLD(work_after(DAPOHIRU_BUFFER_TOO_SHORT));
+}
+
+static void plans_are_refused_by_number(void)
+{
+    uint8_t own[] = {1, 0, 1, 0};
+
+    fresh();
+    HOLD(dapohiru_check(file, PAIR_LEN, own, 2, work, sizeof work) == DAPOHIRU_BAD_PLAN_LENGTH);
+    HOLD(work_after(DAPOHIRU_BAD_PLAN_LENGTH));
+    fresh();
+    HOLD(dapohiru_check(file, PAIR_LEN, own, 4, work, sizeof work) == DAPOHIRU_BAD_PLAN_LENGTH);
+    HOLD(work_after(DAPOHIRU_BAD_PLAN_LENGTH));
+    fresh();
+    own[2] = 2;
+    HOLD(dapohiru_check(file, PAIR_LEN, own, 3, work, sizeof work) == DAPOHIRU_BAD_PLAN_BYTE);
+    HOLD(work_after(DAPOHIRU_BAD_PLAN_BYTE));
+    HOLD(own[0] == 1 && own[1] == 0 && own[2] == 2 && own[3] == 0);
+    HOLD(memcmp(file, PAIR, PAIR_LEN) == 0);
+}
+
+/* A record with the given state and alarm total, and bytes past it. */
+static uint8_t room[DAPOHIRU_RECORD_LEN + PAST];
+
+static void put_record(uint8_t state, uint8_t total)
+{
+    memset(room, FILL, sizeof room);
+    memset(room, 0, DAPOHIRU_RECORD_LEN);
+    room[0] = state;
+    memset(room + 8, total, 8);
+}
+
+static int is_record(uint8_t state, uint8_t lowest, uint8_t others)
+{
+    return room[0] == state && all(room + 1, 7, 0) && room[8] == lowest && all(room + 9, 7, others) &&
+           all(room + DAPOHIRU_RECORD_LEN, PAST, FILL);
+}
+
+static void events_move_the_record_and_count_alarms(void)
+{
+    uint8_t rule[DAPOHIRU_RULE_LEN], kept[DAPOHIRU_RULE_LEN];
+    const uint64_t finals = 4;
+
+    memset(rule, 255, sizeof rule);
+    memcpy(rule, "\1\0\0", 3);
+    memcpy(rule + 16, "\1\0\2", 3);
+    memcpy(rule + 32, "\1\0\2", 3);
+    memcpy(kept, rule, sizeof rule);
+#define TAKE(symbol) dapohiru_event(rule, sizeof rule, 3, 3, finals, symbol, room, DAPOHIRU_RECORD_LEN)
+    put_record(0, 0);
+    HOLD(TAKE(0) == DAPOHIRU_QUIET && is_record(1, 0, 0));
+    HOLD(TAKE(2) == DAPOHIRU_ALARM && is_record(2, 1, 0));
+    HOLD(TAKE(2) == DAPOHIRU_ALARM && is_record(2, 2, 0));
+    HOLD(TAKE(1) == DAPOHIRU_QUIET && is_record(0, 2, 0));
+    put_record(2, 255);
+    HOLD(TAKE(2) == DAPOHIRU_ALARM && is_record(2, 255, 255));
+
+    put_record(2, 0);
+    HOLD(TAKE(3) == DAPOHIRU_BAD_SYMBOL);
+    HOLD(dapohiru_event(rule, 255, 3, 3, finals, 0, room, DAPOHIRU_RECORD_LEN) == DAPOHIRU_BAD_RULE);
+    HOLD(dapohiru_event(rule, sizeof rule, 17, 3, finals, 0, room, DAPOHIRU_RECORD_LEN) == DAPOHIRU_BAD_RULE);
+    HOLD(dapohiru_event(rule, sizeof rule, 3, 0, finals, 0, room, DAPOHIRU_RECORD_LEN) == DAPOHIRU_BAD_RULE);
+    HOLD(dapohiru_event(rule, sizeof rule, 3, 3, 8, 0, room, DAPOHIRU_RECORD_LEN) == DAPOHIRU_BAD_RULE);
+    HOLD(dapohiru_event(rule, sizeof rule, 3, 4, finals, 0, room, DAPOHIRU_RECORD_LEN) == DAPOHIRU_BAD_RULE);
+    HOLD(dapohiru_event(rule, sizeof rule, 3, 3, finals, 0, room, DAPOHIRU_RECORD_LEN - 1) == DAPOHIRU_BAD_RECORD);
+    HOLD(dapohiru_event(rule, sizeof rule, 3, 3, finals, 0, room, DAPOHIRU_RECORD_LEN + 1) == DAPOHIRU_BAD_RECORD);
+    HOLD(is_record(2, 0, 0));
+    put_record(3, 0);
+    HOLD(TAKE(0) == DAPOHIRU_BAD_RECORD && is_record(3, 0, 0));
+    HOLD(memcmp(rule, kept, sizeof rule) == 0);
+}
+
+int main(void)
+{
+    pair_is_planned_listed_and_checked();
+    files_and_buffers_are_refused_by_number();
+    plans_are_refused_by_number();
+    events_move_the_record_and_count_alarms();
+    printf("%d tests, %d failed\n", tests, failures);
+    return failures == 0 && tests > 0 ? EXIT_SUCCESS : EXIT_FAILURE;
+}

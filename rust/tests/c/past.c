@@ -1,0 +1,57 @@
+/*
+ * Lends one buffer that is a byte or more shorter than the call is told, so that valgrind must see the library
+ * reach past it: past job | work | plan | listing | checked | rule | record.
+ */
+#include "dapohiru.h"
+
+#include <stdlib.h>
+#include <string.h>
+
+static const char PAIR[] = "J     3     3     3     2\n"
+                           "R     0     0     1     0     0\n"
+                           "R     1     0     1     0     2\n"
+                           "R     2     1     1     0     2\n"
+                           "P     0     1     0     1     0     0\n"
+                           "P     1     1     0     0     0     0\n"
+                           "P     2     1     2     0     1     0\n"
+                           "F     0     1\n"
+                           "F     1     2\n";
+#define PAIR_LEN (sizeof PAIR - 1)
+/* PAIR's listing */
+#define LINES_LEN (3 * 38 + 20)
+
+/* An allocation of len bytes, or of less if it is the one that is named. */
+static uint8_t *lent(const char *short_one, const char *name, size_t len, size_t less)
+{
+    uint8_t *bytes = (uint8_t *)calloc(strcmp(short_one, name) == 0 ? less : len, 1);
+    if (bytes == NULL)
+        exit(2);
+    return bytes;
+}
+
+int main(int argc, char **argv)
+{
+    const char *name = argc == 2 ? argv[1] : "";
+    const size_t job_len = PAIR_LEN - (strcmp(name, "job") == 0);
+    uint8_t *job = lent(name, "job", PAIR_LEN, PAIR_LEN - 1);
+    uint8_t *work = lent(name, "work", DAPOHIRU_WORK_LEN, DAPOHIRU_WORK_LEN - 1);
+    uint8_t *plan = lent(name, "plan", DAPOHIRU_PLAN_LEN, 2);
+    uint8_t *listing = lent(name, "listing", DAPOHIRU_LISTING_LEN, LINES_LEN - 1);
+    uint8_t *checked = lent(name, "checked", 3, 2);
+    uint8_t *rule = lent(name, "rule", DAPOHIRU_RULE_LEN, DAPOHIRU_RULE_LEN - 1);
+    uint8_t *rec = lent(name, "record", DAPOHIRU_RECORD_LEN, DAPOHIRU_RECORD_LEN - 1);
+
+    memcpy(job, PAIR, job_len);
+    dapohiru_plan(job, PAIR_LEN, work, DAPOHIRU_WORK_LEN, plan, DAPOHIRU_PLAN_LEN);
+    dapohiru_list(job, PAIR_LEN, work, DAPOHIRU_WORK_LEN, listing, DAPOHIRU_LISTING_LEN);
+    dapohiru_check(job, PAIR_LEN, checked, 3, work, DAPOHIRU_WORK_LEN);
+    dapohiru_event(rule, DAPOHIRU_RULE_LEN, 16, 16, 0, 15, rec, DAPOHIRU_RECORD_LEN);
+    free(job);
+    free(work);
+    free(plan);
+    free(listing);
+    free(checked);
+    free(rule);
+    free(rec);
+    return 0;
+}
