@@ -7,15 +7,15 @@ use std::io::{self, BufRead};
 const LONGEST: usize = 64;
 
 /// An event of the input.
-pub enum Event {
+pub enum Event<'a> {
     /// The event of a point, with its node.
     Point(usize),
-    /// A symbol of a call word or an after word.
-    Word(u64),
+    /// A symbol of a call word or an after word, with its digits as they stand in the line.
+    Word(u64, &'a str),
 }
 
 /// The event of a job that a line stands for, or why it stands for none.
-pub fn event(job: &Decoded, line: &[u8]) -> Result<Event, String> {
+pub fn event<'a>(job: &Decoded, line: &'a [u8]) -> Result<Event<'a>, String> {
     let shown = line.escape_ascii();
     let text = line.trim_ascii();
     if line.len() > LONGEST {
@@ -25,20 +25,20 @@ pub fn event(job: &Decoded, line: &[u8]) -> Result<Event, String> {
         Some(digits) => (digits, true),
         None => (text, false),
     };
-    let Some(number) = decimal(digits) else {
+    let (Some(number), Ok(digits)) = (decimal(digits), str::from_utf8(digits)) else {
         return Err(format!(
             "`{shown}` is neither a node number nor = and a symbol"
         ));
     };
     if is_word {
-        return Ok(Event::Word(number));
+        return Ok(Event::Word(number, digits));
     }
     let last = job.node_count as u64 - 1;
     match usize::try_from(number) {
         Ok(node) if number <= last && job.nodes[node].kind == EVENT => Ok(Event::Point(node)),
         _ if number <= last => Err(format!("node {number} is no event node")),
         _ => Err(format!(
-            "there is no node {number}; the nodes are 0 to {last}"
+            "there is no node {digits}; the nodes are 0 to {last}"
         )),
     }
 }

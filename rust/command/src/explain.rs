@@ -34,8 +34,11 @@ pub fn explained(listing: &[u8], states: usize, names: &Names) -> String {
                 words += &found.words(states, names);
             }
             (Some(b'T'), &[points, watched, passes]) => {
-                totals =
-                    format!("{points} event nodes, {watched} of them watched, {passes} passes\n");
+                let nodes = if points == 1 { "node" } else { "nodes" };
+                let passed = if passes == 1 { "pass" } else { "passes" };
+                totals = format!(
+                    "{points} event {nodes}, {watched} of them watched, {passes} {passed}\n"
+                );
             }
             _ => {}
         }

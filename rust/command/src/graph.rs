@@ -14,11 +14,13 @@ pub const COMMAND: Command = Command {
   PLAN     a file that holds a line of 0 and 1; without it the plan that `plan` makes
   --svg    a picture, made by Graphviz's program dot, which must be installed
   --png    likewise
-  -o FILE  writes there and not to standard output; the file is written whole or not at all
+  -o FILE  writes there and not to standard output; the file is written whole or not at all; - is
+           standard output
 One of JOB and PLAN may be - for standard input.
 
 Event nodes are boxes, filled where watched and dashed where not; calls are hexagons, plain nodes
-ellipses. An entry has an arrow from its set of start states, an exit one to `exit`.
+ellipses. An entry has an arrow from its set of start states, an exit one to `exit`. A plan that is
+different is drawn too, with a note on standard error.
 Exit status: 0 drawn; 2 a refused job or plan, or something else that is wrong.
 ",
     names: &["JOB"],
@@ -35,24 +37,22 @@ fn run(given: &Given) -> Result<u8, String> {
         (false, true) => Some("png"),
         (false, false) => None,
     };
-    let to = given.value("-o");
+    let to = output::named(given.value("-o"));
     if picture == Some("png") && to.is_none() && io::stdout().is_terminal() {
         return Err("graph: a PNG picture is not for a terminal, take -o FILE".to_string());
     }
     if let Some(plan) = given.further(1) {
         input::at_most_one_is_input(given.name(0), plan)?;
     }
+    let read: Vec<_> = (0..2).filter_map(|place| given.further(place)).collect();
+    output::loses_nothing(to, &read)?;
     let file = input::job(given.name(0))?;
     let job = job::accepted(&file)?;
     let plan = match given.further(1) {
         None => job::planned(&file.bytes)
             .map(|(plan, _)| plan)
             .map_err(|refusal| refusal::of_job(&file, refusal))?,
-        Some(plan) => {
-            let plan = input::plan(plan)?;
-            job::checked(&file, &plan)?;
-            plan.bytes
-        }
+        Some(plan) => job::given_plan(&file, input::plan(plan)?)?,
     };
     let text = drawn(&job, &plan);
     let bytes = match picture {

@@ -1,6 +1,6 @@
 //! Jobs that the proved calls accept, as the plain reader decodes them.
 use crate::input::{Input, Plan};
-use crate::refusal;
+use crate::{output, refusal};
 use dapohiru::{Counts, Refusal, Rule, Verdict};
 use plain::read::Decoded;
 
@@ -24,6 +24,17 @@ pub fn checked(job: &Input, plan: &Plan) -> Result<Verdict, String> {
     let work = &mut vec![0; dapohiru::WORK_LEN];
     dapohiru::check(&job.bytes, &plan.bytes, work)
         .map_err(|refusal| refusal::of_plan(job, plan, refusal))
+}
+
+/// The bytes of a plan that the proved call accepts; of one that is different a note says so.
+pub fn given_plan(job: &Input, plan: Plan) -> Result<Vec<u8>, String> {
+    if checked(job, &plan)? == Verdict::Different {
+        let shown = &plan.shown;
+        output::note(&format!(
+            "note: {shown} is different: on some walk it has other alarms than all points watched\n"
+        ))?;
+    }
+    Ok(plan.bytes)
 }
 
 /// The job of a file, once the proved call has accepted it.

@@ -87,13 +87,13 @@ impl<'a> Watch<'a> {
                 let symbol = u64::from(self.job.nodes[node].value);
                 (symbol, format!("node {node}, symbol {symbol}"))
             }
-            Event::Word(symbol) => (symbol, format!("symbol {symbol} of a word")),
+            Event::Word(symbol, _) => (symbol, format!("symbol {symbol} of a word")),
         };
         let report = self.rule.event(symbol, &mut self.record);
         let last = self.rule.symbols - 1;
-        let report = report.map_err(|refusal| match refusal {
-            Refusal(14) if symbol > last => Wrong::Line(format!(
-                "{refusal}: there is no symbol {symbol}; the symbols are 0 to {last}"
+        let report = report.map_err(|refusal| match (refusal, event) {
+            (Refusal(14), Event::Word(_, digits)) if symbol > last => Wrong::Line(format!(
+                "{refusal}: there is no symbol {digits}; the symbols are 0 to {last}"
             )),
             _ => Wrong::Line(refusal.to_string()),
         })?;

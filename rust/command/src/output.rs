@@ -1,7 +1,9 @@
 //! What is written: standard output and error, and files that are written whole or not at all.
 use std::ffi::OsStr;
-use std::fs::{self, File, OpenOptions, Permissions};
+use std::fs::{self, File, Metadata, OpenOptions, Permissions};
 use std::io::{self, ErrorKind, Write};
+use std::os::fd::{AsFd, BorrowedFd};
+use std::os::unix::fs::MetadataExt;
 use std::path::{Path, PathBuf};
 use std::process;
 use std::sync::atomic::{AtomicU64, Ordering};
@@ -28,6 +30,55 @@ fn written(mut out: impl Write, bytes: &[u8], shown: &str) -> Result<(), String>
         ErrorKind::BrokenPipe => format!("{shown} was closed before all was written"),
         _ => format!("{shown}: {why}"),
     })
+}
+
+/// The file that `-o` names; `-` is standard output, and so is no name.
+pub fn named(file: Option<&OsStr>) -> Option<&OsStr> {
+    file.filter(|&file| file != "-")
+}
+
+/// Refuses a file for `-o` in which something would be lost: the one that standard output or standard
+/// error goes to, or one of those that are read, where `-` is standard input.
+pub fn loses_nothing(file: Option<&OsStr>, read: &[&OsStr]) -> Result<(), String> {
+    let Some(file) = file else { return Ok(()) };
+    let Ok(found) = fs::metadata(file) else {
+        return Ok(());
+    };
+    let shown = Path::new(file).display();
+    if let Some(stream) = stream(&found) {
+        return Err(format!("{shown}: it is {stream}; leave out -o"));
+    }
+    let is_read = |name: &&OsStr| match *name == "-" {
+        true => is_open(&found, io::stdin().as_fd()),
+        false => fs::metadata(name).is_ok_and(|read| is_same(&found, &read)),
+    };
+    match read.iter().any(is_read) {
+        true => Err(format!("{shown}: -o names the file that is read")),
+        false => Ok(()),
+    }
+}
+
+/// The stream that goes to a file, if one does.
+fn stream(found: &Metadata) -> Option<&'static str> {
+    if is_open(found, io::stdout().as_fd()) {
+        Some("standard output")
+    } else if is_open(found, io::stderr().as_fd()) {
+        Some("standard error")
+    } else {
+        None
+    }
+}
+
+/// Whether a file is the one that is open here.
+fn is_open(found: &Metadata, open: BorrowedFd) -> bool {
+    let open = open.try_clone_to_owned().map(File::from);
+    let open = open.and_then(|open| open.metadata());
+    open.is_ok_and(|open| is_same(found, &open))
+}
+
+/// Whether two files are one.
+fn is_same(one: &Metadata, other: &Metadata) -> bool {
+    (one.dev(), one.ino()) == (other.dev(), other.ino())
 }
 
 /// Writes to a file where one is named, else to standard output.
@@ -58,6 +109,10 @@ pub fn write_file(path: &Path, bytes: &[u8]) -> Result<(), String> {
 fn target(path: &Path) -> Result<(PathBuf, Option<Permissions>), String> {
     match fs::metadata(path) {
         Ok(found) if found.is_file() => {
+            // what is printed would go to the file that is replaced
+            if let Some(stream) = stream(&found) {
+                return Err(format!("it is {stream}"));
+            }
             let place = fs::canonicalize(path).map_err(|why| why.to_string())?;
             Ok((place, Some(found.permissions())))
         }

@@ -9,10 +9,11 @@ pub const COMMAND: Command = Command {
     summary: "Plans a job: prints one digit for each node, 1 at a watched point and 0 at all else.",
     details: "
   JOB      a job file, or - for standard input
-  -o FILE  writes the plan there and not to standard output; the file is written whole or not at all
+  -o FILE  writes the plan there and not to standard output; the file is written whole or not at all;
+           - is standard output
 
 The counts of event nodes, watched points and passes go to standard error.
-Exit status: 0 a plan; 2 a refused job or something else that is wrong, and no plan is written.
+Exit status: 0 a plan; 2 a refused job, and no plan is written, or something else that is wrong.
 ",
     names: &["JOB"],
     more: 0,
@@ -22,6 +23,8 @@ Exit status: 0 a plan; 2 a refused job or something else that is wrong, and no p
 };
 
 fn run(given: &Given) -> Result<u8, String> {
+    let to = output::named(given.value("-o"));
+    output::loses_nothing(to, &[given.name(0)])?;
     let file = input::job(given.name(0))?;
     let (plan, counts) =
         job::planned(&file.bytes).map_err(|refusal| refusal::of_job(&file, refusal))?;
@@ -30,7 +33,7 @@ fn run(given: &Given) -> Result<u8, String> {
         watched,
         passes,
     } = counts;
-    output::deliver(given.value("-o"), job::line(&plan).as_bytes())?;
+    output::deliver(to, job::line(&plan).as_bytes())?;
     output::note(&format!(
         "event nodes {points}   watched {watched}   passes {passes}\n"
     ))?;

@@ -34,6 +34,11 @@ Exit status: 0 all are planned; 1 one or more are refused; 2 something else is w
 fn run(given: &Given) -> Result<u8, String> {
     let begin = Instant::now();
     let folder = Path::new(given.name(0));
+    if given.value("-o").is_some_and(|out| out == "-") {
+        return Err(
+            "release: -o is -, and plan files go to a folder; one named - is ./-".to_string(),
+        );
+    }
     let out = given.value("-o").map_or(folder, Path::new);
     let jobs = jobs_in(folder).map_err(|why| format!("{}: {why}", folder.display()))?;
     fs::create_dir_all(out).map_err(|why| format!("{}: {why}", out.display()))?;
@@ -94,7 +99,8 @@ fn plan_all<'a>(jobs: &'a [PathBuf], out: &Path) -> Vec<(&'a Path, Outcome)> {
 /// Plans one job, and writes its plan file.
 fn plan_one(path: &Path, out: &Path) -> Outcome {
     let begin = Instant::now();
-    let file = match input::job(path.as_os_str()) {
+    let read = is_regular(path).and_then(|()| input::job(path.as_os_str()));
+    let file = match read {
         Ok(file) => file,
         Err(why) => return Outcome::Failed(why),
     };
@@ -115,5 +121,15 @@ fn plan_one(path: &Path, out: &Path) -> Outcome {
     match output::write_file(&plan_file, job::line(&plan).as_bytes()) {
         Ok(()) => Outcome::Planned(counts, begin.elapsed()),
         Err(why) => Outcome::Failed(why),
+    }
+}
+
+/// Refuses what is no regular file before it is opened: a pipe that nobody writes to would hold up all.
+fn is_regular(path: &Path) -> Result<(), String> {
+    let shown = path.display();
+    match fs::metadata(path) {
+        Ok(found) if found.is_file() => Ok(()),
+        Ok(_) => Err(format!("{shown}: it is no regular file")),
+        Err(why) => Err(format!("{shown}: {why}")),
     }
 }

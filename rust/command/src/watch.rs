@@ -4,7 +4,6 @@ use crate::events::decimal;
 use crate::job::{self, EVENT};
 use crate::monitor::Watch;
 use crate::{input, output};
-use dapohiru::Verdict;
 use plain::read::{Decoded, Node};
 use std::ffi::OsStr;
 use std::io;
@@ -44,16 +43,7 @@ fn run(given: &Given) -> Result<u8, String> {
     let job = job::accepted(&file)?;
     let plan = match plan {
         None => all_watched(&job),
-        Some(plan) => {
-            let plan = input::plan(plan)?;
-            if job::checked(&file, &plan)? == Verdict::Different {
-                let shown = &plan.shown;
-                output::note(&format!(
-                    "note: {shown} is different: on some walk it has other alarms than all points watched\n"
-                ))?;
-            }
-            plan.bytes
-        }
+        Some(plan) => job::given_plan(&file, input::plan(plan)?)?,
     };
     let state = start(&job, given.value("--state"))?;
     Watch::begin(&job, plan, state).over(io::stdin().lock())

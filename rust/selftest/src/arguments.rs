@@ -63,16 +63,19 @@ pub fn read(arguments: impl Iterator<Item = OsString>) -> Result<Asked, String> 
                 slips,
             })
         }
+        ["memory", ..] | ["soak", ..] if slips.words().is_some() => {
+            return Err("--slip goes with SEED N and again only".to_string());
+        }
         ["memory", seed, files] => Asked::Memory {
             seed: numeral(seed, "SEED")?,
             files: numeral(files, "N")?,
         },
         ["soak", events] => Asked::Soak {
-            events: numeral(events, "EVENTS")?,
+            events: count(events, "EVENTS")?,
         },
-        [seed, count] => Asked::Rounds(Rounds {
+        [seed, rounds] => Asked::Rounds(Rounds {
             seed: numeral(seed, "SEED")?,
-            numbers: 0..numeral(count, "N")?,
+            numbers: 0..count(rounds, "N")?,
             slips,
         }),
         [] => return Err("SEED and N are missing".to_string()),
@@ -85,6 +88,16 @@ pub fn read(arguments: impl Iterator<Item = OsString>) -> Result<Asked, String> 
 fn numeral(word: &str, what: &str) -> Result<u64, String> {
     word.parse()
         .map_err(|_| format!("{what} is a decimal number, and '{word}' is none"))
+}
+
+/// A decimal number from 1 on: of nothing nothing can be said.
+fn count(word: &str, what: &str) -> Result<u64, String> {
+    match numeral(word, what)? {
+        0 => Err(format!(
+            "{what} is a number from 1 on, and '{word}' is none"
+        )),
+        number => Ok(number),
+    }
 }
 
 /// Takes `--slip NAME` out of the words. It is for the tests of this program.

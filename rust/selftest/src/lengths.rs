@@ -6,7 +6,7 @@ use walks::library::ACCEPTED;
 use walks::random::Random;
 use walks::samples::pair;
 use walks::served::Service;
-use walks::stepping::{self, Answer};
+use walks::stepping::{self, Answer, Second};
 
 /// The lengths that every buffer has in turn.
 const LENGTHS: [usize; 17] = [
@@ -27,7 +27,7 @@ pub fn run(calls: &mut Calls, random: &mut Random) -> Result<(), String> {
     plans(calls)?;
     files(calls)?;
     rules_and_records(calls)?;
-    events(calls, random)
+    events(calls, random, Second { slip: None })
 }
 
 /// Plan, listing and work buffers.
@@ -115,23 +115,46 @@ fn rules_and_records(calls: &mut Calls) -> Result<(), String> {
     Ok(())
 }
 
-/// Calls of the event step with any rule, symbol and record.
-fn events(calls: &mut Calls, random: &mut Random) -> Result<(), String> {
+/// Calls of the event step with any rule, symbol and record, each beside the second step.
+fn events(calls: &mut Calls, random: &mut Random, second: Second) -> Result<(), String> {
     for _ in 0..5_000 {
         let call = stepping::Call::any(random);
         let (rule, mut record) = (exact(call.rule()), exact(call.record()));
         let (states, symbols, finals) = (call.states, call.symbols, call.finals);
-        let number = (LIBRARY.event)(&rule, states, symbols, finals, call.symbol, &mut record);
-        let wanted = stepping::answer(LIBRARY, &mut call.clone());
+        let symbol = call.symbol;
+        let number = (LIBRARY.event)(&rule, states, symbols, finals, symbol, &mut record);
         let answer = match number.checked_sub(ACCEPTED) {
             Some(0) => Answer::Quiet,
             Some(1) => Answer::Alarm,
             _ => Answer::Refused(number),
         };
-        if answer != wanted {
-            return Err(format!("{answer:?} and then {wanted:?} for the same event"));
+        let mut wanted = exact(call.record());
+        let by_second = second.event(&rule, states, symbols, finals, symbol, &mut wanted);
+        if (answer, &record) != (by_second, &wanted) {
+            return Err(format!(
+                "{answer:?} with record {record:?}, and by the second step {by_second:?} with record {wanted:?}; S {states}, A {symbols}, finals {finals:#x}, symbol {symbol}, record {:?}, rule {rule:?}",
+                call.record()
+            ));
         }
         calls.tally.add_stepped(answer);
     }
     Ok(())
+}
+
+#[cfg(test)]
+mod tests {
+    use super::*;
+
+    #[test]
+    fn every_slip_of_the_second_step_is_a_difference() {
+        let found = |slip| {
+            let mut random = Random(1);
+            events(&mut Calls::default(), &mut random, Second { slip })
+        };
+        assert_eq!(found(None), Ok(()));
+        for &slip in stepping::Slip::ALL {
+            let why = found(Some(slip)).expect_err(&format!("{slip:?}"));
+            assert!(why.contains(", and by the second step "), "{why}");
+        }
+    }
 }

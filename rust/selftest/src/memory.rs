@@ -1,5 +1,5 @@
 //! Calls on buffers that are allocations of their own size, for valgrind to see every byte read or
-//! written beside one. The answers are compared with the plain reader too.
+//! written beside one. The answers are compared with the plain reader and the second step too.
 use crate::lengths;
 use crate::library::LIBRARY;
 use crate::progress::Progress;

@@ -86,7 +86,9 @@ fn soak_takes_every_event_and_finds_no_difference() {
     assert_eq!(status, Some(0));
     assert!(text.starts_with("1000001 events, ") && text.contains(" 245 batches compared"));
     assert!(text.contains(" million events per second\n") && text.ends_with("no difference\n"));
-    assert_eq!(said(&["soak", "0"]).0, Some(0));
+    let (status, text) = said(&["soak", "1"]);
+    assert_eq!(status, Some(0));
+    assert!(text.starts_with("1 events, "), "{text}");
 }
 
 #[test]
@@ -104,16 +106,22 @@ fn calls_on_exact_allocations_find_no_difference() {
 
 #[test]
 fn wrong_arguments_are_status_2_with_the_usage() {
-    let wrong: [&[&str]; 9] = [
+    let wrong: [&[&str]; 15] = [
         &[],
         &["1"],
         &["1", "x"],
+        &["1", "0"],
+        &["soak", "0"],
+        &["soak", "00"],
         &["-1", "5"],
         &["again", "1"],
         &["again", "1", "18446744073709551615"],
         &["soak"],
         &["1", "2", "--slip"],
         &["1", "2", "--slip", "Nothing"],
+        &["memory", "1", "2", "--slip", "AlwaysQuiet"],
+        &["soak", "5", "--slip", "AlwaysQuiet"],
+        &["--slip", "AlwaysQuiet", "soak", "5"],
     ];
     for arguments in wrong {
         let output = run(arguments);
@@ -121,6 +129,29 @@ fn wrong_arguments_are_status_2_with_the_usage() {
         assert_eq!(output.status.code(), Some(2), "{arguments:?}");
         assert!(text.contains("usage: dapohiru-selftest"), "{text}");
         assert!(output.stdout.is_empty());
+    }
+    for (arguments, why) in [
+        (&["1", "0"][..], "N is a number from 1 on, and '0' is none"),
+        (
+            &["soak", "0"],
+            "EVENTS is a number from 1 on, and '0' is none",
+        ),
+        (
+            &["soak", "x"],
+            "EVENTS is a decimal number, and 'x' is none",
+        ),
+        (
+            &["memory", "1", "2", "--slip", "AlwaysQuiet"],
+            "--slip goes with SEED N and again only",
+        ),
+        (
+            &["--slip", "AlwaysQuiet", "soak", "5"],
+            "--slip goes with SEED N and again only",
+        ),
+    ] {
+        let text = String::from_utf8_lossy(&run(arguments).stderr).into_owned();
+        let begins = format!("dapohiru-selftest: {why}\n");
+        assert!(text.starts_with(&begins), "{text}");
     }
     let (status, text) = said(&["--help"]);
     assert_eq!(status, Some(0));

@@ -154,3 +154,99 @@ fn what_is_no_regular_file_is_not_replaced() {
     }
     assert_eq!(names(&folder), ["link"]);
 }
+
+#[test]
+fn file_that_standard_output_or_error_goes_to_is_not_replaced() {
+    let folder = folder("full-streams");
+    let job = example("pair.job");
+    let held = folder.join("held").display().to_string();
+    let link = folder.join("link").display().to_string();
+    std::os::unix::fs::symlink("held", &link).unwrap();
+    for (script, files, stream) in [
+        (
+            "echo before > \"$5\"; \"$1\" \"$2\" \"$3\" -o \"$4\" >> \"$5\"",
+            [&held, &link, "/dev/stdout", "/dev/fd/1"],
+            "standard output",
+        ),
+        (
+            "echo before > \"$5\"; \"$1\" \"$2\" \"$3\" -o \"$4\" 2>> \"$5\"",
+            [&held, &link, "/dev/stderr", "/dev/fd/2"],
+            "standard error",
+        ),
+    ] {
+        for command in ["plan", "graph"] {
+            for name in files {
+                let (status, printed, wrong) = shell(script, &[command, &job, name, &held]);
+                assert_eq!((status, printed.as_str()), (2, ""));
+                let kept = fs::read_to_string(&held).unwrap();
+                let told = format!("dapohiru: {name}: it is {stream}; leave out -o\n");
+                // the message goes to standard error, which may be the file
+                assert_eq!(kept + &wrong, format!("before\n{told}"));
+            }
+        }
+    }
+    assert_eq!(names(&folder), ["held", "link"]);
+    // a pipe is no other
+    let done = run(&["plan", &job, "-o", "/dev/stdout"], "");
+    let wrong = "dapohiru: /dev/stdout: it is standard output; leave out -o\n".to_string();
+    assert_eq!(done, (2, String::new(), wrong));
+}
+
+#[test]
+fn plan_file_of_a_release_is_not_its_standard_output() {
+    let folder = folder("full-table");
+    file(&folder, "pair.job", PAIR.as_bytes());
+    let plan = folder.join("pair.plan").display().to_string();
+    let script = "\"$1\" release \"$2\" > \"$3\"";
+    let (status, _, wrong) = shell(script, &[folder.to_str().unwrap(), &plan]);
+    assert_eq!(status, 2);
+    let begins = "dapohiru: 1 of 1 jobs not read or not written:\n";
+    assert_eq!(wrong, format!("{begins}{plan}: it is standard output\n"));
+    assert!(fs::read_to_string(&plan).unwrap().starts_with("job"));
+}
+
+#[test]
+fn file_that_is_read_is_not_replaced() {
+    let folder = folder("full-read");
+    let job = file(&folder, "pair.job", PAIR.as_bytes());
+    let plan = file(&folder, "pair.plan", b"011\n");
+    let link = folder.join("link").display().to_string();
+    let other = folder.join("other").display().to_string();
+    std::os::unix::fs::symlink("pair.job", &link).unwrap();
+    fs::hard_link(&job, &other).unwrap();
+    let kept = || {
+        assert_eq!(fs::read_to_string(&job).unwrap(), PAIR);
+        assert_eq!(fs::read_to_string(&plan).unwrap(), "011\n");
+        assert_eq!(names(&folder), ["link", "other", "pair.job", "pair.plan"]);
+    };
+    for (words, to) in [
+        (&["plan", &job][..], &job),
+        (&["plan", &job], &link),
+        (&["plan", &link], &job),
+        (&["plan", &job], &other),
+        (&["graph", &job], &job),
+        (&["graph", &job, &plan], &link),
+        (&["graph", &job, &plan], &plan),
+    ] {
+        let words = [words, &["-o", to]].concat();
+        let wrong = format!("dapohiru: {to}: -o names the file that is read\n");
+        assert_eq!(run(&words, ""), (2, String::new(), wrong), "{words:?}");
+        kept();
+    }
+    for (words, to) in [
+        (&["plan", "-"][..], &job),
+        (&["plan", "/dev/stdin"], &job),
+        (&["graph", "-"], &job),
+        (&["graph", &job, "-"], &plan),
+    ] {
+        let words = [words, &["-o", to, to]].concat();
+        let script = "\"${@:1:$#-1}\" < \"${@: -1}\"";
+        let wrong = format!("dapohiru: {to}: -o names the file that is read\n");
+        assert_eq!(
+            shell(script, &words),
+            (2, String::new(), wrong),
+            "{words:?}"
+        );
+        kept();
+    }
+}

@@ -1,5 +1,5 @@
 //! The command `graph`.
-use crate::program::{example, file, folder, names, program, run, shell, PAIR};
+use crate::program::{example, file, folder, names, program, run, shell, terminal, PAIR};
 use std::fs;
 use std::process::Command;
 use walks::samples::one_seal;
@@ -10,6 +10,7 @@ fn graph_marks_the_watched_points_entries_and_exits() {
     let wanted = (0, printed.clone(), String::new());
     assert_eq!(run(&["graph", &example("pair.job")], ""), wanted);
     assert_eq!(run(&["graph", "-"], PAIR), wanted);
+    assert_eq!(run(&["graph", "-", "-o", "-"], PAIR), wanted);
     let done = run(&["graph", &example("pair.job"), "-"], "101\n");
     let other = printed
         .replace(
@@ -113,11 +114,26 @@ fn failing_dot_is_told_and_writes_no_file() {
 
 #[test]
 fn png_is_not_written_to_a_terminal() {
-    let words = ["graph", &example("pair.job"), "--png"];
-    let (status, printed, _) = shell("script -qec \"$1 $2 $3 $4\" /dev/null", &words);
-    assert_eq!(status, 2);
-    let wrong = "dapohiru: graph: a PNG picture is not for a terminal, take -o FILE";
-    assert_eq!(printed.trim_end(), wrong);
+    let job = file(&folder("graph terminal"), "pair.job", PAIR.as_bytes());
+    for words in [
+        &["graph", &job, "--png"][..],
+        &["graph", &job, "--png", "-o", "-"],
+    ] {
+        let (status, printed, _) = terminal(words);
+        assert_eq!(status, 2);
+        let wrong = "dapohiru: graph: a PNG picture is not for a terminal, take -o FILE";
+        assert_eq!(printed.trim_end(), wrong);
+    }
+}
+
+#[test]
+fn different_plan_is_noted_and_drawn() {
+    let plan = file(&folder("graph-different"), "pair.plan", b"001\n");
+    let (status, printed, wrong) = run(&["graph", &example("pair.job"), &plan], "");
+    assert_eq!(status, 0);
+    assert_eq!(printed.matches("\\nunwatched").count(), 2);
+    let note = "is different: on some walk it has other alarms than all points watched\n";
+    assert_eq!(wrong, format!("note: {plan} {note}"));
 }
 
 #[test]

@@ -64,13 +64,34 @@ fn explained_listing_has_the_numbers_of_the_listing() {
                         ["unwatched", "watched"][watched as usize].to_string(),
                     ]
                 ),
-                [points, watched, passes] => assert_eq!(
-                    row,
-                    format!("{points} event nodes, {watched} of them watched, {passes} passes")
-                ),
+                [points, watched, passes] => {
+                    let nodes = if points == 1 { "node" } else { "nodes" };
+                    let passed = if passes == 1 { "pass" } else { "passes" };
+                    assert_eq!(
+                        row,
+                        format!(
+                            "{points} event {nodes}, {watched} of them watched, {passes} {passed}"
+                        )
+                    )
+                }
                 _ => panic!("{line}"),
             }
         }
+    }
+}
+
+#[test]
+fn one_event_node_is_told_as_one() {
+    for (name, totals) in [
+        ("seal.job", "\n1 event node, 0 of them watched, 2 passes\n"),
+        (
+            "seal-after.job",
+            "\n1 event node, 1 of them watched, 1 pass\n",
+        ),
+    ] {
+        let (status, printed, _) = run(&["list", &example(name), "--explain"], "");
+        assert_eq!(status, 0);
+        assert!(printed.contains(totals), "{printed}");
     }
 }
 

@@ -10,6 +10,7 @@ fn plan_is_a_line_of_digits_with_counts_on_standard_error() {
     let wanted = (0, "011\n".to_string(), COUNTS.to_string());
     assert_eq!(run(&["plan", &example("pair.job")], ""), wanted);
     assert_eq!(run(&["plan", "-"], PAIR), wanted);
+    assert_eq!(run(&["plan", "-", "-o", "-"], PAIR), wanted);
     assert_eq!(run(&["plan", "--", &example("pair.job")], ""), wanted);
 }
 

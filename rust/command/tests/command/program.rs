@@ -71,6 +71,12 @@ pub fn shell(script: &str, words: &[&str]) -> Done {
     ended(child.unwrap())
 }
 
+/// Runs the program with these words on a terminal of its own.
+pub fn terminal(words: &[&str]) -> Done {
+    let script = "SHELL=$BASH script -qec \"$(printf '%q ' \"$@\")\" /dev/null";
+    shell(script, words)
+}
+
 /// Waits for a program's end.
 pub fn ended(child: Child) -> Done {
     let Output {

@@ -1,5 +1,5 @@
 //! The command `release`.
-use crate::program::{example, file, folder, names, run, shell, Done, PAIR};
+use crate::program::{example, file, folder, names, run, shell, terminal, Done, PAIR};
 use std::fs;
 use std::os::unix::fs::{symlink, PermissionsExt};
 use std::path::Path;
@@ -103,12 +103,41 @@ fn job_that_cannot_be_read_or_written_is_listed_and_the_others_planned() {
     let shown = jobs.display();
     assert_eq!(lines[0], "dapohiru: 3 of 5 jobs not read or not written:");
     assert_eq!(lines[1], format!("{shown}/b.plan: it is a folder"));
-    assert!(lines[2].starts_with(&format!("{shown}/folder.job: Is a directory")));
+    assert_eq!(
+        lines[2],
+        format!("{shown}/folder.job: it is no regular file")
+    );
     assert!(lines[3].starts_with(&format!("{shown}/link.job: No such file")));
     for name in ["a.plan", "c.plan"] {
         assert_eq!(fs::read_to_string(jobs.join(name)).unwrap(), "011\n");
     }
     assert_eq!(names(&jobs).len(), 8);
+}
+
+#[test]
+fn job_that_is_no_regular_file_is_not_opened() {
+    let jobs = folder("release-pipe");
+    file(&jobs, "a.job", PAIR.as_bytes());
+    symlink("a.job", jobs.join("b.job")).unwrap();
+    symlink("/dev/zero", jobs.join("device.job")).unwrap();
+    // nobody writes to the pipe, and a program that opened it would wait
+    let script = "mkfifo \"$2/pipe.job\" && timeout 60 \"$1\" release \"$2\"";
+    let (status, printed, wrong) = shell(script, &[jobs.to_str().unwrap()]);
+    assert_eq!(status, 2);
+    assert_eq!(printed.lines().count(), 4);
+    let shown = jobs.display();
+    assert_eq!(
+        wrong,
+        format!(
+            "dapohiru: 2 of 4 jobs not read or not written:\n\
+             {shown}/device.job: it is no regular file\n\
+             {shown}/pipe.job: it is no regular file\n"
+        )
+    );
+    for name in ["a.plan", "b.plan"] {
+        assert_eq!(fs::read_to_string(jobs.join(name)).unwrap(), "011\n");
+    }
+    assert_eq!(names(&jobs).len(), 6);
 }
 
 #[test]
@@ -164,13 +193,11 @@ fn folder_without_permission_is_named() {
 
 #[test]
 fn progress_bar_is_for_a_terminal() {
-    let jobs = folder("release-bar");
+    let jobs = folder("release bar");
     file(&jobs, "pair.job", PAIR.as_bytes());
     let (status, _, wrong) = release(&jobs, &[]);
     assert_eq!((status, wrong.as_str()), (0, ""));
-    // script runs the program on a terminal of its own
-    let words = ["release", jobs.to_str().unwrap()];
-    let done = shell("script -qec \"$1 $2 $3\" /dev/null", &words);
+    let done = terminal(&["release", jobs.to_str().unwrap()]);
     assert_eq!(done.0, 0);
     assert!(done.1.contains("] 0 of 1 jobs\r["), "{}", done.1);
     assert!(done.1.contains("] 1 of 1 jobs\r\x1b[Kjob "), "{}", done.1);

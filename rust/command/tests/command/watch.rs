@@ -87,7 +87,16 @@ fn line_that_is_no_event_is_named_and_the_rest_is_taken() {
         ("3", "there is no node 3; the nodes are 0 to 2".to_string()),
         (
             "99999999999999999999",
-            "there is no node 18446744073709551615; the nodes are 0 to 2".to_string(),
+            "there is no node 99999999999999999999; the nodes are 0 to 2".to_string(),
+        ),
+        (
+            " 0003",
+            "there is no node 0003; the nodes are 0 to 2".to_string(),
+        ),
+        (
+            "=99999999999999999999",
+            "refused 14: there is no symbol 99999999999999999999; the symbols are 0 to 2"
+                .to_string(),
         ),
         (
             "=3",

@@ -68,7 +68,7 @@ fn wrong_words_are_told_with_the_usage() {
 
 #[test]
 fn words_that_do_not_go_together_are_told() {
-    let job = example("pair.job");
+    let (job, jobs) = (example("pair.job"), example(""));
     for (words, why) in [
         (
             &["list", &job, "--names", "x"][..],
@@ -93,6 +93,10 @@ fn words_that_do_not_go_together_are_told() {
         (
             &["watch", &job, "-"],
             "watch: standard input holds the events, so JOB and PLAN are files",
+        ),
+        (
+            &["release", &jobs, "-o", "-"],
+            "release: -o is -, and plan files go to a folder; one named - is ./-",
         ),
         (
             &["graph", &job, "--svg", "--png"],
