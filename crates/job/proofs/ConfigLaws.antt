@@ -297,9 +297,9 @@ module _ {j : Job} (wf : WellFormedJob j) (v w : Enabling) {S : Pairs} (starts :
       )
 
   -- the search finds a configuration that splits where some start is told apart
-  pub search-says
+  pub search-finds
       : (anyOf (splits j v w) (configs j v w starts) ≡ true) ↔ ((x : Place) × (p : ℕ) × (q : ℕ) × S x p q × ApartAt j v w x p q)
-  search-says = (
+  search-finds = (
     λ h.
         let r = configs-say (splits j v w) .0 h in
         pair-apart (r .3) (apart-now (splits-says wf v w (r .0) (r .1) (r .2) .0 (r .4))),

@@ -13,11 +13,12 @@ use Rattle.job.specs.Job.{Job, WellFormedJob}
 use Rattle.job.specs.Walk.{Event, Place, before, past, ended, Walk}
 use Rattle.job.specs.Plan.{Enabling, full, enables, stateAfter, Faithful, Different}
 use Rattle.job.specs.Found.{Arrives, Apart, Equivalent}
+use Rattle.job.specs.SearchSays.{SearchSays}
 use Rattle.job.specs.Search.{anyOf, Config, configOf, splits, startsBelow, configs, isBefore, faithful, arrives, apart}
 use Rattle.job.proofs.Pairs.{Pair, begins, pair-walk, pair-says, Admitted, admitted, Only, only}
 use Rattle.laws.proofs.Tests.{not-own, same-or-contrary}
 use Rattle.job.proofs.Pairs.{differ-not-same, ApartAt, alike-says}
-use Rattle.job.proofs.ConfigLaws.{configs-say, search-says, admitted-listed, only-listed}
+use Rattle.job.proofs.ConfigLaws.{configs-say, search-finds, admitted-listed, only-listed}
 
 -- ---- plans
 
@@ -68,7 +69,7 @@ module _ {j : Job} (wf : WellFormedJob j) (plan : List ℕ) where
   unfolding faithful
   different-says =
       Iff·trans (not-fails-says (anyOf (splits j full (enables plan)) (configs j full (enables plan) starts)))
-      (Iff·trans (search-says wf full (enables plan) starts (admitted-listed wf))
+      (Iff·trans (search-finds wf full (enables plan) starts (admitted-listed wf))
       (λ r. start-different (r .3) (r .4), different-start))
     where
       starts : List Config
@@ -148,7 +149,7 @@ module _ {j : Job} (wf : WellFormedJob j) (n p q : ℕ) (node : n < length (j .n
   pub apart-says : (apart j n p q ≡ true) ↔ Apart j n p q
   unfolding apart
   apart-says =
-      Iff·trans (search-says wf full full (configOf (past n) p q ∷ []) (only-listed (record { node = node; one = one; other = other })))
+      Iff·trans (search-finds wf full full (configOf (past n) p q ∷ []) (only-listed (record { node = node; one = one; other = other })))
       (λ r. told (r .3) (r .4), λ a. (past n, p, q, only, apart-at .0 a))
     where
       told : {x : Place} {k l : ℕ} → Only (past n) p q x k l → ApartAt j full full x k l → Apart j n p q
@@ -157,3 +158,16 @@ module _ {j : Job} (wf : WellFormedJob j) (n p q : ℕ) (node : n < length (j .n
   -- where it fails, the states are of one class
   pub apart-not-says : (apart j n p q ≡ false) ↔ Equivalent j n p q
   apart-not-says = Iff·trans (contrary-says (apart j n p q) true apart-says) (equivalent-says .1, equivalent-says .0)
+
+-- ---- all tests
+
+-- the tests decide what the walks of a job define
+pub search-says : SearchSays
+search-says =
+    record {
+      faithful-says = λ j wf plan. faithful-says wf plan;
+      different-says = λ j wf plan. different-says wf plan;
+      arrives-says = λ j wf n q. arrives-says wf n q;
+      apart-says = λ j wf n p q node one other. apart-says wf n p q node one other;
+      apart-not-says = λ j wf n p q node one other. apart-not-says wf n p q node one other;
+    }

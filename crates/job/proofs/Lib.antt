@@ -12,6 +12,7 @@ pub mod PlanBytes
 pub mod PassLaws
 pub mod PlanningLaws
 pub mod PlanningResult
+pub mod PlanningSays
 pub mod MonitorsLaws
 pub mod MonitorsMore
 pub mod TwoMonitors

@@ -7,8 +7,10 @@ pub mod Search
 pub mod Words
 pub mod Found
 pub mod FoundSays
+pub mod SearchSays
 pub mod Planning
 pub mod Listing
+pub mod PlanningSays
 pub mod Monitors
 pub mod Trials
 pub mod Slips

@@ -1,5 +1,4 @@
--- The tests that planning and the listing use; a first reading may leave this file out. What each says in walks is a law of `proofs/Decide.antt`:
--- `faithful-says` and `different-says`, `arrives-says`, `apart-says` and `apart-not-says`.
+-- The tests that planning and the listing use; a first reading may leave this file out. What each says in walks is `SearchSays.antt`.
 -- Assumes nothing.
 use mathlib.Core.Bool.{Bool, true, false, cond, not, _&&_, _||_}
 use mathlib.Core.List.{List, [], _∷_, _++_, map}
