@@ -1,15 +1,15 @@
--- The verdicts of the plan check say what the walks of the job define.
+-- The verdicts of the plan check say what the walks of the job define, and are read back from the number.
 -- Why: past all refusals the verdict is the test `faithful`, which decides whether a walk shows a difference.
 -- Assumes nothing.
 use mathlib.Core.Path.{_≡_, refl, sym, ap, _∙_, subst}
 use mathlib.Core.Logic.{⊎-elim}
 use mathlib.Core.Bool.{Bool, true, false, cond}
 use mathlib.Core.List.{List}
-use Prim.Native.Nat.{ℕ, zero, suc, _≤_}
+use Prim.Native.Nat.{ℕ, zero, suc, _+_, _^_, _≤_}
 use native.Mathlib.Omega.{arith}
 use lib.Dec.{eqb, ltb}
 use lib.ListN.{length, getD}
-use borrow.Author.Tests.{ltb-true, ltb-false, leb-true, eqb-true, eqb-false}
+use borrow.Author.Tests.{ltb-true, ltb-false, leb-true, eqb-true, eqb-false, ne-eqb}
 use Rattle.laws.specs.Bounded.{allBelow}
 use Rattle.laws.proofs.Bounded.{all-at, all-of}
 use Rattle.laws.proofs.Tests.{passes-or-fails}
@@ -18,11 +18,12 @@ use Rattle.job.specs.Search.{faithful}
 use Rattle.job.proofs.Decide.{faithful-says, different-says}
 use Rattle.jobfile.specs.File.{Answer, accepted, turned, maxFile, readJob}
 use Rattle.jobfile.proofs.SpellableLaws.{read-written}
+use Rattle.jobfile.proofs.ListingFits.{listing-fits}
 use Rattle.joblines.specs.Layout.{workSize}
 use Rattle.checking.specs.declared.check.Verdict.{Verdict}
 use Rattle.checking.specs.declared.check.Verdict.the-variants.{Faithful, Different, Refused}
-use Rattle.checking.specs.Checking.{goodMark, judged, answered, checked}
-use Rattle.checking.specs.CheckingSays.{MarkFor, unwatched, watched, Admissible, SaysFaithful, SaysDifferent}
+use Rattle.checking.specs.Checking.{goodMark, hasLength, goodMarks, judged, answered, checked, verdictNumber}
+use Rattle.checking.specs.CheckingSays.{MarkFor, unwatched, watched, Admissible, SaysFaithful, SaysDifferent, verdictRead, VerdictByNumber}
 use Rattle.checking.proofs.CheckLaws.{judged-11, judged-12, judged-verdict, checked-1, checked-2, checked-read}
 
 -- ---- plan bytes
@@ -155,3 +156,46 @@ verdict-different file plan size = (
   λ h. let p = passed file plan size false h in (p .0, p .1, different-says (formed (p .1)) plan .0 (p .2)),
   λ r. passed-verdict file plan size false (r .0, r .1, different-says (formed (r .1)) plan .1 (r .2)),
 )
+
+-- ---- the number
+
+-- a refusal's number is small
+abbrev SmallRefusal : Verdict → Type 0
+SmallRefusal Faithful = Unit {0}
+SmallRefusal Different = Unit {0}
+SmallRefusal (Refused k) = k ≤ 15
+
+-- of a job's plan
+judged-small : (j : Job) (plan : List ℕ) → SmallRefusal (judged j plan)
+unfolding judged
+judged-small j plan = go (hasLength j plan) (goodMarks j plan) (faithful j plan)
+  where
+    go : (a b c : Bool) → SmallRefusal (cond a (cond b (cond c Faithful Different) (Refused 12)) (Refused 11))
+    go true true true = tt
+    go true true false = tt
+    go true false c = omega arith
+    go false b c = omega arith
+
+-- of a file
+checked-small : (file plan : List ℕ) (size : ℕ) → SmallRefusal (checked file plan size)
+unfolding checked
+checked-small file plan size = go (ltb maxFile (length file)) (ltb size workSize)
+  where
+    answer : (a : Answer) → readJob file ≡ a → SmallRefusal (answered a plan)
+    answer (accepted j) e = judged-small j plan
+    answer (turned k) e = omega (arith, listing-fits .turned-back file k e)
+
+    go : (a b : Bool) → SmallRefusal (cond a (Refused 1) (cond b (Refused 2) (answered (readJob file) plan)))
+    go true b = omega arith
+    go false true = omega arith
+    go false false = answer (readJob file) refl
+
+-- a verdict with a small refusal is read back
+read-small : (v : Verdict) → SmallRefusal v → verdictRead (verdictNumber v) ≡ v
+read-small Faithful s = refl
+read-small Different s = refl
+read-small (Refused k) s = simp (ne-eqb k (2 ^ 48) (λ e. omega arith), ne-eqb k (2 ^ 48 + 1) (λ e. omega arith))
+
+-- the verdict is read back
+pub verdict-by-number : VerdictByNumber
+verdict-by-number file plan size = read-small (checked file plan size) (checked-small file plan size)

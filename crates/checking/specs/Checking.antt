@@ -60,10 +60,10 @@ workLeft Different work = cleared work
 workLeft (Refused k) work = refusedLeft k work
 
 -- "faithful is 2^48, different is 2^48 plus 1, a refusal is its number"
-abbrev pub numberOf : Verdict → ℕ
-numberOf Faithful = 2 ^ 48
-numberOf Different = 2 ^ 48 + 1
-numberOf (Refused k) = k
+abbrev pub verdictNumber : Verdict → ℕ
+verdictNumber Faithful = 2 ^ 48
+verdictNumber Different = 2 ^ 48 + 1
+verdictNumber (Refused k) = k
 
 -- ---- what the parts of the check leave
 

@@ -1,16 +1,20 @@
--- What the verdicts of the plan check say (document 01, "Nodes and walks" and "Turned back, by number"), of walks and not of searches.
+-- What the verdicts of the plan check say (document 01, "Nodes and walks" and "Turned back, by number"), of walks and not of searches; and
+-- that a caller reads the verdict back from the number.
 -- Assumes nothing.
 use mathlib.Core.Path.{_≡_}
 use mathlib.Core.Logic.{_↔_}
+use mathlib.Core.Bool.{cond}
 use mathlib.Core.List.{List}
-use Prim.Native.Nat.{ℕ, _≤_, _<_}
+use Prim.Native.Nat.{ℕ, _+_, _^_, _≤_, _<_}
+use lib.Dec.{eqb}
 use lib.ListN.{length, getD}
 use Rattle.job.specs.Job.{Kind, event, Job, nodeAt}
 use Rattle.job.specs.Plan.{enables, Faithful as FaithfulPlan, Different as DifferentPlan}
 use Rattle.jobfile.specs.File.{accepted, maxFile, readJob}
 use Rattle.joblines.specs.Layout.{workSize}
-use Rattle.checking.specs.declared.check.Verdict.the-variants.{Faithful, Different}
-use Rattle.checking.specs.Checking.{checked}
+use Rattle.checking.specs.declared.check.Verdict.{Verdict}
+use Rattle.checking.specs.declared.check.Verdict.the-variants.{Faithful, Different, Refused}
+use Rattle.checking.specs.Checking.{checked, verdictNumber}
 
 -- the bytes that a plan may have: 0 at any node, and 1 at an event node
 pub data MarkFor : Kind → ℕ → Type 0 where
@@ -36,3 +40,12 @@ abbrev pub SaysDifferent : Type 0
 SaysDifferent =
     (file plan : List ℕ) (size : ℕ)
     → (checked file plan size ≡ Different) ↔ ((j : Job) × Admissible file plan size j × DifferentPlan j (enables plan))
+
+-- the verdict that a number tells: 2^48 is faithful, 2^48 plus 1 different, any other a refusal
+abbrev pub verdictRead : ℕ → Verdict
+verdictRead n = cond (eqb n (2 ^ 48)) Faithful (cond (eqb n (2 ^ 48 + 1)) Different (Refused n))
+
+-- the statement: a caller reads back the verdict or the refusal from the number
+abbrev pub VerdictByNumber : Type 0
+VerdictByNumber =
+    (file plan : List ℕ) (size : ℕ) → verdictRead (verdictNumber (checked file plan size)) ≡ checked file plan size

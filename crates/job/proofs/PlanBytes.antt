@@ -17,7 +17,7 @@ use Rattle.laws.specs.Bounded.{sumBelow}
 use Rattle.laws.proofs.Bounded.{sum-front, sum-cong, sum-bound}
 use Rattle.laws.proofs.Tests.{fails-of, passes-or-fails}
 use Rattle.job.specs.Job.{Kind, plain, event, call, Node, Job, noNode, nodeAt}
-use Rattle.job.specs.Plan.{enables}
+use Rattle.job.specs.Plan.{enables, IsPlan}
 use Rattle.job.specs.Planning.{shadowByte, allEnabled, samePlan, enabledCount}
 
 -- ---- bytes
@@ -173,12 +173,6 @@ pub count-le : (plan : List ℕ) → ((n : ℕ) → getD plan n 0 ≤ 1) → ena
 count-le plan h = omega (arith, count-sum plan, sum-bound (length plan) 1 (λ n. getD plan n 0) (λ n l. h n))
 
 -- ---- plans of a job
-
--- a byte for each node, 0 or 1, and 1 at event nodes only
-pub record IsPlan (j : Job) (plan : List ℕ) : Type 0 where
-  pub long : length plan ≡ length (j .nodes)
-  pub bytes : (n : ℕ) → getD plan n 0 ≤ 1
-  pub shadows : (n : ℕ) → enables plan n ≡ true → (a : ℕ) × (nodeAt j n .kind ≡ event a)
 
 -- a plan that loses points stays one
 pub lowered-plan : {j : Job} {p r : List ℕ} → Lowered p r → IsPlan j p → IsPlan j r

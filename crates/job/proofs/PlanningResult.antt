@@ -11,11 +11,11 @@ use lib.ListN.{length, set}
 use Rattle.laws.specs.Bounded.{sumBelow}
 use Rattle.job.specs.Job.{event, Job, nodeAt}
 use Rattle.job.specs.Walk.{Event, Place, Told, report, call-word, after-word, Walk, stop, move, tell}
-use Rattle.job.specs.Plan.{Enabling, full, enables, takes, stateAt, alarmAt, alarms, Faithful}
+use Rattle.job.specs.Plan.{Enabling, full, enables, takes, stateAt, alarmAt, alarms, IsPlan, Faithful}
 use Rattle.job.specs.Planning.{allEnabled, tried, passed, Planned, enabledCount, planned}
 use Rattle.job.specs.Planning.{Tried, removed, needed, disabled, Passed, none, next-node, PassesTo, last, again}
 use Rattle.job.proofs.PlanBytes.{Lowered, lowered-plan, lowered-count, enabled-within, count-says, count-le}
-use Rattle.job.proofs.PlanBytes.{IsPlan, all-enabled-plan, all-enabled-event}
+use Rattle.job.proofs.PlanBytes.{all-enabled-plan, all-enabled-event}
 use Rattle.job.proofs.PassLaws.{TriedBy, goes, stays, passed-by, tried-by, passed-needs}
 use Rattle.job.proofs.PlanningLaws.{PassesBy, last-by, again-by, settled-by, passes-lowered, passes-settled, passes-passes, passes-some, passes-few}
 
@@ -89,7 +89,7 @@ pub record Counts (j : Job) (r : Planned) : Type 0 where
   pub few-passes : r .passes + enabledCount (r .plan) ≤ enabledCount (allEnabled j) + 1
 
 -- what that comes to for at most 512 nodes: each fits sixteen bits, and a field of six columns
-pub record CountsFit (j : Job) (r : Planned) : Type 0 where
+pub record PlannedFits (j : Job) (r : Planned) : Type 0 where
   pub shadows : enabledCount (allEnabled j) ≤ 512
   pub enabled : enabledCount (r .plan) ≤ 512
   pub passes : r .passes ≤ 513
@@ -136,7 +136,7 @@ module _ (test : List ℕ → Bool) (j : Job) where
       }
 
   -- the counts for at most 512 nodes
-  pub planned-fits : length (j .nodes) ≤ 512 → CountsFit j (planned test j)
+  pub planned-fits : length (j .nodes) ≤ 512 → PlannedFits j (planned test j)
   planned-fits h = let c = planned-counts in record { shadows = omega arith; enabled = omega arith; passes = omega arith }
 
 -- ---- what planning ends with, with a test that says `Faithful`

@@ -42,9 +42,9 @@ listingAfter (accepted j) listing = sets listing 0 (bytesFor j)
 listingAfter (turned k) listing = listing
 
 -- across the C call: 2^48 plus the length, or the refusal's number
-abbrev pub numberOf : Listed → ℕ
-numberOf (Length n) = 2 ^ 48 + n
-numberOf (Refused k) = k
+abbrev pub listNumber : Listed → ℕ
+listNumber (Length n) = 2 ^ 48 + n
+listNumber (Refused k) = k
 
 -- ---- what the parts of the call leave
 

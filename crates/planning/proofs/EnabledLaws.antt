@@ -13,11 +13,11 @@ use lib.Seq.{getD-set-same, getD-set-other, ext-getD}
 use Rattle.laws.specs.Bounded.{sumBelow}
 use Rattle.laws.proofs.Bounded.{sum-none, sum-more, sum-cong}
 use Rattle.job.specs.Job.{Kind, plain, event, call, Node, Job, nodeAt}
-use Rattle.job.specs.Plan.{enables}
+use Rattle.job.specs.Plan.{enables, IsPlan}
 use Rattle.job.specs.Planning.{shadowByte, allEnabled, enabledCount}
 use Rattle.job.specs.Listing.{planOf}
 use Rattle.job.specs.Search.{faithful}
-use Rattle.job.proofs.PlanBytes.{count-says, IsPlan, all-enabled-byte, all-enabled-length, all-enabled-count}
+use Rattle.job.proofs.PlanBytes.{count-says, all-enabled-byte, all-enabled-length, all-enabled-count}
 use Rattle.job.proofs.PlanningResult.{planned-plan}
 use Rattle.joblines.specs.Layout.{nodeIn, SameOutside}
 use Rattle.tables.specs.Rows.{isEvent}

@@ -1,19 +1,20 @@
 -- Laws of what planning and listing share as calls, in the shape of their code: each way out, with the answer and what is left of the lent
 -- bytes; and the bounds of the counts.
 -- Assumes nothing.
-use mathlib.Core.Path.{_≡_, refl, sym, _∙_, subst}
+use mathlib.Core.Path.{_≡_, refl, sym, ap, _∙_, subst}
 use mathlib.Core.Bool.{Bool, true, false, cond, _||_}
 use mathlib.Core.List.{List}
-use Prim.Native.Nat.{ℕ, _≤_, _<_}
+use Prim.Native.Nat.{ℕ, _+_, _≤_, _<_}
 use native.Mathlib.Omega.{arith}
 use lib.Dec.{ltb}
-use lib.ListN.{length}
+use lib.ListN.{length, take, drop}
+use lib.Seq.{sets, sets-eq, length-sets, take-at, drop-at}
 use borrow.Author.Tests.{lt-ltb, le-ltb}
 use Rattle.laws.proofs.Tests.{or-left, or-right, or-fails}
 use Rattle.job.specs.Job.{Job}
 use Rattle.job.specs.Search.{faithful}
 use Rattle.job.specs.Listing.{planOf}
-use Rattle.job.proofs.PlanningResult.{CountsFit, planned-fits}
+use Rattle.job.proofs.PlanningResult.{PlannedFits, planned-fits}
 use Rattle.jobfile.specs.File.{Answer, accepted, turned, maxFile, readJob}
 use Rattle.jobfile.proofs.ListingFits.{listing-fits}
 use Rattle.jobfile.proofs.SpellableLaws.{read-written}
@@ -25,7 +26,7 @@ use Rattle.tables.specs.Held.{JobHeld}
 use Rattle.checking.proofs.CheckLaws.{read-refused, cleared-outside, cleared-rest}
 use Rattle.checking.proofs.JobHeldLaws.{job-read}
 use Rattle.checking.proofs.AnswerReadLaws.{turned-read, accepted-read}
-use Rattle.plans.specs.Called.{admitted, workAfter}
+use Rattle.plans.specs.Called.{admitted, workAfter, WrittenFirst}
 
 -- ---- the answer
 
@@ -85,6 +86,21 @@ short-other work size other least h = or-right (ltb work size) (ltb other least)
 pub long-enough : (work size other least : ℕ) → size ≤ work → least ≤ other → (ltb work size || ltb other least) ≡ false
 long-enough work size other least h g =
     or-fails (ltb work size) (ltb other least) (le-ltb work size h) (le-ltb other least g)
+
+-- ---- bytes written from the start of a lent buffer
+
+-- they stand first, and the rest is as it was
+pub written-first
+    : (n : ℕ) (bytes before : List ℕ) → length bytes ≡ n → n ≤ length before → WrittenFirst n bytes before (sets before 0 bytes)
+written-first n bytes before count room =
+    let whole = sets-eq bytes before 0 (omega arith) in
+    let end : 0 + length bytes ≡ n = omega arith in
+    record {
+      count = count;
+      first = ap (take n) whole ∙ take-at bytes (drop (0 + length bytes) before) n count;
+      long = length-sets before 0 bytes;
+      rest = ap (drop n) whole ∙ drop-at bytes (drop (0 + length bytes) before) n count ∙ ap (λ (k : ℕ). drop k before) end;
+    }
 
 -- ---- the ways out of a call
 
@@ -150,10 +166,10 @@ module _ {X : Type 0} (outcome : Answer → X) (after : Answer → List ℕ → 
 -- of a job of at most 512 nodes: event nodes and watched points are at most 512, passes at most 513
 pub counts-held
     : {j : Job} {l : List ℕ} {table : List (List ℕ)} {finals states nodes : ℕ} → nodes ≤ 512
-    → JobHeld j l table finals states nodes → CountsFit j (planOf j)
+    → JobHeld j l table finals states nodes → PlannedFits j (planOf j)
 counts-held {j} few h = planned-fits (faithful j) j (omega (arith, h .nodes-are))
 
 -- of a job that was accepted
-pub counts-admitted : (file : List ℕ) (short : Bool) (j : Job) → admitted file short ≡ accepted j → CountsFit j (planOf j)
+pub counts-admitted : (file : List ℕ) (short : Bool) (j : Job) → admitted file short ≡ accepted j → PlannedFits j (planOf j)
 counts-admitted file short j e =
     planned-fits (faithful j) j (read-written file j (admitted-spells file short j e) .1 .few-nodes)

@@ -21,12 +21,11 @@ use Rattle.classes.specs.Backwards.{AfterWords}
 use Rattle.checking.proofs.CheckLaws.{table-usable, read-usable}
 use Rattle.planning.specs.declared.passes.Counts.{Counts}
 use Rattle.planning.specs.Passes.{planIn, PlanningKept, countsOf, PlanMade}
-use Rattle.plans.specs.Called.{admitted}
 use Rattle.plans.specs.declared.plan.Outcome.{Outcome}
 use Rattle.plans.specs.declared.plan.Outcome.the-variants.{Planned, Refused}
 use Rattle.plans.specs.PlanCall.{planSize, planAnswer, outcomeOf, planAfter, PlannedHeld}
 use Rattle.planning.proofs.PlanInLaws.{plan-in-none, plan-in-more, plan-in-length, planning-outside}
-use Rattle.plans.proofs.CalledLaws.{short-work, short-other, long-enough, Ends, ends-long, ends-short, ends-refused, ends-accepted, some-node-read, counts-admitted}
+use Rattle.plans.proofs.CalledLaws.{short-work, short-other, long-enough, Ends, ends-long, ends-short, ends-refused, ends-accepted, some-node-read}
 
 -- ---- the plan copied to the plan buffer
 
@@ -116,22 +115,3 @@ module _ (file work plan : List ℕ) where
     plan-accepted h k after counts g =
         ends-accepted outcomeOf planAfter file work plan short fits room m r read h k (Planned counts) after (g .kept)
         (λ j held. let due = g .exact j held in (ap Planned (due .0), due .1))
-
--- ---- the counts that the call returns
-
--- event nodes and watched points are at most 512, passes at most 513
-pub record CountsFew (c : Counts) : Type 0 where
-  pub shadows : c .shadows ≤ 512
-  pub enabled : c .enabled ≤ 512
-  pub passes : c .passes ≤ 513
-
--- whatever the file
-pub counts-few : (file : List ℕ) (short : Bool) (c : Counts) → Planned c ≡ outcomeOf (admitted file short) → CountsFew c
-counts-few file short c e = go (admitted file short) refl e
-  where
-    go : (a : Answer) → admitted file short ≡ a → Planned c ≡ outcomeOf a → CountsFew c
-    go (accepted j) is e =
-        let fit = counts-admitted file short j is in
-        let same : c ≡ countsOf j = cc e in
-        subst (λ (x : Counts). CountsFew x) (sym same) (record { shadows = fit .shadows; enabled = fit .enabled; passes = fit .passes })
-    go (turned k) is e = let z : _≡_ {A = ℕ} 0 1 = cc e in absurd (omega arith)

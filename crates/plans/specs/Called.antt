@@ -1,10 +1,11 @@
 -- What planning and listing share as calls (document 01, "Turned back, by number").
 -- Assumes nothing.
+use mathlib.Core.Path.{_≡_}
 use mathlib.Core.Bool.{Bool, cond}
 use mathlib.Core.List.{List}
 use Prim.Native.Nat.{ℕ}
 use lib.Dec.{ltb}
-use lib.ListN.{length}
+use lib.ListN.{length, take, drop}
 use Rattle.jobfile.specs.File.{Answer, accepted, turned, maxFile, readJob}
 use Rattle.joblines.specs.Layout.{cleared}
 use Rattle.checking.specs.Checking.{refusedLeft}
@@ -17,3 +18,10 @@ admitted file short = cond (ltb maxFile (length file)) (turned 1) (cond short (t
 abbrev pub workAfter : Answer → List ℕ → List ℕ
 workAfter (accepted j) work = cleared work
 workAfter (turned k) work = refusedLeft k work
+
+-- n bytes are written from the start of a lent buffer, and no other byte of it is changed
+pub record WrittenFirst (n : ℕ) (bytes before after : List ℕ) : Type 0 where
+  pub count : length bytes ≡ n
+  pub first : take n after ≡ bytes
+  pub long : length after ≡ length before
+  pub rest : drop n after ≡ drop n before

@@ -2,3 +2,4 @@
 -- Assumes nothing.
 pub mod Called
 pub mod PlanCall
+pub mod PlanSays

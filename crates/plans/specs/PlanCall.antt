@@ -1,10 +1,9 @@
 -- Planning as a call (document 01, "Planning", "The job file" and "Turned back, by number"): its answer, and what it leaves of the lent bytes.
 -- Assumes nothing.
 use mathlib.Core.Path.{_≡_}
-use mathlib.Core.Logic.{_↔_}
 use mathlib.Core.Bool.{_||_}
 use mathlib.Core.List.{List}
-use Prim.Native.Nat.{ℕ, _+_, _*_, _^_, _≤_}
+use Prim.Native.Nat.{ℕ, _+_, _*_, _^_}
 use lib.Dec.{ltb}
 use lib.Seq.{sets}
 use Rattle.job.specs.Job.{Job}
@@ -37,15 +36,9 @@ planAfter (accepted j) plan = sets plan 0 (planOf j .plan)
 planAfter (turned k) plan = plan
 
 -- "accepted planning is 2^48 plus event nodes times 2^32, watched points times 2^16, and passes; a refusal is its number"
-abbrev pub numberOf : Outcome → ℕ
-numberOf (Planned c) = 2 ^ 48 + c .shadows * 2 ^ 32 + c .enabled * 2 ^ 16 + c .passes
-numberOf (Refused k) = k
-
--- the statement: a caller sees by the number whether the job was planned
-abbrev pub SeenByNumber : Type 0
-SeenByNumber =
-    (file : List ℕ) (work plan : ℕ)
-    → (2 ^ 48 ≤ numberOf (outcomeOf (planAnswer file work plan))) ↔ ((j : Job) × (planAnswer file work plan ≡ accepted j))
+abbrev pub planNumber : Outcome → ℕ
+planNumber (Planned c) = 2 ^ 48 + c .shadows * 2 ^ 32 + c .enabled * 2 ^ 16 + c .passes
+planNumber (Refused k) = k
 
 -- ---- what the parts of the call leave
 

@@ -7,16 +7,16 @@ use lib.ListN.{length}
 use borrow.Author.Needs.{needs}
 use Rattle.checking.specs.declared.check.Verdict.{Verdict}
 use Rattle.checking.specs.declared.check.Verdict.the-variants.{Faithful, Different, Refused}
-use Rattle.checking.specs.Checking.{numberOf, checked, workLeft}
+use Rattle.checking.specs.Checking.{verdictNumber, checked, workLeft}
 use Rattle.dapohiru.proofs.check.dapohiru_check.Statement.{statement}
 use Rattle.dapohiru.proofs.check.dapohiru_check.Tie as tie
 
 -- what a verdict, seen as v, returns and leaves
 told
     : (work left : List ℕ) (r due v : Verdict) → r ≡ due → left ≡ workLeft r work → r ≡ v
-    → (numberOf v ≡ numberOf due) × (left ≡ workLeft due work)
+    → (verdictNumber v ≡ verdictNumber due) × (left ≡ workLeft due work)
 told work left r due v e kept seen =
-    (ap (λ (x : Verdict). numberOf x) (sym seen ∙ e), kept ∙ ap (λ (x : Verdict). workLeft x work) e)
+    (ap (λ (x : Verdict). verdictNumber x) (sym seen ∙ e), kept ∙ ap (λ (x : Verdict). workLeft x work) e)
 
 check-plan-requires : tie.Need-check-plan-requires
 check-plan-requires c κs = search needs

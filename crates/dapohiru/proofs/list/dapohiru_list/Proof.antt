@@ -10,14 +10,14 @@ use borrow.Author.Needs.{needs}
 use Rattle.joblines.specs.Layout.{workSize}
 use Rattle.listings.specs.declared.list.Listed.{Listed}
 use Rattle.listings.specs.declared.list.Listed.the-variants.{Length, Refused}
-use Rattle.listings.specs.ListCall.{listingSize, listAnswer, listedOf, numberOf}
+use Rattle.listings.specs.ListCall.{listingSize, listAnswer, listedOf, listNumber}
 use Rattle.listings.proofs.ListLaws.{length-few}
 use Rattle.dapohiru.proofs.list.dapohiru_list.Statement.{statement}
 use Rattle.dapohiru.proofs.list.dapohiru_list.Tie as tie
 
 -- the number of an answer, seen as v
-told : (r due v : Listed) → r ≡ due → r ≡ v → numberOf v ≡ numberOf due
-told r due v e seen = ap (λ (x : Listed). numberOf x) (sym seen ∙ e)
+told : (r due v : Listed) → r ≡ due → r ≡ v → listNumber v ≡ listNumber due
+told r due v e seen = ap (λ (x : Listed). listNumber x) (sym seen ∙ e)
 
 list-job-requires : tie.Need-list-job-requires
 list-job-requires c κs = search needs

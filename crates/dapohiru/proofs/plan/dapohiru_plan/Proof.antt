@@ -10,8 +10,9 @@ use borrow.Author.Needs.{needs}
 use Rattle.joblines.specs.Layout.{workSize}
 use Rattle.plans.specs.declared.plan.Outcome.{Outcome}
 use Rattle.plans.specs.declared.plan.Outcome.the-variants.{Planned, Refused}
-use Rattle.plans.specs.PlanCall.{planSize, planAnswer, outcomeOf, numberOf}
-use Rattle.plans.proofs.PlanCallLaws.{CountsFew, counts-few}
+use Rattle.plans.specs.PlanCall.{planSize, planAnswer, outcomeOf, planNumber}
+use Rattle.plans.specs.PlanSays.{CountsFit}
+use Rattle.plans.proofs.PlanAfterLaws.{counts-fit}
 use Rattle.dapohiru.proofs.plan.dapohiru_plan.Statement.{statement}
 use Rattle.dapohiru.proofs.plan.dapohiru_plan.Tie as tie
 use Rattle.dapohiru.proofs.plan.dapohiru_plan.Reads as reads
@@ -19,17 +20,17 @@ use Rattle.dapohiru.proofs.plan.dapohiru_plan.Lts as lts
 use Rattle.plans.proofs.plan.plan_job.Reads as plan-job-reads
 
 -- the number of an outcome, seen as v
-told : (r due v : Outcome) → r ≡ due → r ≡ v → numberOf v ≡ numberOf due
-told r due v e seen = ap (λ (x : Outcome). numberOf x) (sym seen ∙ e)
+told : (r due v : Outcome) → r ≡ due → r ≡ v → planNumber v ≡ planNumber due
+told r due v e seen = ap (λ (x : Outcome). planNumber x) (sym seen ∙ e)
 
 -- the counts that are returned are small
 small
     : (c : lts.After-known-told (plan-job-reads.Asked, plan-job-reads.Learnt) reads.Pre reads.Post)
-    → CountsFew (c .before .outcome .given .0 .0)
+    → CountsFit (c .before .outcome .given .0 .0)
 small c =
     let x = c .before .before .before .before .before .before .before .before .before .before .before .before .before .args in
     let o = c .before .outcome .given in
-    counts-few (x .job .now) (ltb (length (x .work .now)) workSize || ltb (length (x .plan .now)) planSize) (o .0 .0)
+    counts-fit (x .job .now) (ltb (length (x .work .now)) workSize || ltb (length (x .plan .now)) planSize) (o .0 .0)
     (sym (o .1) ∙ c .before .before .before .before .before .before .before .plan-job .ensures .0)
 
 plan-job-requires : tie.Need-plan-job-requires

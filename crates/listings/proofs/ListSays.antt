@@ -1,0 +1,51 @@
+-- What a caller of listing has: the lines in its buffer, and the answer read back from the number.
+-- Assumes nothing.
+use mathlib.Core.Path.{_≡_, refl, sym, ap, _∙_}
+use mathlib.Core.Bool.{true≢false, _||_}
+use mathlib.Core.List.{List}
+use Prim.Native.Nat.{ℕ, _+_, _-_, _^_, _≤_}
+use native.Mathlib.Omega.{arith}
+use lib.Dec.{ltb}
+use lib.ListN.{length}
+use borrow.Author.Tests.{ltb-false, lt-ltb, le-ltb}
+use Rattle.laws.proofs.Tests.{fails-of, or-right}
+use Rattle.jobfile.specs.File.{Answer, accepted, turned}
+use Rattle.jobfile.proofs.SpellableLaws.{read-written}
+use Rattle.jobfile.proofs.ListingLength.{listing-in-buffer}
+use Rattle.joblines.specs.Layout.{workSize}
+use Rattle.plans.proofs.CalledLaws.{admitted-reads, admitted-small, written-first}
+use Rattle.listings.specs.declared.list.Listed.the-variants.{Length, Refused}
+use Rattle.listings.specs.ListCall.{listingSize, listAnswer, bytesFor, listedOf, listingAfter, listNumber}
+use Rattle.listings.specs.ListSays.{ListingLeft, listed, unchanged, ListingBytesSay, listedRead, ListedByNumber}
+
+-- the listing buffer after listing
+pub listing-bytes-say : ListingBytesSay
+listing-bytes-say file listing work = go (listAnswer file work (length listing)) refl
+  where
+    go : (a : Answer) → listAnswer file work (length listing) ≡ a → ListingLeft listing (listingAfter a listing) a
+    go (accepted j) e =
+        let read = admitted-reads file (ltb work workSize || ltb (length listing) listingSize) j e in
+        let fits = listing-in-buffer j (read-written file j (read .1) .1 .few-nodes) in
+        let short = ltb (length listing) listingSize in
+        let room =
+        ltb-false (length listing) listingSize (fails-of short (λ t. true≢false (sym (or-right (ltb work workSize) short t) ∙ read .0))) in
+        listed fits room (written-first (length (bytesFor j)) (bytesFor j) listing refl (omega arith))
+    go (turned k) e = unchanged refl
+
+-- a length is read back
+read-length : (n : ℕ) → listedRead (listNumber (Length n)) ≡ Length n
+read-length n =
+    let same : 2 ^ 48 + n - 2 ^ 48 ≡ n = omega arith in
+    simp (le-ltb (2 ^ 48 + n) (2 ^ 48) (omega arith), same)
+
+-- a refusal's number is read back
+read-refusal : (k : ℕ) → k ≤ 15 → listedRead (listNumber (Refused k)) ≡ Refused k
+read-refusal k small = simp (lt-ltb k (2 ^ 48) (omega arith))
+
+-- the answer is read back
+pub listed-by-number : ListedByNumber
+listed-by-number file work listing = go (listAnswer file work listing) refl
+  where
+    go : (a : Answer) → listAnswer file work listing ≡ a → listedRead (listNumber (listedOf a)) ≡ listedOf a
+    go (accepted j) e = read-length (length (bytesFor j))
+    go (turned k) e = read-refusal k (admitted-small file (ltb work workSize || ltb listing listingSize) k e)

@@ -1,0 +1,39 @@
+-- What a caller of listing has: the lines in its buffer, and the answer read back from the number. Statements, with a theorem for each in
+-- `proofs/`.
+-- Assumes nothing.
+use mathlib.Core.Path.{_≡_}
+use mathlib.Core.Bool.{cond}
+use mathlib.Core.List.{List}
+use Prim.Native.Nat.{ℕ, _-_, _^_, _≤_}
+use lib.Dec.{ltb}
+use lib.ListN.{length}
+use Rattle.job.specs.Job.{Job}
+use Rattle.jobfile.specs.File.{Answer, accepted, turned}
+use Rattle.plans.specs.Called.{WrittenFirst}
+use Rattle.listings.specs.declared.list.Listed.{Listed}
+use Rattle.listings.specs.declared.list.Listed.the-variants.{Length, Refused}
+use Rattle.listings.specs.ListCall.{listingSize, listAnswer, bytesFor, listedOf, listingAfter, listNumber}
+
+-- the listing buffer after listing, for an answer: the listing fits, its bytes stand first and the rest is as it was; "a refusal leaves
+-- plan, listing buffer and record unchanged"
+pub data ListingLeft (before after : List ℕ) : Answer → Type 0 where
+  listed
+      : {j : Job} → length (bytesFor j) ≤ listingSize → listingSize ≤ length before
+      → WrittenFirst (length (bytesFor j)) (bytesFor j) before after → ListingLeft before after (accepted j)
+  unchanged : {k : ℕ} → after ≡ before → ListingLeft before after (turned k)
+
+-- the statement: "it writes the W and T lines from the buffer's start, changes no other byte of it"
+abbrev pub ListingBytesSay : Type 0
+ListingBytesSay =
+    (file listing : List ℕ) (work : ℕ)
+    → ListingLeft listing (listingAfter (listAnswer file work (length listing)) listing) (listAnswer file work (length listing))
+
+-- the answer that a number tells: below 2^48 a refusal, from there on the length
+abbrev pub listedRead : ℕ → Listed
+listedRead n = cond (ltb n (2 ^ 48)) (Refused n) (Length (n - 2 ^ 48))
+
+-- the statement: a caller reads back the length or the refusal from the number
+abbrev pub ListedByNumber : Type 0
+ListedByNumber =
+    (file : List ℕ) (work listing : ℕ)
+    → listedRead (listNumber (listedOf (listAnswer file work listing))) ≡ listedOf (listAnswer file work listing)
