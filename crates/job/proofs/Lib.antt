@@ -14,6 +14,7 @@ pub mod PlanningLaws
 pub mod PlanningResult
 pub mod MonitorsLaws
 pub mod MonitorsMore
+pub mod OrderLaws
 pub mod TwoMonitors
 pub mod WellFormedTest
 pub mod TrialsPass
