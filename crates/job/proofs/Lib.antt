@@ -15,6 +15,7 @@ pub mod PlanningResult
 pub mod PlanningSays
 pub mod MonitorsLaws
 pub mod MonitorsMore
+pub mod OrderLaws
 pub mod TwoMonitors
 pub mod WellFormedTest
 pub mod TrialsPass

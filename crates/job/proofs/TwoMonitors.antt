@@ -1,17 +1,19 @@
--- The third promise at the level of jobs as values: the plan that planning makes has the alarms of the full monitor, and each watched point is needed.
+-- Both halves of the third promise in any form that moves as it must and has calls: the plan that planning makes has the alarms of the full
+-- monitor, and each watched point is needed.
 -- Assumes nothing.
 use mathlib.Core.Path.{_≡_}
 use mathlib.Core.Bool.{true}
 use Prim.Native.Nat.{ℕ}
 use lib.ListN.{set}
+use Rattle.monitor.specs.Form.{EventForm, FormMoves}
 use Rattle.job.specs.Job.{Job, WellFormedJob}
 use Rattle.job.specs.Plan.{enables, Different}
 use Rattle.job.specs.Search.{faithful}
 use Rattle.job.specs.Listing.{planOf}
-use Rattle.job.specs.Monitors.{TwoMonitors}
+use Rattle.job.specs.Monitors.{CallsExist, TwoMonitors}
 use Rattle.job.proofs.Decide.{faithful-says, different-says}
 use Rattle.job.proofs.PlanningResult.{plan-faithful, planned-needs}
-use Rattle.job.proofs.MonitorsLaws.{two-monitors}
+use Rattle.job.proofs.MonitorsLaws.{faithful-kept, different-told}
 
 -- each point that planning leaves watched is needed, with the walk that shows it
 pub needed-with-walk
@@ -19,5 +21,8 @@ pub needed-with-walk
 needed-with-walk j wf n e = different-says wf _ .0 (planned-needs (faithful j) j n e)
 
 -- both halves
-pub plan-keeps-alarms : (j : Job) → TwoMonitors j
-plan-keeps-alarms j = two-monitors j (λ wf. plan-faithful (faithful j) j (faithful-says wf)) (needed-with-walk j)
+pub plan-keeps-alarms : (f : EventForm) → FormMoves f → CallsExist f → (j : Job) → TwoMonitors f j
+plan-keeps-alarms f form exist j wf = (
+  faithful-kept f form j (planOf j .plan) wf (plan-faithful (faithful j) j (faithful-says wf)),
+  λ n h e. different-told f form j (set (planOf j .plan) n 0) wf exist (needed-with-walk j wf n e),
+)

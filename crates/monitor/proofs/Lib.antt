@@ -1,5 +1,5 @@
 -- The laws that other crates cite.
 -- Assumes nothing.
-pub mod MachineValues
 pub mod MonitorLaws
+pub mod FormLaws
 pub mod RunLaws

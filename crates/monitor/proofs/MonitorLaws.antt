@@ -1,21 +1,19 @@
 -- Laws of the event step: its four cases, and that it looks at no cell past S or A.
 -- Assumes nothing.
 use mathlib.Core.Path.{_≡_, refl, sym, ap, _∙_}
-use mathlib.Core.Bool.{Bool, true, false, cond, true≢false}
+use mathlib.Core.Bool.{Bool, true, false, cond}
 use mathlib.Core.Logic.{⊎-elim, by-cases}
 use Prim.Native.Nat.{ℕ, _+_, _<_, _≤_}
 use native.Mathlib.Nat.{lt-of-not-le}
-use native.Mathlib.Decide.{decLe}
+use native.Mathlib.Decide.{decLe, decLt}
 use native.Mathlib.Omega.{arith}
 use borrow.Author.Tests.{lt-ltb, le-ltb}
 use Rattle.laws.specs.Bits.{has}
 use Rattle.laws.proofs.Tests.{passes-or-fails}
 use Rattle.automaton.specs.Automaton.{Automaton, next, final, wellFormed, SameRule}
 use Rattle.automaton.proofs.AutomatonLaws.{well-formed-same}
-use Rattle.monitor.specs.Monitor.{recordOf, reported, maxTotal, raised, refusedWith, movedTo, taken, LooksAtNoOtherCell}
+use Rattle.monitor.specs.Monitor.{recordOf, reported, maxTotal, raised, counted, refusedWith, movedTo, taken, LooksAtNoOtherCell}
 use Rattle.monitor.specs.declared.step.Record.{Record}
-use Rattle.monitor.specs.Run.{isEvent}
-use Rattle.monitor.specs.declared.step.Taken.{Taken}
 use Rattle.monitor.specs.declared.step.Report.the-variants.{Quiet, Alarm}
 
 -- below the ceiling the total rises, at the ceiling it stays
@@ -26,6 +24,13 @@ raised-rises n h = simp (lt-ltb n maxTotal h)
 pub raised-stays : (n : ℕ) → maxTotal ≤ n → raised n ≡ n
 unfolding raised
 raised-stays n h = simp (le-ltb n maxTotal h)
+
+-- a total of 64 bits stays one
+pub counted-most : (b : Bool) (n : ℕ) → n ≤ maxTotal → counted b n ≤ maxTotal
+counted-most false n h = h
+counted-most true n h =
+    by-cases (decLt n maxTotal) (λ (l : n < maxTotal). rw (raised-rises n l) (omega arith))
+    (λ g. rw (raised-stays n (omega arith)) h)
 
 -- the refusals, in their order
 pub taken-13 : (m : Automaton) (a : ℕ) (r : Record) → wellFormed m ≡ false → taken m a r ≡ refusedWith 13 r
@@ -72,30 +77,6 @@ taken-case m a r =
     (λ h. by-cases (decLe (m .states) (r .state)) (λ k. no-state w (lt-of-not-le h) k) (λ k. moves w (lt-of-not-le h) (lt-of-not-le k))))
     (λ (w : wellFormed m ≡ false). no-rule w)
     (passes-or-fails (wellFormed m))
-
--- a move is an event
-pub moved-event : (m : Automaton) (q n : ℕ) → isEvent (movedTo m q n .report) ≡ true
-moved-event m q n =
-    ⊎-elim
-    (λ (f : final m q ≡ true). ap (λ (t : Taken). isEvent (t .report)) (moved-alarm m q n _ f refl))
-    (λ (f : final m q ≡ false). ap (λ (t : Taken). isEvent (t .report)) (moved-quiet m q n f))
-    (passes-or-fails (final m q))
-
--- a call that is no event leaves the record
-pub refusal-keeps
-    : (m : Automaton) (a : ℕ) (r : Record) → isEvent (taken m a r .report) ≡ false
-    → recordOf (taken m a r .state) (taken m a r .alarms) ≡ r
-refusal-keeps m a r e = go (taken-case m a r)
-  where
-    left : Taken → Record
-    left t = recordOf (t .state) (t .alarms)
-
-    go : TakenCase m a r → left (taken m a r) ≡ r
-    go (no-rule w) = ap left (taken-13 m a r w)
-    go (no-symbol w h) = ap left (taken-14 m a r w h)
-    go (no-state w h k) = ap left (taken-15 m a r w h k)
-    go (moves w h k) =
-        absurd (true≢false (sym (moved-event m _ (r .alarms)) ∙ ap (λ (t : Taken). isEvent (t .report)) (sym (taken-moved m a r _ w h k refl)) ∙ e))
 
 -- the move looks at the final states alone
 moved-same : (m n : Automaton) (q k : ℕ) → m .finals ≡ n .finals → movedTo m q k ≡ movedTo n q k

@@ -1,9 +1,9 @@
 -- The event step (document 01, "The rule and the monitor"; refusals 13, 14 and 15 in that order).
 -- Assumes nothing.
 use mathlib.Core.Path.{_≡_}
-use mathlib.Core.Bool.{cond}
+use mathlib.Core.Bool.{Bool, cond}
 use Prim.Native.Nat.{ℕ, _+_, _-_, _^_}
-use lib.Dec.{ltb}
+use lib.Dec.{eqb, ltb}
 use Rattle.automaton.specs.Automaton.{Automaton, next, final, wellFormed, SameRule}
 use Rattle.monitor.specs.declared.step.Record.{Record}
 use Rattle.monitor.specs.declared.step.Taken.{Taken}
@@ -18,6 +18,10 @@ recordOf q n = record { state = q; alarms = n }
 abbrev pub reported : Record → Report → Taken
 reported r x = record { state = r .state; alarms = r .alarms; report = x }
 
+-- the record that an answer has beside its report
+abbrev pub keptFrom : Taken → Record
+keptFrom t = recordOf (t .state) (t .alarms)
+
 -- the highest alarm total
 abbrev pub maxTotal : ℕ
 maxTotal = 2 ^ 64 - 1
@@ -25,6 +29,10 @@ maxTotal = 2 ^ 64 - 1
 -- "rises by one at each alarm and stays at 2^64-1 once there" (saturating)
 unfoldable pub raised : ℕ → ℕ
 raised n = cond (ltb n maxTotal) (n + 1) n
+
+-- a total after an event: it rises at an alarm
+abbrev pub counted : Bool → ℕ → ℕ
+counted alarm n = cond alarm (raised n) n
 
 -- "a refusal leaves the record unchanged"
 abbrev pub refusedWith : ℕ → Record → Taken
@@ -47,3 +55,17 @@ taken m a r =
 -- the statement: the event step looks at no cell past S or A
 abbrev pub LooksAtNoOtherCell : Type 0
 LooksAtNoOtherCell = (m n : Automaton) (a : ℕ) (r : Record) → SameRule m n → taken m a r ≡ taken n a r
+
+-- this paper's number for each report: "a refusal is its number; quiet is 2^48, alarm is 2^48 plus 1"
+abbrev pub reportNumber : Report → ℕ
+reportNumber Quiet = 2 ^ 48
+reportNumber Alarm = 2 ^ 48 + 1
+reportNumber (Refused k) = k
+
+-- the number of an alarm
+abbrev pub alarmNumber : ℕ → Bool
+alarmNumber n = eqb n (2 ^ 48 + 1)
+
+-- the number of a refusal
+abbrev pub refusalNumber : ℕ → Bool
+refusalNumber n = ltb n (2 ^ 48)

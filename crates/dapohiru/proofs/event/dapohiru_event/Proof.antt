@@ -2,7 +2,7 @@
 -- Assumes nothing.
 use mathlib.Core.Path.{refl, _∙_}
 use Rattle.monitor.specs.declared.step.Report.the-variants.{Quiet, Alarm, Refused}
-use Rattle.dapohiru.proofs.EventLaws.{answered, answered-length}
+use Rattle.eventcall.proofs.EventLaws.{answered, answered-length}
 use borrow.Author.Needs.{needs}
 use Rattle.dapohiru.proofs.event.dapohiru_event.Statement.{statement}
 use Rattle.dapohiru.proofs.event.dapohiru_event.Tie as tie

@@ -1,0 +1,4 @@
+-- The laws that other crates cite.
+-- Assumes nothing.
+pub mod EventLaws
+pub mod FormLaws

@@ -1,0 +1,31 @@
+-- `eventcall::store` meets its contract: the two numbers fill the sixteen bytes.
+-- Assumes nothing.
+use mathlib.Core.Path.{ap, _∙_}
+use mathlib.Core.List.{List}
+use Prim.Native.Nat.{ℕ}
+use Rattle.laws.specs.Bytes.{putNumber}
+use Rattle.eventcall.specs.Event.{recordBytes}
+use Rattle.eventcall.proofs.EventLaws.{put-whole}
+use borrow.Author.Needs.{needs}
+use Rattle.eventcall.proofs.store.Statement.{statement}
+use Rattle.eventcall.proofs.store.Tie as tie
+
+write64-requires : tie.Need-write64-requires
+write64-requires c κs = search needs
+
+write64-requires-2 : tie.Need-write64-requires-2
+write64-requires-2 c κs = search needs
+
+same-length : tie.Need-same-length
+same-length c = search needs
+
+returns : tie.Need-returns
+unfolding recordBytes
+returns c =
+    let x = c .before .before .before .before .before .before .before .before .before in
+    c .before .before .write642 .ensures
+    ∙ ap (λ (l : List ℕ). putNumber 8 l 8 (x .args .alarms)) (c .before .before .before .before .before .before .write64 .ensures)
+    ∙ put-whole 8 8 (x .args .rec .now) (x .args .state) (x .args .alarms) (x .pre)
+
+pub store-spec : {M : Type 1} → statement M
+store-spec = tie.close (tie.spec write64-requires write64-requires-2 same-length returns)

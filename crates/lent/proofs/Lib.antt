@@ -1,0 +1,3 @@
+-- What the walks share.
+-- Assumes nothing.
+pub mod MachineValues

@@ -1,0 +1,49 @@
+// One record, lent to the call that takes an event and altered there.
+use monitor::step::Record;
+use monitor::step::Report;
+use monitor::step::Taken;
+use monitor::step::step;
+ghost use mathlib.Core.Path.{_≡_};
+ghost use Rattle.automaton.specs.Automaton.{automatonOf};
+ghost use Rattle.monitor.specs.Monitor.{recordOf, reported, taken};
+
+// Takes one event on the lent record. A refusal leaves it as it was.
+pub fn take_event(
+    r: &mut Record,
+    table: [[u8; 16]; 16],
+    states: u64,
+    symbols: u64,
+    finals: u64,
+    symbol: u64,
+) -> Report
+    ensures { λ x. ⌜ reported (now (r .exit)) x ≡ taken (automatonOf table states symbols finals) symbol (now (r .entry)) ⌝ }
+{
+    let t = step(table, states, symbols, finals, symbol, r.state, r.alarms);
+    r.state = t.state;
+    r.alarms = t.alarms;
+    t.report
+}
+
+// Makes a record, lends it to the call that takes an event, and reads it back.
+pub fn take_event_on(
+    table: [[u8; 16]; 16],
+    states: u64,
+    symbols: u64,
+    finals: u64,
+    symbol: u64,
+    state: u64,
+    alarms: u64,
+) -> Taken
+    ensures { λ x. ⌜ x ≡ taken (automatonOf table states symbols finals) symbol (recordOf state alarms) ⌝ }
+{
+    let mut r = Record {
+        state: state,
+        alarms: alarms,
+    };
+    let report = take_event(&mut r, table, states, symbols, finals, symbol);
+    Taken {
+        state: r.state,
+        alarms: r.alarms,
+        report: report,
+    }
+}

@@ -1,0 +1,5 @@
+-- The theorem and the laws under it.
+-- Assumes nothing.
+pub mod PlanningLaws
+pub mod CallsLaws
+pub mod Promise

@@ -1,0 +1,3 @@
+-- The third promise.
+-- Assumes nothing.
+pub mod Promise

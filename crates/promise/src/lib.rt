@@ -1,0 +1,1 @@
+// The third promise: no code.
