@@ -10,7 +10,7 @@ use Rattle.jobfile.specs.File.{Answer, accepted, turned, readJob}
 use Rattle.jobfile.proofs.RefusalLaws.{turned-says}
 use Rattle.jobfile.proofs.AnswerLaws.{turned-number}
 use Rattle.joblines.specs.declared.head.Head.{Head}
-use Rattle.reader.specs.Reading.{headOfAnswer, JobRead}
+use Rattle.joblines.specs.Reading.{headOfAnswer, JobRead}
 
 -- the number of a file that is turned back is not 0
 turned-some : (file : List ℕ) (k : ℕ) → readJob file ≡ turned k → k ≡ 0 → ⊥

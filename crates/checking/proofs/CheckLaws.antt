@@ -23,7 +23,7 @@ use Rattle.jobfile.proofs.RefusalLaws.{turned-says}
 use Rattle.joblines.specs.declared.head.Head.{Head}
 use Rattle.joblines.specs.Layout.{nodeIn, workSize, cleared, SameOutside}
 use Rattle.reader.specs.Rule.{ruleIn}
-use Rattle.reader.specs.Reading.{JobRead, SameRest}
+use Rattle.joblines.specs.Reading.{JobRead, SameRest}
 use Rattle.reader.proofs.ClearLaws.{cleared-same}
 use Rattle.joblines.proofs.KeptLaws.{kept-none, kept-both}
 use Rattle.checking.specs.declared.check.Verdict.{Verdict}

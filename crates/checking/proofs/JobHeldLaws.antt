@@ -20,7 +20,7 @@ use Rattle.jobfile.proofs.SpellableLaws.{read-written}
 use Rattle.joblines.specs.declared.head.Head.{Head}
 use Rattle.joblines.specs.Layout.{nodeIn, startIn, targetIn, cellIn, tableIn, jobIn}
 use Rattle.reader.specs.Rule.{ruleIn}
-use Rattle.reader.specs.Reading.{headOfAnswer, JobRead}
+use Rattle.joblines.specs.Reading.{headOfAnswer, JobRead}
 use Rattle.reader.proofs.TableLaws.{rule-cell}
 use Rattle.tables.specs.Rows.{CellsBelow}
 use Rattle.tables.specs.Tables.{EdgeIn}

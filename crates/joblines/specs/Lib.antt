@@ -1,4 +1,5 @@
--- The job in the work buffer, and what reading the lines of a file does.
+-- The job in the work buffer, and what reading a file and its lines does.
 -- Assumes nothing.
 pub mod Layout
 pub mod ReadLines
+pub mod Reading

@@ -13,7 +13,7 @@ use Rattle.jobfile.proofs.ListingLength.{listing-in-buffer}
 use Rattle.joblines.specs.declared.head.Head.{Head}
 use Rattle.joblines.specs.Layout.{workSize, cleared}
 use Rattle.reader.specs.Rule.{ruleIn}
-use Rattle.reader.specs.Reading.{JobRead}
+use Rattle.joblines.specs.Reading.{JobRead}
 use Rattle.joblines.proofs.KeptLaws.{kept-none, kept-both}
 use Rattle.tables.specs.Rows.{CellsBelow}
 use Rattle.tables.specs.Held.{Usable, JobHeld}

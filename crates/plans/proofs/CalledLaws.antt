@@ -21,7 +21,7 @@ use Rattle.jobfile.proofs.SpellableLaws.{read-written}
 use Rattle.joblines.specs.declared.head.Head.{Head}
 use Rattle.joblines.specs.Layout.{cleared, SameOutside}
 use Rattle.reader.specs.Rule.{ruleIn}
-use Rattle.reader.specs.Reading.{JobRead}
+use Rattle.joblines.specs.Reading.{JobRead}
 use Rattle.tables.specs.Held.{JobHeld}
 use Rattle.checking.proofs.CheckLaws.{read-refused, cleared-outside, cleared-rest}
 use Rattle.checking.proofs.JobHeldLaws.{job-read}

@@ -13,7 +13,7 @@ use Rattle.jobfile.specs.File.{Answer, accepted, turned, maxFile, readJob}
 use Rattle.joblines.specs.declared.head.Head.{Head}
 use Rattle.joblines.specs.Layout.{workSize, cleared, SameOutside}
 use Rattle.reader.specs.Rule.{ruleIn}
-use Rattle.reader.specs.Reading.{JobRead}
+use Rattle.joblines.specs.Reading.{JobRead}
 use Rattle.joblines.proofs.KeptLaws.{kept-none, kept-both}
 use Rattle.tables.specs.Held.{Usable}
 use Rattle.tables.proofs.JobKeptLaws.{front-kept, front-job}

@@ -1,6 +1,5 @@
 -- The laws that the proofs of the functions cite.
 -- Assumes nothing.
 pub mod ClearLaws
-pub mod JobLaws
 pub mod ReadLaws
 pub mod TableLaws

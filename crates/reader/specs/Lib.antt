@@ -1,4 +1,3 @@
--- What reading a file leaves, and the rule that it hands over.
+-- The rule that the buffer holds.
 -- Assumes nothing.
-pub mod Reading
 pub mod Rule

@@ -10,7 +10,7 @@ use lib.ListN.{length}
 use borrow.Author.Tests.{lt-ltb, le-ltb}
 use Rattle.jobfile.specs.File.{Answer, accepted, turned, maxFile, readJob}
 use Rattle.joblines.specs.Layout.{workSize, cleared}
-use Rattle.reader.specs.Reading.{headOfAnswer, FileRead}
+use Rattle.joblines.specs.Reading.{headOfAnswer, FileRead}
 use Rattle.joblines.specs.declared.head.Head.{Head}
 use Rattle.reader.proofs.ClearLaws.{cleared-same}
 use Rattle.jobfile.specs.Refusal.{TurnedBack, RefusalNumber}
