@@ -1,8 +1,8 @@
 //! The event step of the library, beside a second implementation and by itself.
 mod library;
 
-use dapohiru::{event, Record, Refusal, Report, Rule};
-use library::LIBRARY;
+use dapohiru::{Record, Refusal, Report, Rule};
+use library::{event, LIBRARY};
 use walks::random::Random;
 use walks::stepping::{Answer, Call, Second, Slip};
 

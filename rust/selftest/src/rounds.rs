@@ -1,12 +1,13 @@
 //! One round: random calls that its seed and number determine, each beside the second implementation.
 use crate::arguments::Slips;
-use crate::library::LIBRARY;
+use crate::library::GUARDED;
 use crate::tally::Tally;
 use plain::read::Decoded;
 use walks::checking;
 use walks::damage::damaged;
 use walks::job::Job;
 use walks::large::{self, Order};
+use walks::library::ACCEPTED;
 use walks::promise;
 use walks::random::Random;
 use walks::samples::pair;
@@ -34,8 +35,8 @@ impl Rounds {
         Rounds {
             seed,
             slips,
-            serving: serving::Memory::new(LIBRARY),
-            checking: checking::Memory::new(LIBRARY),
+            serving: serving::Memory::new(GUARDED),
+            checking: checking::Memory::new(GUARDED),
             decoded: Decoded::new(),
             tally: Tally::default(),
         }
@@ -137,7 +138,7 @@ impl Rounds {
             let second = Second {
                 slip: self.slips.step,
             };
-            let answer = compare(LIBRARY, second, &Call::any(random))?;
+            let answer = compare(GUARDED, second, &Call::any(random))?;
             self.tally.add_stepped(answer);
         }
         Ok(())
@@ -149,19 +150,21 @@ impl Rounds {
         let file = job.file();
         let said = |why: String| format!("{why}; job:\n{}", String::from_utf8_lossy(&file));
         let mut plan = [7; dapohiru::PLAN_LEN];
-        let counts = dapohiru::plan(&file, &mut plan, &mut [0; dapohiru::WORK_LEN]);
-        counts.map_err(|refusal| said(refusal.to_string()))?;
+        let number = (GUARDED.plan)(&file, &mut [0; dapohiru::WORK_LEN], &mut plan);
+        if number < ACCEPTED {
+            return Err(said(format!("refused {number}")));
+        }
         self.tally.planned += 1;
         let plan = &plan[..job.nodes.len()];
         let walks = Walks::new(&job, self.slips.walks);
         for _ in 0..4 {
-            let walked = promise::walk(LIBRARY, random, &walks, plan, 300).map_err(&said)?;
+            let walked = promise::walk(GUARDED, random, &walks, plan, 300).map_err(&said)?;
             self.tally.add_walk(&walked);
             if walked.differs {
                 return Err(said(format!("two monitors differ under plan {plan:?}")));
             }
         }
-        let needed = promise::needed(LIBRARY, random, &walks, plan, 2).map_err(&said)?;
+        let needed = promise::needed(GUARDED, random, &walks, plan, 2).map_err(&said)?;
         self.tally.add_needed(&needed);
         Ok(())
     }

@@ -1,6 +1,6 @@
 //! Walks replayed through the event step on two records, full and planned.
-use crate::library::LIBRARY;
-use dapohiru::{check, Verdict};
+use crate::library::{check, LIBRARY};
+use dapohiru::Verdict;
 use walks::call::WORK;
 use walks::random::Random;
 use walks::records::{Records, Tally};

@@ -1,27 +1,62 @@
-//! The wrapper's functions as the calls that the second implementation is compared with: each answer
-//! is taken back to its number.
-use dapohiru::{Refusal, Report, Verdict};
+//! The wrapper's functions with every buffer guarded, and as the calls that the second implementation
+//! is compared with: each answer is taken back to its number.
+#![allow(dead_code)]
+use dapohiru::{Counts, Refusal, Report, Verdict};
+use walks::guarded::lend;
 use walks::library::{Library, ACCEPTED};
+
+/// [`dapohiru::plan`], on guarded buffers too.
+pub fn plan(job: &[u8], plan: &mut [u8], work: &mut [u8]) -> Result<Counts, Refusal> {
+    lend([job], [plan, work], |[job], [plan, work]| {
+        dapohiru::plan(job, plan, work)
+    })
+}
+
+/// [`dapohiru::list`], on guarded buffers too.
+pub fn list(job: &[u8], listing: &mut [u8], work: &mut [u8]) -> Result<usize, Refusal> {
+    lend([job], [listing, work], |[job], [listing, work]| {
+        dapohiru::list(job, listing, work)
+    })
+}
+
+/// [`dapohiru::check`], on guarded buffers too.
+pub fn check(job: &[u8], plan: &[u8], work: &mut [u8]) -> Result<Verdict, Refusal> {
+    lend([job, plan], [work], |[job, plan], [work]| {
+        dapohiru::check(job, plan, work)
+    })
+}
+
+/// [`dapohiru::event`], on guarded buffers too.
+pub fn event(
+    rule: &[u8],
+    states: u64,
+    symbols: u64,
+    finals: u64,
+    symbol: u64,
+    record: &mut [u8],
+) -> Result<Report, Refusal> {
+    lend([rule], [record], |[rule], [record]| {
+        dapohiru::event(rule, states, symbols, finals, symbol, record)
+    })
+}
 
 /// The wrapper.
 pub const LIBRARY: Library = Library {
-    plan: |job, work, plan| {
+    plan: |job, work, buffer| {
         number(
-            dapohiru::plan(job, plan, work)
+            plan(job, buffer, work)
                 .map(|counts| (counts.points << 32) + (counts.watched << 16) + counts.passes),
         )
     },
-    list: |job, work, listing| number(dapohiru::list(job, listing, work).map(|len| len as u64)),
+    list: |job, work, listing| number(list(job, listing, work).map(|len| len as u64)),
     check: |job, plan, work| {
-        number(
-            dapohiru::check(job, plan, work).map(|verdict| match verdict {
-                Verdict::Faithful => 0,
-                Verdict::Different => 1,
-            }),
-        )
+        number(check(job, plan, work).map(|verdict| match verdict {
+            Verdict::Faithful => 0,
+            Verdict::Different => 1,
+        }))
     },
     event: |rule, states, symbols, finals, symbol, record| {
-        let report = dapohiru::event(rule, states, symbols, finals, symbol, record);
+        let report = event(rule, states, symbols, finals, symbol, record);
         number(report.map(|report| match report {
             Report::Quiet => 0,
             Report::Alarm => 1,

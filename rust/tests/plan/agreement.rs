@@ -1,5 +1,5 @@
 //! The library and the second implementation on the same calls.
-use crate::library::LIBRARY;
+use crate::library::{self, LIBRARY};
 use std::collections::BTreeMap;
 use walks::apart::Apart;
 use walks::features::Features;
@@ -100,7 +100,7 @@ fn plan_is_faithful_and_loses_that_with_any_watched_point() {
         let job = small::job(&mut random);
         let walks = Walks::new(&job, None);
         let mut plan = vec![7; 512];
-        dapohiru::plan(&job.file(), &mut plan, &mut [0; 65_536]).expect("the job is planned");
+        library::plan(&job.file(), &mut plan, &mut [0; 65_536]).expect("the job is planned");
         plan.truncate(job.nodes.len());
         assert_eq!(difference(&walks, &plan), None, "job {number}");
         plans += 1;

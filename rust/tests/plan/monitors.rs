@@ -1,6 +1,5 @@
 //! The first half of the third promise: two records on long walks, one under the plan of the library.
-use crate::library::LIBRARY;
-use dapohiru::plan;
+use crate::library::{plan, LIBRARY};
 use walks::call::WORK;
 use walks::job::Job;
 use walks::large::{self, Order};

@@ -1,6 +1,6 @@
 //! The trials of document 01 that concern planning and listing, with the answers by hand.
-use crate::library::LIBRARY;
-use dapohiru::{list, plan, Counts, Refusal};
+use crate::library::{list, plan, LIBRARY};
+use dapohiru::{Counts, Refusal};
 use walks::call::WORK;
 use walks::job::Job;
 use walks::listing::listing;

@@ -8,6 +8,7 @@ pub mod damage;
 pub mod faults;
 pub mod features;
 pub mod found;
+pub mod guarded;
 pub mod job;
 pub mod large;
 pub mod library;

@@ -1,10 +1,16 @@
 //! Calls of the library with every byte that they could reach looked at, and counts of their answers.
 use crate::cases::Case;
 use crate::second::{Answer, Outcome, Second};
-use reading::{read, Refusal};
+use reading::Refusal;
 use walks::call::WORK;
+use walks::guarded::lend;
 use walks::memory::{Counts, Lent};
 use walks::random::{self, Random};
+
+/// [`reading::read`], on guarded buffers too.
+pub fn read(file: &[u8], work: &mut [u8]) -> Result<(), Refusal> {
+    lend([file], [work], |[file], [work]| reading::read(file, work))
+}
 
 /// The greatest length of a work buffer in these tests.
 const MOST_WORK: usize = 70_000;

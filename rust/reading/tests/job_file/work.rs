@@ -1,8 +1,8 @@
 //! What a call leaves in the work buffer, the file and the bytes around them.
 use crate::cases::Cases;
-use crate::memory::{words, Memory};
+use crate::memory::{read, words, Memory};
 use crate::samples::little;
-use reading::{read, Refusal};
+use reading::Refusal;
 use walks::call::WORK;
 use walks::faults::{faulty, Fault};
 use walks::job::{spell, Job};
