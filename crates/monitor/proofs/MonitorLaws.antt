@@ -1,6 +1,6 @@
 -- Laws of the event step: its four cases, and that it looks at no cell past S or A.
 -- Assumes nothing.
-use mathlib.Core.Path.{_≡_, refl, sym, ap, _∙_}
+use mathlib.Core.Path.{_≡_, refl, sym, ap, _∙_, subst}
 use mathlib.Core.Bool.{Bool, true, false, cond}
 use mathlib.Core.Logic.{⊎-elim, by-cases}
 use Prim.Native.Nat.{ℕ, _+_, _<_, _≤_}
@@ -12,8 +12,9 @@ use Rattle.laws.specs.Bits.{has}
 use Rattle.laws.proofs.Tests.{passes-or-fails}
 use Rattle.automaton.specs.Automaton.{Automaton, next, final, wellFormed, SameRule}
 use Rattle.automaton.proofs.AutomatonLaws.{well-formed-same}
-use Rattle.monitor.specs.Monitor.{recordOf, reported, maxTotal, raised, counted, refusedWith, movedTo, taken, LooksAtNoOtherCell}
+use Rattle.monitor.specs.Monitor.{recordOf, reported, maxTotal, raised, counted, refusedWith, movedTo, taken, reportNumber, reportRead, LooksAtNoOtherCell, ReportByNumber}
 use Rattle.monitor.specs.declared.step.Record.{Record}
+use Rattle.monitor.specs.declared.step.Taken.{Taken}
 use Rattle.monitor.specs.declared.step.Report.the-variants.{Quiet, Alarm}
 
 -- below the ceiling the total rises, at the ceiling it stays
@@ -98,3 +99,29 @@ taken-same m n a r e = go (taken-case m a r)
         taken-moved m a r _ w h k refl
         ∙ moved-same m n (next m (r .state) a) (r .alarms) (e .finals)
         ∙ sym (taken-moved n a r _ (w′ w) (omega arith) (omega arith) (e .cells (r .state) a k h))
+
+-- the report of a move is read back
+moved-read : (m : Automaton) (q n : ℕ) → reportRead (reportNumber (movedTo m q n .report)) ≡ movedTo m q n .report
+unfolding movedTo
+moved-read m q n = go (final m q)
+  where
+    go
+        : (b : Bool)
+        → reportRead (reportNumber (cond b (reported (recordOf q (raised n)) Alarm) (reported (recordOf q n) Quiet) .report))
+        ≡ cond b (reported (recordOf q (raised n)) Alarm) (reported (recordOf q n) Quiet) .report
+    go true = refl
+    go false = refl
+
+-- the report is read back
+pub report-by-number : ReportByNumber
+report-by-number m a r = go (taken-case m a r)
+  where
+    read : {t : Taken} → taken m a r ≡ t → reportRead (reportNumber (t .report)) ≡ t .report
+        → reportRead (reportNumber (taken m a r .report)) ≡ taken m a r .report
+    read e h = subst (λ (t : Taken). reportRead (reportNumber (t .report)) ≡ t .report) (sym e) h
+
+    go : TakenCase m a r → reportRead (reportNumber (taken m a r .report)) ≡ taken m a r .report
+    go (no-rule w) = read (taken-13 m a r w) refl
+    go (no-symbol w h) = read (taken-14 m a r w h) refl
+    go (no-state w h k) = read (taken-15 m a r w h k) refl
+    go (moves w h k) = read (taken-moved m a r _ w h k refl) (moved-read m (next m (r .state) a) (r .alarms))

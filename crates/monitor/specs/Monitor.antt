@@ -69,3 +69,11 @@ alarmNumber n = eqb n (2 ^ 48 + 1)
 -- the number of a refusal
 abbrev pub refusalNumber : ℕ → Bool
 refusalNumber n = ltb n (2 ^ 48)
+
+-- the report that a number tells: 2^48 is quiet, 2^48 plus 1 an alarm, any other a refusal
+abbrev pub reportRead : ℕ → Report
+reportRead n = cond (eqb n (2 ^ 48)) Quiet (cond (eqb n (2 ^ 48 + 1)) Alarm (Refused n))
+
+-- the statement: a caller reads the report back from the number
+abbrev pub ReportByNumber : Type 0
+ReportByNumber = (m : Automaton) (a : ℕ) (r : Record) → reportRead (reportNumber (taken m a r .report)) ≡ taken m a r .report

@@ -1,14 +1,12 @@
 -- What planning leaves, for the third promise: it accepts every job that a file can spell, and its plan bytes are those of the job's plan.
 -- Assumes nothing.
-use mathlib.Core.Path.{_≡_, refl, sym, subst}
+use mathlib.Core.Path.{refl, sym, subst}
 use mathlib.Core.List.{List}
-use Prim.Native.Nat.{ℕ, _≤_}
-use lib.ListN.{length, getD}
+use Prim.Native.Nat.{ℕ}
+use lib.ListN.{length}
 use borrow.Author.Tests.{le-ltb}
 use Rattle.monitor.specs.Form.{EventForm, FormMoves}
-use Rattle.job.specs.Search.{faithful}
 use Rattle.job.specs.Monitors.{AlarmsKept, PointsNeeded, CallsExist}
-use Rattle.job.proofs.PlanningResult.{planned-plan}
 use Rattle.job.proofs.TwoMonitors.{plan-keeps-alarms}
 use Rattle.jobfile.specs.File.{maxFile, writeJob}
 use Rattle.jobfile.proofs.Longest.{longest-file}
@@ -17,14 +15,7 @@ use Rattle.joblines.specs.Layout.{workSize}
 use Rattle.plans.specs.Called.{admitted}
 use Rattle.plans.specs.PlanCall.{planSize}
 use Rattle.plans.proofs.PlanAfterLaws.{plan-answer-reads, plan-after-plan}
-use Rattle.promise.specs.Promise.{PlanMarks, PlanningAccepts, BothHalves}
-
--- a byte for each node, 0 or 1
-pub plan-marks : PlanMarks
-plan-marks file plan size j e =
-    let p = planned-plan (faithful j) j in
-    subst (λ (l : List ℕ). (length l ≡ length (j .nodes)) × ((n : ℕ) → getD l n 0 ≤ 1)) (sym (plan-after-plan file plan size j e))
-    (p .long, p .bytes)
+use Rattle.promise.specs.Promise.{PlanningAccepts, BothHalves}
 
 -- every job that a file can spell is accepted
 pub planning-accepts : PlanningAccepts

@@ -2,15 +2,16 @@
 -- Each form takes events as it must (`FormMoves`), so the plan keeps the alarms and each watched point is needed; and each has lists of calls.
 -- Assumes nothing.
 use Rattle.monitor.specs.Form.{EventForm, FormMoves, valueForm, lentForm}
+use Rattle.monitor.proofs.MonitorLaws.{report-by-number}
 use Rattle.monitor.proofs.FormLaws.{value-moves, lent-moves}
 use Rattle.job.specs.Monitors.{RecordsExist, RefusedExist, ListsExist}
 use Rattle.job.proofs.MonitorsMore.{FormGives, lists-exist}
 use Rattle.job.proofs.OrderLaws.{any-order}
-use Rattle.plans.proofs.PlanAfterLaws.{seen-by-number}
+use Rattle.plans.proofs.PlanAfterLaws.{plan-bytes-say, seen-by-number}
 use Rattle.eventcall.specs.Form.{callForm}
 use Rattle.eventcall.proofs.FormLaws.{call-moves}
 use Rattle.promise.specs.Promise.{PromiseIn, ThirdPromise}
-use Rattle.promise.proofs.PlanningLaws.{plan-marks, planning-accepts, both-halves}
+use Rattle.promise.proofs.PlanningLaws.{planning-accepts, both-halves}
 use Rattle.promise.proofs.CallsLaws.{value-gives, lent-gives, call-gives, value-refused, lent-refused, call-refused, value-records, lent-records, call-records}
 
 -- in a form that moves as it must, and has calls, refused ones and records
@@ -27,6 +28,7 @@ third-promise =
       on-a-lent-record = promise-in lentForm lent-moves lent-gives lent-records lent-refused;
       across-the-c-call = promise-in callForm call-moves call-gives call-records call-refused;
       planning-accepts = planning-accepts;
-      seen-by-number = seen-by-number;
-      plan-marks = plan-marks;
+      plan-bytes = plan-bytes-say;
+      planning-seen = seen-by-number;
+      report-seen = report-by-number;
     }

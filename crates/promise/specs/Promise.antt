@@ -4,25 +4,21 @@
 use mathlib.Core.Path.{_≡_}
 use mathlib.Core.List.{List}
 use Prim.Native.Nat.{ℕ, _≤_}
-use lib.ListN.{length, getD, take}
+use lib.ListN.{length, take}
+use Rattle.monitor.specs.Monitor.{ReportByNumber}
 use Rattle.monitor.specs.Form.{EventForm, valueForm, lentForm}
 use Rattle.job.specs.Job.{Job}
 use Rattle.job.specs.Monitors.{AlarmsKept, PointsNeeded, ListsExist, AnyOrder}
 use Rattle.jobfile.specs.File.{accepted, writeJob}
 use Rattle.jobfile.specs.Spellable.{Spellable}
 use Rattle.joblines.specs.Layout.{workSize}
-use Rattle.plans.specs.PlanCall.{planSize, planAnswer, planAfter, SeenByNumber}
+use Rattle.plans.specs.PlanCall.{planSize, planAnswer, planAfter}
+use Rattle.plans.specs.PlanSays.{PlanBytesSay, SeenByNumber}
 use Rattle.eventcall.specs.Form.{callForm}
 
 -- the plan bytes that planning leaves: those of nodes 0 to N-1
 abbrev pub planBytes : List ℕ → List ℕ → ℕ → Job → List ℕ
 planBytes file plan size j = take (length (j .nodes)) (planAfter (planAnswer file size (length plan)) plan)
-
--- the statement: a byte for each node, 0 or 1, so that `enables` fails exactly where a plan byte is 0
-abbrev pub PlanMarks : Type 0
-PlanMarks =
-    (file plan : List ℕ) (size : ℕ) (j : Job) → planAnswer file size (length plan) ≡ accepted j
-    → (length (planBytes file plan size j) ≡ length (j .nodes)) × ((n : ℕ) → getD (planBytes file plan size j) n 0 ≤ 1)
 
 -- the statement: planning accepts every job that a file can spell, with buffers of the stated lengths or more
 abbrev pub PlanningAccepts : Type 0
@@ -43,12 +39,13 @@ pub record PromiseIn (f : EventForm) : Type 0 where
   pub any-order : AnyOrder f
 
 -- the third promise: nobody who sees the alarms alone can tell the planned monitor from the fully watched one, and no watched point can
--- be spared, in all three forms of the event step; planning accepts every job, its caller sees by the number returned that it did, and its
--- plan bytes mark each node
+-- be spared, in all three forms of the event step. Planning accepts every job that a file can spell, what it leaves is a plan and no other
+-- byte, and a caller reads back from the numbers returned what planning and the event step answered
 pub record ThirdPromise : Type 0 where
   pub on-values : PromiseIn valueForm
   pub on-a-lent-record : PromiseIn lentForm
   pub across-the-c-call : PromiseIn callForm
   pub planning-accepts : PlanningAccepts
-  pub seen-by-number : SeenByNumber
-  pub plan-marks : PlanMarks
+  pub plan-bytes : PlanBytesSay
+  pub planning-seen : SeenByNumber
+  pub report-seen : ReportByNumber
