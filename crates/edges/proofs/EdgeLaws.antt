@@ -14,7 +14,8 @@ use Rattle.laws.proofs.Tests.{fails-of, test-ext, or-left, or-right, or-passes}
 use Rattle.lines.specs.declared.field.Field.the-variants.{Number, Malformed}
 use Rattle.lines.specs.Line.{Due, found, lineOf, noRow, rowOf, Framed, at}
 use Rattle.jobfile.specs.File.{ascends, goodEdge, edgeLine}
-use Rattle.lines.specs.Places.{collected, numbersOf, statusOf}
+use Rattle.framing.specs.Framing.{collected}
+use Rattle.lines.specs.Places.{numbersOf, statusOf}
 use Rattle.joblines.specs.ReadLines.{beforeOf, EdgeRead}
 use Rattle.jobfile.specs.Refusal.{EdgeWithin}
 use Rattle.jobfile.proofs.WithinLaws.{edge-says}

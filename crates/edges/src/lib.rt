@@ -5,12 +5,12 @@ ghost use Prim.Native.Nat.{_≤_};
 ghost use lib.ListN.{length, drop};
 ghost use Rattle.jobfile.specs.File.{goodEdge};
 ghost use Rattle.joblines.specs.ReadLines.{beforeOf, EdgeRead};
+use fields::field_in;
+use framing::framed;
+use framing::line_at;
+use framing::refused;
 use lines::field::Field;
-use lines::field::field_in;
 use lines::line::Collected;
-use lines::line::framed;
-use lines::line::line_at;
-use lines::line::refused;
 
 // Whether an F line's numbers are nodes and its key is at least `next`: refusal 8 is that they are not.
 fn is_edge(nodes: u64, next: u64, from: u64, to: u64) -> bool

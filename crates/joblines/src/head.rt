@@ -4,7 +4,7 @@ ghost use mathlib.Core.List.{[], _∷_};
 ghost use Rattle.jobfile.specs.File.{goodHead};
 ghost use Rattle.joblines.specs.ReadLines.{refusedHead};
 ghost use Rattle.joblines.specs.ReadLines.{HeadRead};
-use lines::line::due_line;
+use duelines::due_line;
 
 // A refusal's number beside zeros, or 0 beside the job's numbers of states and symbols, its final states, and its numbers of nodes and edges.
 pub struct Head {

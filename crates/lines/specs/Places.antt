@@ -5,13 +5,8 @@ use mathlib.Core.Bool.{cond}
 use mathlib.Core.List.{List, []}
 use Prim.Native.Nat.{ℕ, zero, suc, _*_, _≤_, _<_}
 use lib.ListN.{length, drop}
-use Rattle.lines.specs.declared.line.Collected.{Collected}
 use Rattle.lines.specs.Line.{Due, ends, no-line, found, lineLength, lineOf}
 use Rattle.lines.specs.Lines.{Kind, Lines, lines, refused, linesOf}
-
--- the two numbers that a reader of lines returns
-abbrev pub collected : ℕ → ℕ → Collected
-collected status number = record { status = status; number = number }
 
 -- the numbers of what is due
 abbrev pub numbersOf : Due → List ℕ

@@ -59,7 +59,7 @@ pub fn step(
 ) -> Taken
     ensures { λ r. ⌜ r ≡ taken (automatonOf table states symbols finals) symbol (recordOf state alarms) ⌝ }
 {
-    if automaton::rule::is_well_formed(table, states, symbols, finals) {
+    if wellformed::is_well_formed(table, states, symbols, finals) {
         if symbols <= symbol {
             return refuse(14, state, alarms);
         }

@@ -17,7 +17,8 @@ use Rattle.lines.specs.declared.line.Collected.{Collected}
 use Rattle.lines.specs.Line.{Due, found, lineOf, noRow, rowOf, Framed, at}
 use Rattle.jobfile.specs.File.{nodeLine, nodeOf}
 use Rattle.joblines.specs.Layout.{startsPart, nodeIn, SameOutside, NodeStored}
-use Rattle.lines.specs.Places.{collected, numbersOf, statusOf, numbersAt, statusAt}
+use Rattle.framing.specs.Framing.{collected}
+use Rattle.lines.specs.Places.{numbersOf, statusOf, numbersAt, statusAt}
 use Rattle.joblines.specs.ReadLines.{NodeRead, NodesRead}
 use Rattle.lines.proofs.LineLaws.{fieldAt, fields-no-more, fields-number, due-found, due-malformed}
 use Rattle.lines.proofs.LinesLaws.{passed-more, read-all, read-stop, row-stops, status-here, numbers-here}

@@ -3,12 +3,12 @@ ghost use Prim.Native.Nat.{_<_, _≤_};
 ghost use lib.ListN.{length, drop};
 ghost use Rattle.joblines.specs.Layout.{workSize};
 ghost use Rattle.joblines.specs.ReadLines.{NodeRead, NodesRead};
+use fields::field_in;
+use framing::framed;
+use framing::line_at;
+use framing::refused;
 use lines::field::Field;
-use lines::field::field_in;
 use lines::line::Collected;
-use lines::line::framed;
-use lines::line::line_at;
-use lines::line::refused;
 use nodes::is_node;
 use nodes::store_node;
 

@@ -23,7 +23,8 @@ use Rattle.lines.specs.declared.line.Collected.{Collected}
 use Rattle.lines.specs.Line.{lineLength, lineOf, rowOf, at}
 use Rattle.jobfile.specs.File.{goodRule, ruleLine, finalsOf}
 use Rattle.joblines.specs.Layout.{rulePart, ruleEnd, cellIn, SameOutside, RuleCleared, RowStored}
-use Rattle.lines.specs.Places.{collected, numbersOf, numbersAt, statusAt}
+use Rattle.framing.specs.Framing.{collected}
+use Rattle.lines.specs.Places.{numbersOf, numbersAt, statusAt}
 use Rattle.joblines.specs.ReadLines.{RuleRead, RulesRead}
 use Rattle.jobfile.specs.Refusal.{RuleWithin}
 use Rattle.jobfile.proofs.WithinLaws.{rule-says}

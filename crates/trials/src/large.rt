@@ -1,7 +1,7 @@
 // Large jobs, written line by line. Each has a counter for its rule: one symbol, which leads from every state to the next and from the
 // last to the first; the last is final. Node 0 reports the symbol and is entered in state 0; the others are plain.
 // Edge e leads from node e / 32 to node e % 32, so that the edges ascend.
-use writer::write_line;
+use linewriter::write_line;
 ghost use Prim.Native.Nat.{_+_, _*_, _<_, _≤_};
 ghost use lib.ListN.{length};
 

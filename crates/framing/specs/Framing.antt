@@ -1,0 +1,8 @@
+-- What a reader of lines returns.
+-- Assumes nothing.
+use Prim.Native.Nat.{ℕ}
+use Rattle.lines.specs.declared.line.Collected.{Collected}
+
+-- the two numbers that a reader of lines returns
+abbrev pub collected : ℕ → ℕ → Collected
+collected status number = record { status = status; number = number }

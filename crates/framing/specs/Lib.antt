@@ -1,0 +1,3 @@
+-- What a reader of lines returns.
+-- Assumes nothing.
+pub mod Framing
