@@ -13,7 +13,7 @@ pub extern "C" fn dapohiru_plan(job: &[u8], work: &mut [u8], plan: &mut [u8]) ->
         × (now (work .exit) ≡ workAfter (planAnswer (now (job .entry)) (length (now (work .entry))) (length (now (plan .entry)))) (now (work .entry)))
         × (now (plan .exit) ≡ planAfter (planAnswer (now (job .entry)) (length (now (work .entry))) (length (now (plan .entry)))) (now (plan .entry))) ⌝ }
 {
-    let outcome = plans::plan::plan_job(job, work, plan);
+    let outcome = plancall::plan_job(job, work, plan);
     match outcome {
         Outcome::Planned(counts) => {
             281_474_976_710_656

@@ -1,5 +1,4 @@
--- The laws that the proofs of the functions cite.
+-- What a caller of planning has, and the laws that planning and listing share as calls.
 -- Assumes nothing.
 pub mod CalledLaws
-pub mod PlanCallLaws
 pub mod PlanAfterLaws

@@ -1,17 +1,13 @@
 -- Planning as a call (document 01, "Planning", "The job file" and "Turned back, by number"): its answer, and what it leaves of the lent bytes.
 -- Assumes nothing.
-use mathlib.Core.Path.{_≡_}
 use mathlib.Core.Bool.{_||_}
 use mathlib.Core.List.{List}
 use Prim.Native.Nat.{ℕ, _+_, _*_, _^_}
 use lib.Dec.{ltb}
 use lib.Seq.{sets}
-use Rattle.job.specs.Job.{Job}
 use Rattle.job.specs.Listing.{planOf}
 use Rattle.jobfile.specs.File.{Answer, accepted, turned}
-use Rattle.joblines.specs.Layout.{workSize, SameOutside}
-use Rattle.tables.specs.Held.{JobHeld}
-use Rattle.planning.specs.declared.passes.Counts.{Counts}
+use Rattle.joblines.specs.Layout.{workSize}
 use Rattle.planning.specs.Passes.{countsOf}
 use Rattle.plans.specs.Called.{admitted}
 use Rattle.plans.specs.declared.plan.Outcome.{Outcome}
@@ -39,11 +35,3 @@ planAfter (turned k) plan = plan
 abbrev pub planNumber : Outcome → ℕ
 planNumber (Planned c) = 2 ^ 48 + c .shadows * 2 ^ 32 + c .enabled * 2 ^ 16 + c .passes
 planNumber (Refused k) = k
-
--- ---- what the parts of the call leave
-
--- the plan buffer holds the plan of every job that the work buffer holds; the work buffer's bytes past the first 65,536 are as they were
-pub record PlannedHeld (table : List (List ℕ)) (finals states nodes : ℕ) (l m before after : List ℕ) (counts : Counts) : Type 0 where
-  pub kept : SameOutside l m 0 65536
-  pub exact
-      : (j : Job) → JobHeld j l table finals states nodes → (counts ≡ countsOf j) × (after ≡ sets before 0 (planOf j .plan))

@@ -1,2 +1,2 @@
-// Planning: a job file, a work buffer and a plan buffer in, a plan and its counts out.
-pub mod plan; // plan.rt: planning as a call
+// Planning as a call: its answer. What it answers and leaves is in specs/; the call itself is the crate `plancall`.
+pub mod plan; // plan.rt: the answer of planning

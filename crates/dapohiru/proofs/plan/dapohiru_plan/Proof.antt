@@ -17,7 +17,7 @@ use Rattle.dapohiru.proofs.plan.dapohiru_plan.Statement.{statement}
 use Rattle.dapohiru.proofs.plan.dapohiru_plan.Tie as tie
 use Rattle.dapohiru.proofs.plan.dapohiru_plan.Reads as reads
 use Rattle.dapohiru.proofs.plan.dapohiru_plan.Lts as lts
-use Rattle.plans.proofs.plan.plan_job.Reads as plan-job-reads
+use Rattle.plancall.proofs.plan_job.Reads as plan-job-reads
 
 -- the number of an outcome, seen as v
 told : (r due v : Outcome) → r ≡ due → r ≡ v → planNumber v ≡ planNumber due

@@ -1,10 +1,10 @@
--- `plans::plan::plan_held` meets its contract: after words, planning, and the plan copied.
+-- `planheld::plan_held` meets its contract: after words, planning, and the plan copied.
 -- Assumes nothing.
 use borrow.Author.Needs.{needs}
 use Rattle.checking.proofs.CheckLaws.{table-usable, after-usable}
-use Rattle.plans.proofs.PlanCallLaws.{planned-held}
-use Rattle.plans.proofs.plan.plan_held.Statement.{statement}
-use Rattle.plans.proofs.plan.plan_held.Tie as tie
+use Rattle.planheld.proofs.HeldLaws.{planned-held}
+use Rattle.planheld.proofs.plan_held.Statement.{statement}
+use Rattle.planheld.proofs.plan_held.Tie as tie
 
 table-in-requires : tie.Need-table-in-requires
 table-in-requires c κs = search needs

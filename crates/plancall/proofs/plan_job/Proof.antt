@@ -1,12 +1,12 @@
--- `plans::plan::plan_job` meets its contract: refusals 1 and 2, the file's own, then the plan of the job that was read; what is left in the
+-- `plancall::plan_job` meets its contract: refusals 1 and 2, the file's own, then the plan of the job that was read; what is left in the
 -- work buffer is cleared.
 -- Assumes nothing.
 use mathlib.Core.Path.{_∙_}
 use borrow.Author.Needs.{needs}
 use Rattle.checking.proofs.CheckLaws.{finals-fit}
-use Rattle.plans.proofs.PlanCallLaws.{plan-long, plan-short-work, plan-short-plan, plan-refused, plan-ready, plan-accepted}
-use Rattle.plans.proofs.plan.plan_job.Statement.{statement}
-use Rattle.plans.proofs.plan.plan_job.Tie as tie
+use Rattle.plancall.proofs.CallLaws.{plan-long, plan-short-work, plan-short-plan, plan-refused, plan-ready, plan-accepted}
+use Rattle.plancall.proofs.plan_job.Statement.{statement}
+use Rattle.plancall.proofs.plan_job.Tie as tie
 
 returns : tie.Need-returns
 returns c = let x = c .before .before .before .before .args in plan-long (x .file .now) (x .work .now) (x .plan .now) (c .if1 .taken)
