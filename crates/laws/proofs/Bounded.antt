@@ -12,7 +12,7 @@ use native.Mathlib.Omega.{arith}
 use lib.ListN.{length, getD, set}
 use lib.Seq.{ext-getD, getD-set-same, getD-set-other}
 use Rattle.laws.specs.Bounded.{allBelow, anyBelow, sumBelow, tabFrom, tab}
-use Rattle.laws.proofs.Tests.{fails-of, and-fails, or-passes, or-left, or-right, or-fails}
+use Rattle.laws.proofs.Tests.{fails-of, or-passes, or-left, or-right, or-fails}
 
 -- a number below n + 1 is n or below n
 below-suc : {i n : ℕ} → i < suc n → (i ≡ n) ⊎ (i < n)
@@ -56,16 +56,6 @@ all-end n i f h l = all-of n f (λ k m. all-at i f h k (lt-of-lt-of-le m l))
 -- one failure below n is enough
 pub all-fails : (n : ℕ) (f : ℕ → Bool) (i : ℕ) → i < n → f i ≡ false → allBelow n f ≡ false
 all-fails n f i l q = fails-of (allBelow n f) (λ h. true≢false (sym (all-at n f h i l) ∙ q))
-
--- where not all pass, one fails
-pub not-all : (n : ℕ) (f : ℕ → Bool) → allBelow n f ≡ false → (i : ℕ) × (i < n) × (f i ≡ false)
-unfolding allBelow
-not-all zero f h = absurd (true≢false h)
-not-all (suc n) f h =
-    ⊎-elim
-    (λ (e : allBelow n f ≡ false). let r = not-all n f e in (r .0, le-step (r .1), r .2))
-    (λ (e : f n ≡ false). (n, le-refl (suc n), e))
-    (and-fails (allBelow n f) (f n) h)
 
 -- tests that agree below n agree on all of it
 pub all-cong : (n : ℕ) (f g : ℕ → Bool) → ((i : ℕ) → i < n → f i ≡ g i) → allBelow n f ≡ allBelow n g

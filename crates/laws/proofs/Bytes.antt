@@ -5,7 +5,7 @@ use mathlib.Core.Path.{_≡_, refl, ap, _∙_}
 use mathlib.Core.Logic.{_⊎_, _≢_, inl, inr, ⊎-elim, by-cases}
 use mathlib.Core.List.{List}
 use native.Mathlib.Nat.{le-refl, le-step, zero-add, add-zero, add-suc, suc-add, mul-assoc, pow-suc, pow-succ', div-one, div-div-eq-div-mul}
-use native.Mathlib.Nat.{mod-lt, ne-of-lt, ne-of-gt}
+use native.Mathlib.Nat.{ne-of-lt, ne-of-gt}
 use native.Mathlib.Decide.{ℕ-discrete, decLt}
 use native.Mathlib.Omega.{arith}
 use lib.Dec.{lit<}
@@ -20,13 +20,6 @@ use Rattle.laws.specs.Bytes.{ReadsBack, AreBytes, numberAt, bytesOf, put
 pub byte-lt : (l : List ℕ) (i : ℕ) → AreBytes l → getD l i 0 < 256
 byte-lt l i h =
     by-cases (decLt i (length l)) (h i) (λ g. rw (List·getD-eq-default l 0 {n = i} (omega arith)) (lit< tt))
-
--- a byte stored in a list of bytes leaves one
-pub set-bytes : (l : List ℕ) (i b : ℕ) → AreBytes l → b < 256 → AreBytes (set l i b)
-set-bytes l i b h p k m =
-    by-cases (ℕ-discrete k i)
-    (λ (e : k ≡ i). rw (e, getD-set-same l i b 0 (rw (length-set, e) at m)) p)
-    (λ (ne : k ≢ i). rw (getD-set-other l i k b 0 ne) (byte-lt l k h))
 
 -- ---- a number that is read
 
@@ -81,12 +74,6 @@ put-split (suc m) n l i v =
     let next : i + suc m ≡ suc i + m = omega arith in
     rw (suc-add m n, next, pow-succ' 256 m, ← div-div-eq-div-mul v 256 (256 ^ m))
     (put-split m n (set l i (v % 256)) (suc i) (v / 256))
-
--- a number written in a list of bytes leaves one
-pub put-bytes : (n : ℕ) (l : List ℕ) (i v : ℕ) → AreBytes l → AreBytes (putNumber n l i v)
-unfolding putNumber bytesOf
-put-bytes zero l i v h = h
-put-bytes (suc n) l i v h = put-bytes n (set l i (v % 256)) (suc i) (v / 256) (set-bytes l i (v % 256) h (mod-lt v (lit< tt)))
 
 -- other places are as before
 pub getD-put-outside

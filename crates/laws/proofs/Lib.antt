@@ -8,4 +8,3 @@ pub mod Walk
 pub mod Count
 pub mod Sets
 pub mod Bytes
-pub mod Parts

@@ -20,11 +20,6 @@ test-ext true b p q = sym (p refl)
 test-ext false true p q = q refl
 test-ext false false p q = refl
 
--- where `and` fails, one of the two does
-pub and-fails : (a b : Bool) → (a && b) ≡ false → (a ≡ false) ⊎ (b ≡ false)
-and-fails true b h = inr h
-and-fails false b h = inl refl
-
 -- where `or` passes, one of the two does
 pub or-passes : (a b : Bool) → (a || b) ≡ true → (a ≡ true) ⊎ (b ≡ true)
 or-passes true b h = inl refl

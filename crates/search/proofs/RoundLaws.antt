@@ -2,41 +2,33 @@
 -- Assumes nothing.
 use mathlib.Core.Path.{_≡_, refl, sym, ap, subst, _∙_}
 use mathlib.Core.Logic.{_⊎_, inl, inr, ⊎-elim, _≢_, by-cases}
-use mathlib.Core.Bool.{true, false}
+use mathlib.Core.Bool.{true, false, _||_}
 use mathlib.Core.List.{List, [], _∷_}
-use Prim.Native.Nat.{ℕ, zero, suc, _+_, _-_, _*_, _/_, _%_, _^_, _≤_, _<_}
+use Prim.Native.Nat.{ℕ, zero, suc, _+_, _-_, _≤_, _<_}
+use native.Mathlib.Nat.{le-refl}
 use native.Mathlib.Decide.{ℕ-discrete}
 use native.Mathlib.Omega.{arith}
-use lib.Bits.{bitAnd, bitOr, or-lt, or-add-and, and-le-l, and-le-r}
+use lib.Bits.{bitAnd, bitOr}
 use lib.Count.{trailingZeros}
 use lib.ListN.{length, getD, set, length-set}
+use lib.Seq.{getD-set-same, getD-set-other}
 use Rattle.laws.specs.Bits.{has}
-use Rattle.laws.proofs.Bits.{has-below}
-use Rattle.laws.proofs.Tests.{passes-or-fails}
+use Rattle.laws.proofs.Bits.{has-below, has-or}
+use Rattle.laws.proofs.Tests.{passes-or-fails, or-left, or-right, or-passes}
 use Rattle.laws.proofs.Walk.{Rest, rest-start, rest-from, rest-lt, rest-next, members-more, members-end}
 use Rattle.automaton.specs.Automaton.{next}
 use Rattle.job.specs.Job.{Kind, plain, event, call, Job, nodeAt}
 use Rattle.job.specs.Plan.{Enabling, full, enables}
 use Rattle.tables.specs.declared.moves.Past.{Past}
 use Rattle.tables.specs.Tables.{EdgeIn, Held, marksIn, markedIn, pairsLeft, SearchKept, Grown, NextMarked, MarksTaken}
-use Rattle.tables.specs.Quads.{InQuads}
 use Rattle.tables.specs.Held.{Usable, JobHeld, PlanHeld}
-use Rattle.search.specs.Looking.{JoinedPast, pastState, pastNode, Follows, over-edge, AlikePair, ClosedPair, SplitPair, split-point, split-call, split-exit}
+use Rattle.search.specs.declared.search.Seen.{Seen}
+use Rattle.search.specs.declared.search.Seen.the-variants.{Nothing, Rows, Difference}
+use Rattle.search.specs.Looking.{InRows, JoinedPast, pastState, pastNode, Follows, over-edge, AlikePair, ClosedPair, SplitPair, split-point, split-call, split-exit}
 use Rattle.search.specs.Looking.{Looked, LookedAt, Following, held-first, follows, SettledRow, Settled, Rounded, RoundedAt}
 use Rattle.tables.proofs.KeptLaws.{search-kept-none, search-kept-both, grown-none, grown-both, class-same, usable-same, job-same, plan-same}
-use Rattle.tables.proofs.QuadLaws.{quads-old, quads-here, quads-new}
 use Rattle.search.proofs.PastLaws.{event-small, call-small}
-use Rattle.search.proofs.SearchLaws.{has-nothing}
-
--- ---- sets of marks
-
--- the union of two sets is at most their sum
-or-sum : (a b : ℕ) → bitOr a b ≤ a + b
-or-sum a b = omega (arith, or-add-and a b)
-
--- empty where both are
-or-none : (a b : ℕ) → bitOr a b ≡ 0 → (a ≡ 0) × (b ≡ 0)
-or-none a b z = (omega (arith, or-add-and a b, and-le-r a b), omega (arith, or-add-and a b, and-le-l a b))
+use Rattle.search.proofs.SearchLaws.{has-nothing, nothing-rows, nothing-difference, rows-difference}
 
 -- ---- from one buffer to another
 
@@ -115,28 +107,28 @@ pub record PastOf (j : Job) (w : Enabling) (l : List ℕ) (n r s : ℕ) : Type 0
 
 -- the monitors alarm alike, and the pair's place past node n is in the sixteen rows
 abbrev pub PassedPair : Job → Enabling → List ℕ → ℕ → List ℕ → ℕ → ℕ → Type 0
-PassedPair j w work n quads p q = AlikePair j w work n p q × InQuads quads (pastNode j full n p) (pastNode j w n q)
+PassedPair j w work n rows p q = AlikePair j w work n p q × InRows rows (pastNode j full n p) (pastNode j w n q)
 
 -- row p of node n is marked, or so is every pair of it
 abbrev pub PassedRow : Job → Enabling → List ℕ → ℕ → List ℕ → ℕ → Type 0
-PassedRow j w work n quads p = markedIn work n p ≡ false → (q : ℕ) → Held work n p q → PassedPair j w work n quads p q
+PassedRow j w work n rows p = markedIn work n p ≡ false → (q : ℕ) → Held work n p q → PassedPair j w work n rows p q
 
 -- the rows of node n that were due, below the number passed, were looked at, for a job and a plan
-pub record RowsFor (j : Job) (w : Enabling) (l m : List ℕ) (n due passed : ℕ) (quads : List ℕ) : Type 0 where
+pub record RowsFor (j : Job) (w : Enabling) (l m : List ℕ) (n due passed : ℕ) (rows : List ℕ) : Type 0 where
   pub new : (k r s : ℕ) → k < 512 → r < 16 → Held m k r s → Following j w l k r s
-  pub past : (r s : ℕ) → InQuads quads r s → PastOf j w l n r s
-  pub here : (r : ℕ) → r < passed → has due r ≡ true → PassedRow j w m n quads r
+  pub past : (r s : ℕ) → InRows rows r s → PastOf j w l n r s
+  pub here : (r : ℕ) → r < passed → has due r ≡ true → PassedRow j w m n rows r
 
--- the same for every job and plan that the buffer holds; `rest` has the rows that are still due, `quads` the rows past the node
-pub record RowsSoFar (table : List (List ℕ)) (finals states nodes : ℕ) (l m : List ℕ) (n due rest : ℕ) (quads : List ℕ) : Type 0 where
+-- the same for every job and plan that the buffer holds; `rest` has the rows that are still due, `rows` the rows past the node
+pub record RowsSoFar (table : List (List ℕ)) (finals states nodes : ℕ) (l m : List ℕ) (n due rest : ℕ) (rows : List ℕ) : Type 0 where
   pub short : due < 65536
   pub passed : ℕ
   pub left : Rest 16 due rest passed
-  pub four : length quads ≡ 4
+  pub sixteen : length rows ≡ 16
   pub grown : Grown l m
   pub exact
       : (j : Job) (plan : List ℕ) → JobHeld j l table finals states nodes → PlanHeld plan l nodes
-      → RowsFor j (enables plan) l m n due passed quads
+      → RowsFor j (enables plan) l m n due passed rows
 
 -- the rows of node n that were due were looked at and joined at the successors, for a job and a plan
 pub record NodeFor (j : Job) (w : Enabling) (l m : List ℕ) (n due : ℕ) : Type 0 where
@@ -151,40 +143,70 @@ pub record NodeLooked (table : List (List ℕ)) (finals states nodes : ℕ) (l m
       : (j : Job) (plan : List ℕ) → JobHeld j l table finals states nodes → PlanHeld plan l nodes
       → NodeFor j (enables plan) l m n due
 
--- sixteen rows without pairs
-abbrev pub emptyQuads : List ℕ
-emptyQuads = 0 ∷ 0 ∷ 0 ∷ 0 ∷ []
+-- ---- the rows past a node, gathered
 
--- each four of them are 0
-pub no-quads : (i : ℕ) → getD emptyQuads i 0 ≡ 0
-no-quads zero = refl
-no-quads (suc zero) = refl
-no-quads (suc (suc zero)) = refl
-no-quads (suc (suc (suc zero))) = refl
-no-quads (suc (suc (suc (suc i)))) = refl
+-- rows without pairs
+unfoldable pub emptyRows : ℕ → List ℕ
+emptyRows zero = []
+emptyRows (suc k) = 0 ∷ emptyRows k
+
+-- each of them is 0
+pub empty-row : (k p : ℕ) → getD (emptyRows k) p 0 ≡ 0
+unfolding emptyRows
+empty-row zero p = refl
+empty-row (suc k) zero = refl
+empty-row (suc k) (suc p) = empty-row k p
+
+module _ (rows : List ℕ) (state s word : ℕ) (sixteen : length rows ≡ 16) (small : state < 16) (joined : word ≡ bitOr (getD rows state 0) s) where
+  -- the row that a set was joined into
+  word-here : (q : ℕ) → has (getD (set rows state word) state 0) q ≡ (has (getD rows state 0) q || has s q)
+  word-here q =
+      ap (λ (x : ℕ). has x q) (getD-set-same rows state word 0 (omega arith) ∙ joined) ∙ has-or (getD rows state 0) s q
+
+  -- the pairs that were there
+  rows-old : (p q : ℕ) → InRows rows p q → InRows (set rows state word) p q
+  rows-old p q h =
+      by-cases (ℕ-discrete p state)
+      (λ (e : p ≡ state). rw e (word-here q ∙ or-left (has (getD rows state 0) q) (has s q) (rw e at h)))
+      (λ (ne : p ≡ state → ⊥). rw (getD-set-other rows state p word 0 ne) h)
+
+  -- those of the set
+  rows-here : (q : ℕ) → has s q ≡ true → InRows (set rows state word) state q
+  rows-here q h = word-here q ∙ or-right (has (getD rows state 0) q) (has s q) h
+
+  -- and no others
+  rows-fresh : (p q : ℕ) → InRows (set rows state word) p q → InRows rows p q ⊎ ((p ≡ state) × (has s q ≡ true))
+  rows-fresh p q h =
+      by-cases (ℕ-discrete p state)
+      (λ (e : p ≡ state).
+      ⊎-elim
+      (λ (y : has (getD rows state 0) q ≡ true). inl (rw e y))
+      (λ (y : has s q ≡ true). inr (e, y))
+      (or-passes (has (getD rows state 0) q) (has s q) (sym (word-here q) ∙ (rw e at h))))
+      (λ (ne : p ≡ state → ⊥). inl (rw (getD-set-other rows state p word 0 ne) at h))
 
 module _ {table : List (List ℕ)} {finals states nodes : ℕ} where
   -- none yet
   pub rows-none
-      : (l : List ℕ) (n due : ℕ) (quads : List ℕ) → due < 65536 → length quads ≡ 4 → ((i : ℕ) → getD quads i 0 ≡ 0)
-      → RowsSoFar table finals states nodes l l n due due quads
-  rows-none l n due quads short four zeros =
+      : (l : List ℕ) (n due : ℕ) (rows : List ℕ) → due < 65536 → length rows ≡ 16 → ((i : ℕ) → getD rows i 0 ≡ 0)
+      → RowsSoFar table finals states nodes l l n due due rows
+  rows-none l n due rows short sixteen zeros =
       record {
         short = short;
         passed = 0;
         left = rest-start 16 due short;
-        four = four;
+        sixteen = sixteen;
         grown = grown-none l;
         exact = λ j plan held plan-held.
             record {
               new = λ k r s lk lr h. held-first lk lr h;
-              past = λ r s h. absurd (has-nothing (r % 4 * 16 + s) (zeros (r / 4)) (h .1));
+              past = λ r s h. absurd (has-nothing s (zeros r) h);
               here = λ r lr. absurd (omega arith);
             };
       }
 
-  module _ {l m : List ℕ} {n due rest : ℕ} {quads : List ℕ} (u : Usable l table states nodes) (ln : n < nodes)
-      (i : RowsSoFar table finals states nodes l m n due rest quads) where
+  module _ {l m : List ℕ} {n due rest : ℕ} {rows : List ℕ} (u : Usable l table states nodes) (ln : n < nodes)
+      (i : RowsSoFar table finals states nodes l m n due rest rows) where
     -- a row that is due is one of sixteen
     pub row-small : {p : ℕ} → 0 < rest → p ≡ trailingZeros 16 rest → p < 16
     row-small some low = omega (arith, rest-lt (i .left) some)
@@ -218,11 +240,10 @@ module _ {table : List (List ℕ)} {finals states nodes : ℕ} where
           (looked j plan held plan-held .new a r s la lr h)
 
       module _ {word less : ℕ} (some : 0 < rest) (low : p ≡ trailingZeros 16 rest) (without : less ≡ bitAnd rest (rest - 1))
-          (alike : past .differs ≡ false) (fits : past .set < 2 ^ 16)
-          (joined : word ≡ bitOr (getD quads (past .state / 4) 0) (past .set * 2 ^ (past .state % 4 * 16))) where
+          (alike : past .differs ≡ false) (joined : word ≡ bitOr (getD rows (past .state) 0) (past .set)) where
         -- the rows past the node, with that of this row
         abbrev after : List ℕ
-        after = set quads (past .state / 4) word
+        after = set rows (past .state) word
 
         -- the rows passed are as they were
         older
@@ -233,7 +254,7 @@ module _ {table : List (List ℕ)} {finals states nodes : ℕ} where
             let was = look .grown .quiet n r small few quiet in
             let c = i .exact j plan held plan-held .here r lr h (was .0) q (member-same q (was .1) x) in (
               alike-kept u held (look .grown .kept) (look .grown .held) n r q small few (c .0),
-              quads-old quads (past .state) (past .set) word (i .four) (look .small) fits joined _ _ (c .1),
+              rows-old rows (past .state) (past .set) word (i .sixteen) (look .small) joined _ _ (c .1),
             )
 
         -- and this one is passed while it does not grow
@@ -244,18 +265,18 @@ module _ {table : List (List ℕ)} {finals states nodes : ℕ} where
             let h = member-same q (look .grown .quiet n p small lp quiet .1) x in
             let c = y .here alike q h in (
               y .alike alike q h,
-              subst (λ (r : ℕ). InQuads after r (pastNode j (enables plan) n q)) (c .0)
-                  (quads-here quads (past .state) (past .set) word (i .four) (look .small) fits joined _ (c .1)),
+              subst (λ (r : ℕ). InRows after r (pastNode j (enables plan) n q)) (c .0)
+                  (rows-here rows (past .state) (past .set) word (i .sixteen) (look .small) joined _ (c .1)),
             )
 
         -- a pair past the node comes from one of the rows
         came
             : (j : Job) (plan : List ℕ) → JobHeld j l table finals states nodes → PlanHeld plan l nodes
-            → (r s : ℕ) → InQuads after r s → PastOf j (enables plan) l n r s
+            → (r s : ℕ) → InRows after r s → PastOf j (enables plan) l n r s
         came j plan held plan-held r s h =
             let f = i .exact j plan held plan-held in
             ⊎-elim
-            (λ (old : InQuads quads r s). f .past r s old)
+            (λ (old : InRows rows r s). f .past r s old)
             (λ (fresh : (r ≡ past .state) × (has (past .set) s ≡ true)).
             let c = looked j plan held plan-held .from alike s (fresh .1) in
             record {
@@ -265,7 +286,7 @@ module _ {table : List (List ℕ)} {finals states nodes : ℕ} where
               one-is = fresh .0 ∙ c .2 .0;
               other-is = c .2 .1;
             })
-            (quads-new quads (past .state) (past .set) word (i .four) (look .small) fits joined r s h)
+            (rows-fresh rows (past .state) (past .set) word (i .sixteen) (look .small) joined r s h)
 
         -- one row more
         pub rows-more : RowsSoFar table finals states nodes l k n due less after
@@ -274,7 +295,7 @@ module _ {table : List (List ℕ)} {finals states nodes : ℕ} where
               short = i .short;
               passed = trailingZeros 16 rest + 1;
               left = rw without (rest-next (i .left) some);
-              four = length-set quads (past .state / 4) word ∙ i .four;
+              sixteen = length-set rows (past .state) word ∙ i .sixteen;
               grown = grown-both (i .grown) (look .grown);
               exact = λ j plan held plan-held.
                   record {
@@ -286,11 +307,11 @@ module _ {table : List (List ℕ)} {finals states nodes : ℕ} where
             }
 
     -- with no row left, the rows past the node are joined at its successors
-    module _ {k : List ℕ} (all : rest ≡ 0) (join : JoinedPast m k n quads) where
+    module _ {k : List ℕ} (all : rest ≡ 0) (join : JoinedPast m k n rows) where
       -- a pair that is joined past the node follows
       edge-new
           : (j : Job) (plan : List ℕ) → JobHeld j l table finals states nodes → PlanHeld plan l nodes
-          → (a r s : ℕ) → EdgeIn m n a × InQuads quads r s → Following j (enables plan) l a r s
+          → (a r s : ℕ) → EdgeIn m n a × InRows rows r s → Following j (enables plan) l a r s
       edge-new j plan held plan-held a r s (edge, h) =
           let f = i .exact j plan held plan-held .past r s h in
           let g : Following j (enables plan) l a (pastNode j full n (f .one)) (pastNode j (enables plan) n (f .other)) =
@@ -305,7 +326,7 @@ module _ {table : List (List ℕ)} {finals states nodes : ℕ} where
       row-closed j plan held plan-held r h quiet q x =
           let few : r < 16 = has-below 16 due r (i .short) h in
           let was = join .grown .quiet n r small few quiet in
-          let c = members-end (i .left) (λ (z : ℕ). PassedRow j (enables plan) m n quads z) all (i .exact j plan held plan-held .here) r h
+          let c = members-end (i .left) (λ (z : ℕ). PassedRow j (enables plan) m n rows z) all (i .exact j plan held plan-held .here) r h
           (was .0) q (member-same q (was .1) x) in
           record {
             alike = alike-kept u held (join .grown .kept) (join .grown .held) n r q small few (c .0);
@@ -337,32 +358,34 @@ pub record RoundFor (j : Job) (w : Enabling) (nodes : ℕ) (l m : List ℕ) : Ty
   pub settled : Settled j w l nodes → Settled j w m nodes
 
 -- the same for every job and plan that the buffer holds
-pub record RoundSoFar (table : List (List ℕ)) (finals states nodes : ℕ) (l m : List ℕ) (n result : ℕ) : Type 0 where
+pub record RoundSoFar (table : List (List ℕ)) (finals states nodes : ℕ) (l m : List ℕ) (n : ℕ) (seen : Seen) : Type 0 where
   pub kept : SearchKept l m
   pub held : HeldIn l m
-  pub small : result < 65536
-  pub left : pairsLeft m + result ≤ pairsLeft l
-  pub none : result ≡ 0 → (k : ℕ) → k < n → marksIn m k ≡ 0
+  pub alike : seen ≡ Difference → ⊥
+  pub left : pairsLeft m ≤ pairsLeft l
+  pub less : seen ≡ Rows → pairsLeft m < pairsLeft l
+  pub none : seen ≡ Nothing → (k : ℕ) → k < n → marksIn m k ≡ 0
   pub some : n < nodes → 0 < marksIn m n
   pub exact : (j : Job) (plan : List ℕ) → JobHeld j l table finals states nodes → PlanHeld plan l nodes → RoundFor j (enables plan) nodes l m
 
 module _ {table : List (List ℕ)} {finals states nodes : ℕ} where
   -- none yet
-  pub round-none : (l : List ℕ) (n : ℕ) → NextMarked l 0 nodes n → RoundSoFar table finals states nodes l l n 0
+  pub round-none : (l : List ℕ) (n : ℕ) → NextMarked l 0 nodes n → RoundSoFar table finals states nodes l l n Nothing
   round-none l n first =
       record {
         kept = search-kept-none l;
         held = λ n p q ln lp h. h;
-        small = omega arith;
-        left = omega arith;
+        alike = nothing-difference;
+        left = le-refl _;
+        less = λ e. absurd (nothing-rows e);
         none = λ z k lk. first .none k (omega arith) lk;
         some = first .some;
         exact = λ j plan held plan-held. record { new = λ k r s lk lr h. held-first lk lr h; settled = λ s. s };
       }
 
   module _
-      {l m k : List ℕ} {n result due : ℕ} (u : Usable l table states nodes) (ln : n < nodes)
-      (i : RoundSoFar table finals states nodes l m n result) (t : MarksTaken m k n due) where
+      {l m k : List ℕ} {n due : ℕ} {seen : Seen} (u : Usable l table states nodes) (ln : n < nodes)
+      (i : RoundSoFar table finals states nodes l m n seen) (t : MarksTaken m k n due) where
     -- the bytes that a search keeps
     taken-kept : SearchKept l k
     taken-kept = search-kept-both (i .kept) (t .kept)
@@ -395,15 +418,16 @@ module _ {table : List (List ℕ)} {finals states nodes : ℕ} where
 
     -- one node more
     pub round-more
-        : {s : List ℕ} {now after : ℕ} → now ≡ bitOr result due → NodeLooked table finals states nodes k s n due
-        → NextMarked s (n + 1) nodes after → RoundSoFar table finals states nodes l s after now
-    round-more {s} {now} is r up =
+        : {s : List ℕ} {after : ℕ} → NodeLooked table finals states nodes k s n due → NextMarked s (n + 1) nodes after
+        → RoundSoFar table finals states nodes l s after Rows
+    round-more {s} r up =
         record {
           kept = search-kept-both taken-kept (r .grown .kept);
           held = λ a x y la lx h. taken-held (r .grown) a x y la lx (i .held a x y la lx h);
-          small = rw is (or-lt 16 result due (i .small) (r .short));
-          left = omega (arith, i .left, t .left, r .grown .left, or-sum result due);
-          none = λ z. absurd (omega (arith, or-none result due (sym is ∙ z) .1, t .were, i .some ln));
+          alike = rows-difference;
+          left = omega (arith, i .left, t .left, r .grown .left);
+          less = λ e. omega (arith, i .left, t .left, r .grown .left, t .were, i .some ln);
+          none = λ e. absurd (nothing-rows (sym e));
           some = up .some;
           exact = λ j plan held plan-held.
               record {
@@ -435,30 +459,29 @@ module _ {table : List (List ℕ)} {finals states nodes : ℕ} where
 
     -- a row that splits ends the round
     pub round-split
-        : {s o : List ℕ} {p rest : ℕ} {quads : List ℕ} {past : Past} → p < 16 → past .differs ≡ true
-        → RowsSoFar table finals states nodes k s n due rest quads → LookedAt table finals s o n p past
-        → RoundedAt table finals states nodes l o 65536
+        : {s o : List ℕ} {p rest : ℕ} {rows : List ℕ} {past : Past} → p < 16 → past .differs ≡ true
+        → RowsSoFar table finals states nodes k s n due rest rows → LookedAt table finals s o n p past
+        → RoundedAt table finals states nodes l o Difference
     round-split {s} {o} {p} {past = past} lp splits r look =
         record {
           kept = search-kept-both taken-kept (search-kept-both (r .grown .kept) (look .grown .kept));
           held = λ a x y la lx h. look .grown .held a x y la lx (taken-held (r .grown) a x y la lx (i .held a x y la lx h));
-          small = omega arith;
-          left = omega (arith, i .left, t .left, r .grown .left, look .grown .left);
-          none = λ z. absurd (omega arith);
+          left = λ e. absurd (rows-difference (sym e));
+          none = λ e. absurd (nothing-difference (sym e));
           exact = λ j plan held plan-held. rounded j plan held plan-held;
         }
       where
         -- for a job and a plan
         rounded
             : (j : Job) (plan : List ℕ) → JobHeld j l table finals states nodes → PlanHeld plan l nodes
-            → Rounded j (enables plan) nodes l o 65536
+            → Rounded j (enables plan) nodes l o Difference
         rounded j plan held plan-held =
             let there = job-same taken-kept u held in
             let there-plan = plan-same taken-kept plan (u .few-nodes) plan-held in
             let usable = usable-same taken-kept u in
             record {
               new = λ a y z la ly h. taken-new j plan held plan-held (rows-new usable ln r lp look j plan there there-plan a y z la ly h);
-              settled = λ less. absurd (omega arith);
+              settled = λ same. absurd (same refl);
               split = λ e.
                   let f = looked usable ln r lp look j plan there there-plan .split splits in
                   record {
@@ -473,16 +496,15 @@ module _ {table : List (List ℕ)} {finals states nodes : ℕ} where
 
   -- all nodes
   pub round-end
-      : {l m : List ℕ} {n result : ℕ} → nodes ≤ n → RoundSoFar table finals states nodes l m n result
-      → RoundedAt table finals states nodes l m result
-  round-end {l} {m} {n} {result} all i =
+      : {l m : List ℕ} {n : ℕ} {seen : Seen} → nodes ≤ n → RoundSoFar table finals states nodes l m n seen
+      → RoundedAt table finals states nodes l m seen
+  round-end {l} {m} {n} all i =
       record {
         kept = i .kept;
         held = i .held;
-        small = omega (arith, i .small);
-        left = omega (arith, i .left);
+        left = i .less;
         none = λ z a la. i .none z a (omega arith);
         exact = λ j plan held plan-held.
             let x = i .exact j plan held plan-held in
-            record { new = x .new; settled = λ less. x .settled; split = λ found. absurd (omega (arith, i .small)) };
+            record { new = x .new; settled = λ same. x .settled; split = λ found. absurd (i .alike found) };
       }

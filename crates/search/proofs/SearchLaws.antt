@@ -2,16 +2,16 @@
 -- Assumes nothing.
 use mathlib.Core.Path.{_≡_, refl, sym, ap, subst, _∙_}
 use mathlib.Core.Logic.{⊎-elim}
-use mathlib.Core.Bool.{Bool, true, false, cond, not, true≢false}
+use mathlib.Core.Bool.{true, false, not, true≢false}
 use mathlib.Core.List.{List}
-use Prim.Native.Nat.{ℕ, zero, suc, _+_, _%_, _^_, _≤_, _<_}
+use Prim.Native.Nat.{ℕ, zero, suc, _^_, _≤_, _<_}
 use native.Mathlib.Nat.{lt-of-not-le}
 use native.Mathlib.Omega.{arith}
 use lib.Dec.{eqb}
 use lib.Count.{trailingZeros}
 use native.Mathlib.Nat.{pow-suc}
 use lib.ListN.{length, List·getD-eq-default}
-use borrow.Author.Tests.{ne-eqb, eqb-true, eqb-false}
+use borrow.Author.Tests.{eqb-true, eqb-false}
 use Rattle.laws.specs.Bits.{has}
 use Rattle.laws.proofs.Bits.{has-empty}
 use Rattle.laws.proofs.Walk.{trailing-member}
@@ -33,8 +33,10 @@ use Rattle.tables.specs.Tables.{Held, pairRowIn, classRowIn, marksIn, SearchKep
 use Rattle.tables.specs.Held.{Usable, JobHeld, PlanHeld, AfterHeld}
 use Rattle.search.specs.Looking.{pastState, pastNode, Follows, over-edge, by-word, ClosedPair, ClosedAt}
 use Rattle.search.specs.Looking.{SplitPair, split-point, split-call, split-exit, Following, held-first, follows}
-use Rattle.search.specs.Looking.{Settled, Started, RoundedAt, Searched, SearchedAt}
-use Rattle.tables.proofs.KeptLaws.{search-kept-none, search-kept-both, node-same, class-same, job-same, plan-same}
+use Rattle.search.specs.Looking.{Settled, Started, Rounded, RoundedAt, SearchedAt}
+use Rattle.search.specs.declared.search.Seen.{Seen}
+use Rattle.search.specs.declared.search.Seen.the-variants.{Nothing, Rows, Difference}
+use Rattle.tables.proofs.KeptLaws.{search-kept-none, search-kept-both, node-same, class-same, usable-same, job-same, plan-same}
 
 -- ---- sets
 
@@ -223,6 +225,18 @@ closed-before {j} {w} {work} t few reached n a q e l =
 
 -- ---- the search, round by round
 
+-- no rows are something
+pub nothing-rows : Nothing ≡ Rows → ⊥
+nothing-rows e = let z : _≡_ {A = ℕ} 0 1 = cc in omega arith
+
+-- and so is a difference
+pub nothing-difference : Nothing ≡ Difference → ⊥
+nothing-difference e = let z : _≡_ {A = ℕ} 0 1 = cc in omega arith
+
+-- which rows are not
+pub rows-difference : Rows ≡ Difference → ⊥
+rows-difference e = let z : _≡_ {A = ℕ} 0 1 = cc in omega arith
+
 -- the after words of a well-formed job are kept
 after-kept
     : {j : Job} {l m : List ℕ} {nodes : ℕ} → WellFormedJob j → SearchKept l m → nodes ≤ 512 → AfterHeld j l nodes → AfterHeld j m nodes
@@ -235,31 +249,26 @@ after-kept wf k few a =
           ∙ a .whole n p q ln lp lq e h;
     }
 
--- what the rows of pairs say of a job and a plan after a round
-pub record SearchingFor (j : Job) (plan : List ℕ) (nodes : ℕ) (m : List ℕ) (result : ℕ) : Type 0 where
+-- what the rows of pairs say of a job and a plan after rounds that found no difference
+pub record SearchingFor (j : Job) (plan : List ℕ) (nodes : ℕ) (m : List ℕ) : Type 0 where
   pub reached : (n p q : ℕ) → n < 512 → p < 16 → Held m n p q → PairAt j full (enables plan) n p q
   pub starts : (n q : ℕ) → has (nodeAt j n .entry) q ≡ true → Held m n q q
-  pub settled : result < 65536 → Settled j (enables plan) m nodes
-  pub differs : result ≡ 65536 → faithful j plan ≡ false
+  pub settled : Settled j (enables plan) m nodes
 
 -- the same for every job and plan that the first buffer holds
-pub record Searching (table : List (List ℕ)) (finals states nodes : ℕ) (l m : List ℕ) (result : ℕ) : Type 0 where
+pub record Searching (table : List (List ℕ)) (finals states nodes : ℕ) (l m : List ℕ) : Type 0 where
   pub kept : SearchKept l m
-  pub small : result ≤ 65536
-  pub none : result ≡ 0 → (n : ℕ) → n < nodes → marksIn m n ≡ 0
   pub exact
       : (j : Job) (plan : List ℕ) → JobHeld j l table finals states nodes → PlanHeld plan l nodes → AfterHeld j l nodes
-      → SearchingFor j plan nodes m result
+      → SearchingFor j plan nodes m
 
 -- the search begins with the starts
 pub searching-start
     : {table : List (List ℕ)} {finals states nodes : ℕ} {l m : List ℕ} → nodes ≤ 512 → Started l m nodes
-    → Searching table finals states nodes m m 1
+    → Searching table finals states nodes m m
 searching-start {nodes = nodes} {l = l} {m = m} few s =
     record {
       kept = search-kept-none m;
-      small = omega arith;
-      none = λ z. absurd (omega arith);
       exact = λ j plan held plan-held after. record {
         reached = λ n p q ln lp h.
             let o = s .only n p q ln lp h in
@@ -268,95 +277,98 @@ searching-start {nodes = nodes} {l = l} {m = m} few s =
         starts = λ n q h.
             let ln : n < nodes = omega (arith, entry-node j n q h, held .nodes-are) in
             s .here n q ln (subst (λ (x : Node). has (x .entry) q ≡ true) (sym (held .node n ln) ∙ node-same (s .kept) n (omega arith)) h);
-        settled = λ one n p ln lp quiet q h. absurd (has-nothing q (s .quiet n p (omega arith) lp quiet) h);
-        differs = λ z. absurd (omega arith);
+        settled = λ n p ln lp quiet q h. absurd (has-nothing q (s .quiet n p (omega arith) lp quiet) h);
       };
     }
 
--- a round more
-pub searching-more
-    : {table : List (List ℕ)} {finals states nodes : ℕ} {l m k : List ℕ} {last result : ℕ} → Usable l table states nodes
-    → Searching table finals states nodes l m last → last < 65536 → RoundedAt table finals states nodes m k result
-    → Searching table finals states nodes l k result
-searching-more u s less r =
-    record {
-      kept = search-kept-both (s .kept) (r .kept);
-      small = r .small;
-      none = r .none;
-      exact = λ j plan held plan-held after.
-          let i = s .exact j plan held plan-held after in
-          let x = r .exact j plan (job-same (s .kept) u held) (plan-same (s .kept) plan (u .few-nodes) plan-held) in
-          record {
-            reached = λ n p q ln lp h. following-reached (i .reached) (x .new n p q ln lp h);
-            starts = λ n q h.
-                r .held n q q
-                (omega (arith, entry-node j n q h, held .nodes-are, u .few-nodes))
-                (omega (arith, held .formed .entries n q h, held .formed .rule .few-states))
-                (i .starts n q h);
-            settled = λ now. x .settled now (i .settled less);
-            differs = λ found.
-                let f = x .split found in
-                different-says (held .formed) plan .1
-                (split-different (held .formed) (after-kept (held .formed) (s .kept) (u .few-nodes) after) (f .small)
-                (following-reached (i .reached) (f .follows)) (f .splits));
-          };
-    }
+module _
+    {table : List (List ℕ)} {finals states nodes : ℕ} {o l m k : List ℕ} {seen : Seen} (before : SearchKept o l) (u : Usable o table states nodes)
+    (s : Searching table finals states nodes l m) (r : RoundedAt table finals states nodes m k seen) where
+  -- the bounds of all
+  usable : Usable l table states nodes
+  usable = usable-same before u
 
--- with nothing marked the table is closed
-searching-closed
-    : {table : List (List ℕ)} {finals states nodes : ℕ} {l m : List ℕ} {result : ℕ} {j : Job} {plan : List ℕ}
-    → nodes ≤ 512 → Searching table finals states nodes l m result → JobHeld j l table finals states nodes
-    → AfterHeld j l nodes → SearchingFor j plan nodes m result → result ≡ 0 → ClosedTable j (enables plan) m
-searching-closed {nodes = nodes} {m = m} {j = j} few s held after i zero-is =
-    record {
-      formed = held .formed;
-      starts = i .starts;
-      closed = λ n l p q lp h.
-          let ln : n < nodes = omega (arith, held .nodes-are) in
-          i .settled (omega arith) n p ln (omega (arith, held .formed .rule .few-states))
-          (ap (λ (x : ℕ). has x p) (s .none zero-is n ln) ∙ has-empty p) q h;
-      after = subst (λ (x : ℕ). AfterHeld j m x) (held .nodes-are) (after-kept (held .formed) (s .kept) few after);
-    }
+  -- what a round says of a job and a plan
+  rounded
+      : (j : Job) (plan : List ℕ) → JobHeld j l table finals states nodes → PlanHeld plan l nodes → Rounded j (enables plan) nodes m k seen
+  rounded j plan held plan-held =
+      r .exact j plan (job-same (s .kept) usable held) (plan-same (s .kept) plan (u .few-nodes) plan-held)
 
--- the search has ended
-pub searching-end
-    : {table : List (List ℕ)} {finals states nodes : ℕ} {k l m : List ℕ} (result : ℕ) → SearchKept k l → Usable k table states nodes
-    → Searching table finals states nodes l m result → result % 65536 ≡ 0
-    → SearchedAt table finals states nodes k m (eqb result 0)
-searching-end {table} {finals} {states} {nodes} {k} {l} {m} result kept u s ended =
-    record {
-      kept = search-kept-both kept (s .kept);
-      exact = λ j plan held plan-held after.
-          let here = job-same kept u held in
-          let words = after-kept (held .formed) kept (u .few-nodes) after in
-          done j plan here words (s .exact j plan here (plan-same kept plan (u .few-nodes) plan-held) words) (eqb result 0) refl;
-    }
-  where
-    -- for a job and a plan, by the answer
-    done
-        : (j : Job) (plan : List ℕ) → JobHeld j l table finals states nodes → AfterHeld j l nodes → SearchingFor j plan nodes m result
-        → (b : Bool) → eqb result 0 ≡ b → Searched j plan k m b
-    done j plan held after i true e =
-        let t = searching-closed (u .few-nodes) s held after i (eqb-true _ _ e) in
-        record {
-          exact = sym (closed-faithful plan t);
-          before = λ y. closed-before t (omega (arith, held .nodes-are, u .few-nodes)) (i .reached);
-        }
-    done j plan held after i false e =
-        let found : result ≡ 65536 = omega (arith, s .small, ended, eqb-false result 0 e) in
-        record { exact = sym (i .differs found); before = λ y. absurd (true≢false (sym y)) }
+  -- a round without a difference
+  searching-alike : (seen ≡ Difference → ⊥) → Searching table finals states nodes l k
+  searching-alike alike =
+      record {
+        kept = search-kept-both (s .kept) (r .kept);
+        exact = λ j plan held plan-held after.
+            let i = s .exact j plan held plan-held after in
+            let x = rounded j plan held plan-held in
+            record {
+              reached = λ n p q ln lp h. following-reached (i .reached) (x .new n p q ln lp h);
+              starts = λ n q h.
+                  r .held n q q
+                  (omega (arith, entry-node j n q h, held .nodes-are, u .few-nodes))
+                  (omega (arith, held .formed .entries n q h, held .formed .rule .few-states))
+                  (i .starts n q h);
+              settled = x .settled alike (i .settled);
+            };
+      }
 
--- ---- the measure
+  -- a round more
+  pub searching-more : seen ≡ Rows → Searching table finals states nodes l k
+  searching-more some = searching-alike (λ e. rows-difference (sym some ∙ e))
 
--- what is left, and one round more, where the result says that there was a marked row; nothing where the search has ended
-abbrev pub rank : ℕ → ℕ → ℕ
-rank result left = cond (eqb (result % 65536) 0) 0 (suc left)
+  -- with nothing marked the table is closed
+  searching-closed
+      : {j : Job} {plan : List ℕ} → JobHeld j l table finals states nodes → AfterHeld j l nodes → SearchingFor j plan nodes k
+      → seen ≡ Nothing → ClosedTable j (enables plan) k
+  searching-closed {j} held after i none =
+      record {
+        formed = held .formed;
+        starts = i .starts;
+        closed = λ n a p q lp h.
+            let ln : n < nodes = omega (arith, held .nodes-are) in
+            i .settled n p ln (omega (arith, held .formed .rule .few-states))
+            (ap (λ (x : ℕ). has x p) (r .none none n ln) ∙ has-empty p) q h;
+        after = subst (λ (x : ℕ). AfterHeld j k x) (held .nodes-are)
+            (after-kept (held .formed) (search-kept-both (s .kept) (r .kept)) (u .few-nodes) after);
+      }
 
--- a round leaves less
-pub rank-less
-    : (result after left less : ℕ) → (result % 65536 ≡ 0 → ⊥) → less + after % 65536 ≤ left → rank after less < rank result left
-rank-less result after left less some h = rw (ne-eqb (result % 65536) 0 some) (go (eqb (after % 65536) 0) refl)
-  where
-    go : (b : Bool) → eqb (after % 65536) 0 ≡ b → cond b 0 (suc less) < suc left
-    go true e = omega arith
-    go false e = omega (arith, h, eqb-false (after % 65536) 0 e)
+  -- the bytes that the search keeps
+  all-kept : SearchKept o k
+  all-kept = search-kept-both before (search-kept-both (s .kept) (r .kept))
+
+  -- a round that sees nothing ends the search: the plan is faithful
+  pub searching-end : seen ≡ Nothing → SearchedAt table finals states nodes o k true
+  searching-end none =
+      record {
+        kept = all-kept;
+        exact = λ j plan held plan-held after.
+            let here = job-same before u held in
+            let words = after-kept (held .formed) before (u .few-nodes) after in
+            let i = searching-alike (λ e. nothing-difference (sym none ∙ e)) .exact j plan here (plan-same before plan (u .few-nodes) plan-held) words in
+            let t = searching-closed here words i none in
+            record {
+              exact = sym (closed-faithful plan t);
+              before = λ y. closed-before t (omega (arith, held .nodes-are, u .few-nodes)) (i .reached);
+            };
+      }
+
+  -- and so does one that sees a difference: it is not
+  pub searching-split : seen ≡ Difference → SearchedAt table finals states nodes o k false
+  searching-split found =
+      record {
+        kept = all-kept;
+        exact = λ j plan held plan-held after.
+            let here = job-same before u held in
+            let here-plan = plan-same before plan (u .few-nodes) plan-held in
+            let words = after-kept (held .formed) before (u .few-nodes) after in
+            let i = s .exact j plan here here-plan words in
+            let f = rounded j plan here here-plan .split found in
+            record {
+              exact =
+                  sym (different-says (held .formed) plan .1
+                  (split-different (held .formed) (after-kept (held .formed) (s .kept) (u .few-nodes) words) (f .small)
+                  (following-reached (i .reached) (f .follows)) (f .splits)));
+              before = λ y. absurd (true≢false (sym y));
+            };
+      }

@@ -4,8 +4,9 @@ use mathlib.Core.Path.{_≡_}
 use mathlib.Core.Logic.{_⊎_}
 use mathlib.Core.Bool.{Bool, true, false, not}
 use mathlib.Core.List.{List}
-use Prim.Native.Nat.{ℕ, _+_, _%_, _≤_, _<_}
+use Prim.Native.Nat.{ℕ, _<_}
 use lib.Dec.{eqb}
+use lib.ListN.{getD}
 use Rattle.laws.specs.Bits.{has}
 use Rattle.automaton.specs.Automaton.{Automaton, next, final, cell}
 use Rattle.job.specs.Job.{Kind, plain, event, call, Job, nodeAt, leads, WellFormedJob}
@@ -15,23 +16,28 @@ use Rattle.job.specs.Planning.{allEnabled}
 use Rattle.job.specs.Search.{faithful, arrives}
 use Rattle.joblines.specs.Layout.{nodeIn}
 use Rattle.tables.specs.Tables.{pairRowIn, classRowIn, marksIn, markedIn, EdgeIn, Held, HeldApart, pairsLeft, SearchKept, Grown}
-use Rattle.tables.specs.Quads.{InQuads}
 use Rattle.tables.specs.declared.moves.Past.{Past}
 use Rattle.tables.specs.Held.{JobHeld, PlanHeld, AfterHeld}
+use Rattle.search.specs.declared.search.Seen.{Seen}
+use Rattle.search.specs.declared.search.Seen.the-variants.{Nothing, Rows, Difference}
 
 -- ---- leaves: rows and the table alone
 
+-- the pair is in sixteen rows
+abbrev pub InRows : List ℕ → ℕ → ℕ → Type 0
+InRows rows p q = has (getD rows p 0) q ≡ true
+
 -- sixteen rows were joined into those of node n
-pub record RowsJoined (l m : List ℕ) (n : ℕ) (quads : List ℕ) : Type 0 where
+pub record RowsJoined (l m : List ℕ) (n : ℕ) (rows : List ℕ) : Type 0 where
   pub grown : Grown l m
-  pub here : (p q : ℕ) → p < 16 → InQuads quads p q → Held m n p q
-  pub new : (k p q : ℕ) → k < 512 → p < 16 → Held m k p q → Held l k p q ⊎ ((k ≡ n) × InQuads quads p q)
+  pub here : (p q : ℕ) → p < 16 → InRows rows p q → Held m n p q
+  pub new : (k p q : ℕ) → k < 512 → p < 16 → Held m k p q → Held l k p q ⊎ ((k ≡ n) × InRows rows p q)
 
 -- sixteen rows were joined at the ends of all edges of node n
-pub record JoinedPast (l m : List ℕ) (n : ℕ) (quads : List ℕ) : Type 0 where
+pub record JoinedPast (l m : List ℕ) (n : ℕ) (rows : List ℕ) : Type 0 where
   pub grown : Grown l m
-  pub here : (k p q : ℕ) → EdgeIn l n k → p < 16 → InQuads quads p q → Held m k p q
-  pub new : (k p q : ℕ) → k < 512 → p < 16 → Held m k p q → Held l k p q ⊎ (EdgeIn l n k × InQuads quads p q)
+  pub here : (k p q : ℕ) → EdgeIn l n k → p < 16 → InRows rows p q → Held m k p q
+  pub new : (k p q : ℕ) → k < 512 → p < 16 → Held m k p q → Held l k p q ⊎ (EdgeIn l n k × InRows rows p q)
 
 -- a symbol of the set and a state of the row: the pair that they lead to, at node n
 pub record WordFrom (table : List (List ℕ)) (set p s : ℕ) (k l : ℕ) : Type 0 where
@@ -166,21 +172,20 @@ pub record SplitAfter (j : Job) (w : Enabling) (l : List ℕ) (nodes : ℕ) : Ty
   pub follows : Following j w l node one other
   pub splits : SplitPair j w l node one other
 
--- all marked rows were looked at in turn: result 0 where there was none, 1 to 65535 where there was, 65536 where a pair alarms differently
-pub record Rounded (j : Job) (w : Enabling) (nodes : ℕ) (l m : List ℕ) (result : ℕ) : Type 0 where
+-- all marked rows were looked at in turn, until a pair alarms differently
+pub record Rounded (j : Job) (w : Enabling) (nodes : ℕ) (l m : List ℕ) (seen : Seen) : Type 0 where
   pub new : (n p q : ℕ) → n < 512 → p < 16 → Held m n p q → Following j w l n p q
-  pub settled : result < 65536 → Settled j w l nodes → Settled j w m nodes
-  pub split : result ≡ 65536 → SplitAfter j w l nodes
+  pub settled : (seen ≡ Difference → ⊥) → Settled j w l nodes → Settled j w m nodes
+  pub split : seen ≡ Difference → SplitAfter j w l nodes
 
 -- the same for every job that the buffer holds
-pub record RoundedAt (table : List (List ℕ)) (finals states nodes : ℕ) (l m : List ℕ) (result : ℕ) : Type 0 where
+pub record RoundedAt (table : List (List ℕ)) (finals states nodes : ℕ) (l m : List ℕ) (seen : Seen) : Type 0 where
   pub kept : SearchKept l m
   pub held : (n p q : ℕ) → n < 512 → p < 16 → Held l n p q → Held m n p q
-  pub small : result ≤ 65536
-  pub left : pairsLeft m + result % 65536 ≤ pairsLeft l
-  pub none : result ≡ 0 → (n : ℕ) → n < nodes → marksIn m n ≡ 0
+  pub left : seen ≡ Rows → pairsLeft m < pairsLeft l
+  pub none : seen ≡ Nothing → (n : ℕ) → n < nodes → marksIn m n ≡ 0
   pub exact
-      : (j : Job) (plan : List ℕ) → JobHeld j l table finals states nodes → PlanHeld plan l nodes → Rounded j (enables plan) nodes l m result
+      : (j : Job) (plan : List ℕ) → JobHeld j l table finals states nodes → PlanHeld plan l nodes → Rounded j (enables plan) nodes l m seen
 
 -- ---- the search
 

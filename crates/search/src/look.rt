@@ -17,33 +17,32 @@ use tables::places::is_shadow;
 use tables::places::start_at;
 use tables::places::symbol_at;
 use tables::places::target_at;
-use tables::quads::join_quad;
 use tables::rows::class_row;
 use tables::rows::join_pairs;
 use tables::rows::pair_row;
 
-// Joins sixteen rows, four to a number, into those of node n.
-fn join_rows(work: &mut [u8], n: usize, quads: &[u64; 4])
+// Joins sixteen rows into those of node n.
+fn join_rows(work: &mut [u8], n: usize, rows: &[u16; 16])
     requires { ⌜ (65536 ≤ length (now work)) × (n < 512) ⌝ }
-    ensures { λ _. ⌜ RowsJoined (now (work .entry)) (now (work .exit)) n (now (quads .entry)) ⌝ }
+    ensures { λ _. ⌜ RowsJoined (now (work .entry)) (now (work .exit)) n (now (rows .entry)) ⌝ }
 {
-    let mut i = 0;
-    while i < 4 {
-        join_quad(work, n, i, quads[i]);
-        i += 1;
+    let mut p = 0;
+    while p < 16 {
+        join_pairs(work, n, p, rows[p]);
+        p += 1;
     }
 }
 
-// Joins sixteen rows, four to a number, into those of every successor of node n.
-pub fn join_successors(work: &mut [u8], n: usize, quads: &[u64; 4])
+// Joins sixteen rows into those of every successor of node n.
+pub fn join_successors(work: &mut [u8], n: usize, rows: &[u16; 16])
     requires { ⌜ (65536 ≤ length (now work)) × ((n < 512) × EdgesWithin (now work) n) ⌝ }
-    ensures { λ _. ⌜ JoinedPast (now (work .entry)) (now (work .exit)) n (now (quads .entry)) ⌝ }
+    ensures { λ _. ⌜ JoinedPast (now (work .entry)) (now (work .exit)) n (now (rows .entry)) ⌝ }
 {
     let end = start_at(work, n + 1);
     let mut i = start_at(work, n);
     while i < end {
         let m = target_at(work, i);
-        join_rows(work, m, quads);
+        join_rows(work, m, rows);
         i += 1;
     }
 }

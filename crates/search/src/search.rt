@@ -9,41 +9,46 @@ use sets::insert;
 use sets::lowest;
 use sets::without_lowest;
 use tables::places::entry_set;
-use tables::quads::with_row;
 use tables::rows::clear_marks;
 use tables::rows::clear_pairs;
 use tables::rows::join_pairs;
 use tables::rows::next_marked;
 use tables::rows::take_marks;
 
-// Looks at all marked rows in turn, and is left at the first difference: 0 where no row is marked, 1 to 65535 where one is, 65536 at a
-// difference.
-fn round(work: &mut [u8], table: &[[u8; 16]; 16], finals: u16, states: usize, nodes: usize) -> u32
+// What a round has seen: no marked row, marked rows whose pairs alarm alike, or a pair that alarms differently.
+pub enum Seen {
+    Nothing,
+    Rows,
+    Difference,
+}
+
+// Looks at all marked rows in turn, and is left at the first difference.
+fn round(work: &mut [u8], table: &[[u8; 16]; 16], finals: u16, states: usize, nodes: usize) -> Seen
     requires { ⌜ Usable (now work) (now table) states nodes ⌝ }
     ensures { λ r. ⌜ RoundedAt (now (table .entry)) finals states nodes (now (work .entry)) (now (work .exit)) r ⌝ }
 {
-    let mut result: u32 = 0;
+    let mut seen = Seen::Nothing;
     let mut n = next_marked(work, 0, nodes);
     'search: while n < nodes {
+        seen = Seen::Rows;
         let due = take_marks(work, n);
-        result = result | (due as u32);
-        let mut quads: [u64; 4] = [0; 4];
+        let mut rows: [u16; 16] = [0; 16];
         let mut rest = due;
         while rest != 0 {
             let p = lowest(rest) as usize;
             let past = look(work, table, finals, n, p);
             if past.differs {
-                result = 65536;
+                seen = Seen::Difference;
                 break 'search;
             }
-            let i = past.state / 4;
-            quads[i] = with_row(quads[i], past.state % 4, past.set);
+            let state = past.state;
+            rows[state] = rows[state] | past.set;
             rest = without_lowest(rest);
         }
-        join_successors(work, n, &quads);
+        join_successors(work, n, &rows);
         n = next_marked(work, n + 1, nodes);
     }
-    result
+    seen
 }
 
 // Joins the pairs of the admitted states of node n with themselves.
@@ -86,9 +91,11 @@ pub fn is_faithful(
     ensures { λ r. ⌜ SearchedAt (now (table .entry)) finals states nodes (now (work .entry)) (now (work .exit)) r ⌝ }
 {
     start(work, nodes);
-    let mut result: u32 = 1;
-    while result % 65536 != 0 {
-        result = round(work, table, finals, states, nodes);
+    loop {
+        match round(work, table, finals, states, nodes) {
+            Seen::Nothing => return true,
+            Seen::Rows => {}
+            Seen::Difference => return false,
+        }
     }
-    result == 0
 }

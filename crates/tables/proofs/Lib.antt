@@ -6,4 +6,3 @@ pub mod RowLaws
 pub mod JobKeptLaws
 pub mod KeptLaws
 pub mod TableLaws
-pub mod QuadLaws

@@ -8,7 +8,7 @@ use Prim.Native.Nat.{ℕ, _+_, _-_, _*_, _^_, _≤_, _<_}
 use native.Mathlib.Nat.{le-refl}
 use native.Mathlib.Decide.{ℕ-discrete, decLt}
 use native.Mathlib.Omega.{arith}
-use lib.Bits.{bitOr, or-lt}
+use lib.Bits.{bitOr, or-lt, or-add-and, and-le-r}
 use lib.Pow.{pow-lt}
 use lib.ListN.{length, set, length-set}
 use lib.Seq.{getD-set-same, getD-set-other}
@@ -19,13 +19,16 @@ use Rattle.laws.specs.Bytes.{AreBytes, numberAt, putNumber}
 use Rattle.laws.proofs.Bounded.{sum-cong, sum-change}
 use Rattle.laws.proofs.Bits.{has-or, has-pow}
 use Rattle.laws.proofs.Bytes.{number-lt, number-put, number-put-other, put-number, length-put, getD-put-outside}
-use Rattle.laws.proofs.Parts.{or-above}
 use Rattle.laws.proofs.Tests.{fails-of, or-left, or-right, or-passes}
 use Rattle.joblines.proofs.KeptLaws.{kept-none, kept-put}
 use Rattle.tables.specs.Tables.{pairRowIn, classRowIn, marksIn, markedIn, Held, joined, unmarked, apartJoined, Zeroed, pairsLeft, apartLeft, SearchKept, PairsJoined, NextMarked, MarksTaken, ApartGrown}
 use Rattle.tables.proofs.KeptLaws.{grown-none}
 
 -- ---- a number of two bytes stored in a table
+
+-- a set is at most its union with another
+or-above : (a b : ℕ) → a ≤ bitOr a b
+or-above a b = omega (arith, or-add-and a b, and-le-r a b)
 
 -- the number at another index
 number-row : (l : List ℕ) (b i j v : ℕ) → (i ≡ j → ⊥) → numberAt 2 (putNumber 2 l (b + j * 2) v) (b + i * 2) ≡ numberAt 2 l (b + i * 2)
@@ -111,7 +114,7 @@ not-marks n h k (inr (inl o)) = inl (omega arith)
 not-marks n h k (inr (inr o)) = inr (omega arith)
 
 -- the numbers in front of the marks
-pub number-front : (l : List ℕ) (n v i : ℕ) → i + 2 ≤ 45314 → numberAt 2 (putNumber 2 l (45314 + n * 2) v) i ≡ numberAt 2 l i
+number-front : (l : List ℕ) (n v i : ℕ) → i + 2 ≤ 45314 → numberAt 2 (putNumber 2 l (45314 + n * 2) v) i ≡ numberAt 2 l i
 number-front l n v i h = number-put-other 2 2 l (45314 + n * 2) i v (inl (omega arith))
 
 -- marks taken down, in the shape of the code

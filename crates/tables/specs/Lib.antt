@@ -2,5 +2,4 @@
 -- Assumes nothing.
 pub mod Rows
 pub mod Tables
-pub mod Quads
 pub mod Held

@@ -29,13 +29,13 @@ pub fn join_pairs(work: &mut [u8], n: usize, p: usize, s: u16)
 {
     let at = PAIRS + (n * 16 + p) * 2;
     let old = read16(work, at);
-    let new = old | s;
-    if new == old {
+    let joined = old | s;
+    if joined == old {
         return;
     }
     let marks = MARKS + n * 2;
     let due = read16(work, marks);
-    write16(work, at, new);
+    write16(work, at, joined);
     write16(work, marks, insert(due, p as u32));
 }
 

@@ -10,10 +10,10 @@ use Rattle.search.proofs.look.join_successors.Statement.{statement}
 use Rattle.search.proofs.look.join_successors.Tie as tie
 
 abbrev Inv-loop : tie.InvT-loop
-Inv-loop work₀ n quads end i₀ work i = Joining work₀ work n quads i
+Inv-loop work₀ n rows end i₀ work i = Joining work₀ work n rows i
 
 abbrev μ-loop : tie.MeasureT-loop
-μ-loop work₀ n quads end i₀ work i = end - i
+μ-loop work₀ n rows end i₀ work i = end - i
 
 add-start-at : tie.Need-add-start-at Inv-loop μ-loop
 add-start-at c = search needs

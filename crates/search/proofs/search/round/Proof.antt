@@ -1,31 +1,32 @@
 -- `search::search::round` meets its contract.
 -- Invariant: every pair held follows the first ones, and rows that are not marked are closed if they were; within a node the rows looked at
--- are closed but for its edges, and `quads` has their pairs past the node, which the edges then get.
+-- are closed but for its edges, and `rows` has their pairs past the node, which the edges then get.
 -- Measure: the nodes, and within a node the set of rows, still to be looked at.
 -- Assumes nothing.
 use Prim.Native.Nat.{_-_}
-use mathlib.Core.Path.{_≡_, refl, _∙_}
+use mathlib.Core.Path.{_≡_, refl, sym, subst, _∙_}
 use native.Mathlib.Omega.{arith}
 use borrow.Author.Needs.{needs}
 use Rattle.laws.proofs.Walk.{clear-lt}
 use Rattle.tables.proofs.KeptLaws.{usable-same}
-use Rattle.search.proofs.RoundLaws.{RowsSoFar, rows-none, no-quads, row-small, rows-more, node-looked}
+use Rattle.search.specs.declared.search.Seen.the-variants.{Rows}
+use Rattle.search.proofs.RoundLaws.{RowsSoFar, emptyRows, empty-row, rows-none, row-small, rows-more, node-looked}
 use Rattle.search.proofs.RoundLaws.{RoundSoFar, round-none, round-more, round-split, round-end}
 use Rattle.search.proofs.search.round.Statement.{statement}
 use Rattle.search.proofs.search.round.Tie as tie
 
 abbrev Inv-loop : tie.InvT-loop
-Inv-loop work₀ table finals states nodes result₀ n due quads₀ rest₀ work result quads rest =
-    (result ≡ result₀) × RowsSoFar table finals states nodes work₀ work n due rest quads
+Inv-loop work₀ table finals states nodes seen₀ n due rows₀ rest₀ work seen rows rest =
+    (seen ≡ Rows) × RowsSoFar table finals states nodes work₀ work n due rest rows
 
 abbrev μ-loop : tie.MeasureT-loop
-μ-loop work₀ table finals states nodes result₀ n due quads₀ rest₀ work result quads rest = rest
+μ-loop work₀ table finals states nodes seen₀ n due rows₀ rest₀ work seen rows rest = rest
 
 abbrev Inv-search : tie.InvT-search
-Inv-search work₀ table finals states nodes result₀ n₀ work result n = RoundSoFar table finals states nodes work₀ work n result
+Inv-search work₀ table finals states nodes seen₀ n₀ work seen n = RoundSoFar table finals states nodes work₀ work n seen
 
 abbrev μ-search : tie.MeasureT-search
-μ-search work₀ table finals states nodes result₀ n₀ work result n = nodes - n
+μ-search work₀ table finals states nodes seen₀ n₀ work seen n = nodes - n
 
 next-marked-requires : tie.Need-next-marked-requires Inv-loop μ-loop Inv-search μ-search
 next-marked-requires c κs =
@@ -40,11 +41,9 @@ take-marks-requires c κs =
     let u = c .before .before .before .before .before .before .pre in
     (omega (arith, u .long, c .before .before .search .inv .kept .long), omega (arith, u .few-nodes))
 
-cast-result : tie.Need-cast-result Inv-loop μ-loop Inv-search μ-search
-cast-result c = search needs
-
 loop-holds : tie.Need-loop-holds Inv-loop μ-loop Inv-search μ-search
-loop-holds c = (refl, rows-none _ _ _ _ (omega arith) refl no-quads)
+unfolding emptyRows
+loop-holds c = (refl, rows-none _ _ _ (emptyRows 16) (omega arith) refl (empty-row 16))
 
 lowest-requires : tie.Need-lowest-requires Inv-loop μ-loop Inv-search μ-search
 lowest-requires c κs = search needs
@@ -62,41 +61,36 @@ look-requires c κs =
     let u = usable-same (r .grown .kept) taken in
     (u .long, (omega (arith, u .few-nodes), (row-small taken (omega arith) r (omega arith) (c .before .lowest .ensures), u .cells)))
 
-mul-with-row : tie.Need-mul-with-row Inv-loop μ-loop Inv-search μ-search
-mul-with-row c = search needs
+mul-rows : tie.Need-mul-rows Inv-loop μ-loop Inv-search μ-search
+mul-rows c = search needs
 
-array-read-with-row : tie.Need-array-read-with-row Inv-loop μ-loop Inv-search μ-search
-array-read-with-row c = omega (arith, c .before .before .before .before .look .ensures .small)
+array-read-rows : tie.Need-array-read-rows Inv-loop μ-loop Inv-search μ-search
+array-read-rows c = omega (arith, c .before .before .before .look .ensures .small)
 
-with-row-requires : tie.Need-with-row-requires Inv-loop μ-loop Inv-search μ-search
-with-row-requires c κs = search needs
+mul-rows-2 : tie.Need-mul-rows-2 Inv-loop μ-loop Inv-search μ-search
+mul-rows-2 c = search needs
 
-mul-quads : tie.Need-mul-quads Inv-loop μ-loop Inv-search μ-search
-mul-quads c = search needs
-
-array-write-quads : tie.Need-array-write-quads Inv-loop μ-loop Inv-search μ-search
-array-write-quads c = omega (arith, c .before .before .before .before .before .before .look .ensures .small)
+array-write-rows : tie.Need-array-write-rows Inv-loop μ-loop Inv-search μ-search
+array-write-rows c = omega (arith, c .before .before .before .before .look .ensures .small)
 
 without-lowest-requires : tie.Need-without-lowest-requires Inv-loop μ-loop Inv-search μ-search
 without-lowest-requires c κs = omega arith
 
 loop-less : tie.Need-loop-less Inv-loop μ-loop Inv-search μ-search
 loop-less c =
-    let l = c .before .before .before .before .before .before .before .before .before .before .before .loop in
+    let l = c .before .before .before .before .before .before .before .before .before .loop in
     rw (c .without-lowest .ensures) (clear-lt (l .rest) (omega arith))
 
 loop-again : tie.Need-loop-again Inv-loop μ-loop Inv-search μ-search
 loop-again c =
-    let start = c .before .before .before .before .before .before .before .before .before .before .before .before .before .before .before .before .before .before .before .before .before in
-    let i = c .before .before .before .before .before .before .before .before .before .before .before .before .before .before .before .before .before .search .inv in
-    let t = c .before .before .before .before .before .before .before .before .before .before .before .before .before .before .take-marks .ensures in
-    let r = c .before .before .before .before .before .before .before .before .before .before .before .loop .inv in
-    let look = c .before .before .before .before .before .before .before .look .ensures in
-    let low = c .before .before .before .before .before .before .before .before .before .lowest .ensures in
-    let u = usable-same (t .kept) (usable-same (i .kept) (start .pre)) in (
+    let i = c .before .before .before .before .before .before .before .before .before .before .before .before .before .before .before .search .inv in
+    let t = c .before .before .before .before .before .before .before .before .before .before .before .before .take-marks .ensures in
+    let r = c .before .before .before .before .before .before .before .before .before .loop .inv in
+    let low = c .before .before .before .before .before .before .before .lowest .ensures in
+    let u = usable-same (t .kept) (usable-same (i .kept) (c .before .before .before .before .before .before .before .before .before .before .before .before .before .before .before .before .before .before .before .pre)) in (
       r .0,
-      rows-more u (omega arith) (r .1) (row-small u (omega arith) (r .1) (omega arith) low) look (omega arith) low (c .without-lowest .ensures)
-          (c .before .before .before .before .if1 .left) (omega (arith, c .before .before .struct-known2 .given)) (c .before .with-row .ensures),
+      rows-more u (omega arith) (r .1) (row-small u (omega arith) (r .1) (omega arith) low) (c .before .before .before .before .before .look .ensures) (omega arith) low
+          (c .without-lowest .ensures) (c .before .before .if1 .left) refl,
     )
 
 join-successors-requires : tie.Need-join-successors-requires Inv-loop μ-loop Inv-search μ-search
@@ -131,8 +125,9 @@ search-again c =
     let t = c .before .before .before .before .before .before .before .before .before .before .before .take-marks .ensures in
     let r = c .before .before .before .before .before .before .before .before .loop .inv in
     let u = usable-same (t .kept) (usable-same (i .kept) (start .pre)) in
-    round-more (start .pre) (omega arith) i t (r .0) (node-looked u (omega arith) (r .1) (omega arith) (c .before .before .before .before .join-successors .ensures))
-    (c .next-marked2 .ensures)
+    subst (RoundSoFar _ _ _ _ _ _ _) (sym (r .0))
+    (round-more (start .pre) (omega arith) i t (node-looked u (omega arith) (r .1) (omega arith) (c .before .before .before .before .join-successors .ensures))
+    (c .next-marked2 .ensures))
 
 same-length : tie.Need-same-length Inv-loop μ-loop Inv-search μ-search
 same-length c = c .before .search .inv .kept .long
@@ -168,16 +163,14 @@ round-spec =
     next-marked-requires
     search-holds
     take-marks-requires
-    cast-result
     loop-holds
     lowest-requires
     cast-p
     look-requires
-    mul-with-row
-    array-read-with-row
-    with-row-requires
-    mul-quads
-    array-write-quads
+    mul-rows
+    array-read-rows
+    mul-rows-2
+    array-write-rows
     without-lowest-requires
     loop-less
     loop-again
