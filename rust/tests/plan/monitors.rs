@@ -96,10 +96,11 @@ fn two_records_alarm_alike_on_many_walks_of_small_jobs() {
 #[test]
 fn two_records_alarm_alike_on_walks_of_a_million_events() {
     const MOST: u64 = 1_000_000;
+    const JOBS: u64 = 3;
     let mut random = Random::fixed(14);
     let mut totals = Totals::default();
     for _ in 0..20_000 {
-        if totals.jobs == 8 {
+        if totals.jobs == JOBS {
             break;
         }
         let job = promise::job(&mut random);
@@ -114,7 +115,7 @@ fn two_records_alarm_alike_on_walks_of_a_million_events() {
     }
     totals.print("long walks");
     assert_eq!(
-        totals.jobs, 8,
+        totals.jobs, JOBS,
         "too few jobs have loops with alarms and skipped points"
     );
     totals.same_alarms();
