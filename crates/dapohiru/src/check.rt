@@ -1,5 +1,4 @@
 // The plan check on bytes: a job file, a plan of one byte a node, and a work buffer of 65,536 bytes or more.
-use checking::check::Verdict;
 ghost use mathlib.Core.Path.{_≡_};
 ghost use lib.ListN.{length};
 ghost use Rattle.checking.specs.Checking.{checked, workLeft, verdictNumber};
@@ -10,10 +9,5 @@ pub extern "C" fn dapohiru_check(job: &[u8], plan: &[u8], work: &mut [u8]) -> u6
     ensures { λ r. ⌜ (r ≡ verdictNumber (checked (now (job .entry)) (now (plan .entry)) (length (now (work .entry)))))
         × (now (work .exit) ≡ workLeft (checked (now (job .entry)) (now (plan .entry)) (length (now (work .entry)))) (now (work .entry))) ⌝ }
 {
-    let verdict = checking::check::check_plan(job, plan, work);
-    match verdict {
-        Verdict::Faithful => 281_474_976_710_656,
-        Verdict::Different => 281_474_976_710_657,
-        Verdict::Refused(number) => number,
-    }
+    numbers::of_verdict(checking::check::check_plan(job, plan, work))
 }

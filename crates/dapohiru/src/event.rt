@@ -1,5 +1,4 @@
 // The event step on bytes: the rule is 256 bytes in row order, the record 16.
-use monitor::step::Report;
 ghost use mathlib.Core.Path.{_≡_};
 ghost use Rattle.monitor.specs.Monitor.{reportNumber};
 ghost use Rattle.eventcall.specs.Event.{eventTaken, recordLeft};
@@ -17,19 +16,5 @@ pub extern "C" fn dapohiru_event(
     ensures { λ r. ⌜ (r ≡ reportNumber (eventTaken (now (rule .entry)) states symbols finals symbol (now (rec .entry)) .report))
         × (now (rec .exit) ≡ recordLeft (now (rec .entry)) (eventTaken (now (rule .entry)) states symbols finals symbol (now (rec .entry)))) ⌝ }
 {
-    let t = eventcall::take(rule, states, symbols, finals, symbol, rec);
-    let state = t.state;
-    let alarms = t.alarms;
-    let report = t.report;
-    match report {
-        Report::Quiet => {
-            eventcall::store(rec, state, alarms);
-            281_474_976_710_656
-        }
-        Report::Alarm => {
-            eventcall::store(rec, state, alarms);
-            281_474_976_710_657
-        }
-        Report::Refused(number) => number,
-    }
+    eventcall::event(rule, states, symbols, finals, symbol, rec)
 }

@@ -1,5 +1,4 @@
 // Listing on bytes: a job file, a work buffer of 65,536 bytes or more, and a listing buffer of 32,768 or more.
-use listings::list::Listed;
 ghost use mathlib.Core.Path.{_≡_};
 ghost use lib.ListN.{length};
 ghost use Rattle.plans.specs.Called.{workAfter};
@@ -13,9 +12,5 @@ pub extern "C" fn dapohiru_list(job: &[u8], work: &mut [u8], listing: &mut [u8])
         × (now (work .exit) ≡ workAfter (listAnswer (now (job .entry)) (length (now (work .entry))) (length (now (listing .entry)))) (now (work .entry)))
         × (now (listing .exit) ≡ listingAfter (listAnswer (now (job .entry)) (length (now (work .entry))) (length (now (listing .entry)))) (now (listing .entry))) ⌝ }
 {
-    let listed = listings::list::list_job(job, work, listing);
-    match listed {
-        Listed::Length(length) => 281_474_976_710_656 + length as u64,
-        Listed::Refused(number) => number,
-    }
+    numbers::of_listed(listings::list::list_job(job, work, listing))
 }

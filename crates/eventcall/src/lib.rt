@@ -4,7 +4,8 @@ use monitor::step::Taken;
 ghost use mathlib.Core.Path.{_≡_};
 ghost use Prim.Native.Nat.{_+_, _≤_};
 ghost use lib.ListN.{length};
-ghost use Rattle.eventcall.specs.Event.{fieldIn, eventTaken, recordBytes};
+ghost use Rattle.monitor.specs.Monitor.{reportNumber};
+ghost use Rattle.eventcall.specs.Event.{fieldIn, eventTaken, recordBytes, recordLeft};
 
 // The number at place `at` of a record's bytes, or another where they are no record.
 fn field_in(rec: &[u8], at: usize, other: u64) -> u64
@@ -18,7 +19,7 @@ fn field_in(rec: &[u8], at: usize, other: u64) -> u64
 }
 
 // What an event call on these bytes reports and leaves.
-pub fn take(rule: &[u8], states: u64, symbols: u64, finals: u64, symbol: u64, rec: &[u8]) -> Taken
+fn take(rule: &[u8], states: u64, symbols: u64, finals: u64, symbol: u64, rec: &[u8]) -> Taken
     ensures { λ r. ⌜ r ≡ eventTaken (now (rule .entry)) states symbols finals symbol (now (rec .entry)) ⌝ }
 {
     let state = field_in(rec, 0, 18_446_744_073_709_551_615);
@@ -35,10 +36,39 @@ pub fn take(rule: &[u8], states: u64, symbols: u64, finals: u64, symbol: u64, re
 }
 
 // Writes a record to its 16 bytes.
-pub fn store(rec: &mut [u8], state: u64, alarms: u64)
+fn store(rec: &mut [u8], state: u64, alarms: u64)
     requires { ⌜ length (now rec) ≡ 16 ⌝ }
     ensures { λ _. ⌜ now (rec .exit) ≡ recordBytes state alarms ⌝ }
 {
     words::write64(rec, 0, state);
     words::write64(rec, 8, alarms);
+}
+
+// Takes one event on the record's 16 bytes and returns 2^48 for quiet, 2^48 + 1 for alarm, or the refusal's number.
+pub fn event(
+    rule: &[u8],
+    states: u64,
+    symbols: u64,
+    finals: u64,
+    symbol: u64,
+    rec: &mut [u8],
+) -> u64
+    ensures { λ r. ⌜ (r ≡ reportNumber (eventTaken (now (rule .entry)) states symbols finals symbol (now (rec .entry)) .report))
+        × (now (rec .exit) ≡ recordLeft (now (rec .entry)) (eventTaken (now (rule .entry)) states symbols finals symbol (now (rec .entry)))) ⌝ }
+{
+    let t = take(rule, states, symbols, finals, symbol, rec);
+    let state = t.state;
+    let alarms = t.alarms;
+    let report = t.report;
+    match report {
+        Report::Quiet => {
+            store(rec, state, alarms);
+            281_474_976_710_656
+        }
+        Report::Alarm => {
+            store(rec, state, alarms);
+            281_474_976_710_657
+        }
+        Report::Refused(number) => number,
+    }
 }

@@ -1,11 +1,11 @@
--- `dapohiru::event::dapohiru_event` meets its contract: each arm has the number of its report, and writes the record or leaves it as the report says.
+-- `eventcall::event` meets its contract: each arm has the number of its report, and writes the record or leaves it as the report says.
 -- Assumes nothing.
 use mathlib.Core.Path.{refl, _∙_}
 use Rattle.monitor.specs.declared.step.Report.the-variants.{Quiet, Alarm, Refused}
 use Rattle.eventcall.proofs.EventLaws.{answered, answered-length}
 use borrow.Author.Needs.{needs}
-use Rattle.dapohiru.proofs.event.dapohiru_event.Statement.{statement}
-use Rattle.dapohiru.proofs.event.dapohiru_event.Tie as tie
+use Rattle.eventcall.proofs.event.Statement.{statement}
+use Rattle.eventcall.proofs.event.Tie as tie
 
 take-requires : tie.Need-take-requires
 take-requires c κs = search needs
@@ -62,8 +62,8 @@ returns-3 c =
     answered (c .before .before .before .before .before .before .before .args .rec .now) (t .result) _ (Refused (c .before .report .given .0 .0)) (t .ensures)
     (c .before .report .given .1)
 
-pub dapohiru-event-spec : {M : Type 1} → statement M
-dapohiru-event-spec =
+pub event-spec : {M : Type 1} → statement M
+event-spec =
     tie.close
     (tie.spec
     take-requires

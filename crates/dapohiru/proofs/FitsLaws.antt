@@ -1,0 +1,29 @@
+-- Every answer of planning and of listing has a number of 64 bits: the counts are at most 513, a listing fits its buffer.
+-- Assumes nothing.
+use mathlib.Core.Path.{_≡_}
+use mathlib.Core.Bool.{Bool}
+use mathlib.Core.List.{List}
+use Prim.Native.Nat.{ℕ}
+use native.Mathlib.Omega.{arith}
+use Rattle.plans.specs.Called.{admitted}
+use Rattle.plans.specs.PlanCall.{outcomeOf}
+use Rattle.plans.specs.declared.plan.Outcome.{Outcome}
+use Rattle.plans.specs.declared.plan.Outcome.the-variants.{Planned, Refused}
+use Rattle.plans.proofs.PlanAfterLaws.{counts-fit}
+use Rattle.listings.specs.ListCall.{listedOf}
+use Rattle.listings.specs.declared.list.Listed.{Listed}
+use Rattle.listings.specs.declared.list.Listed.the-variants.{Length, Refused as ListedRefused}
+use Rattle.listings.proofs.ListLaws.{length-few}
+use Rattle.numbers.specs.Fits.{OutcomeFits, ListedFits}
+
+-- of planning
+pub outcome-fits : (file : List ℕ) (short : Bool) (r : Outcome) → r ≡ outcomeOf (admitted file short) → OutcomeFits r
+outcome-fits file short (Planned c) e =
+    let fit = counts-fit file short c e in
+    (omega (arith, fit .shadows), omega (arith, fit .enabled, fit .shadows), omega (arith, fit .passes))
+outcome-fits file short (Refused k) e = tt
+
+-- of listing
+pub listed-fits : (file : List ℕ) (short : Bool) (r : Listed) → r ≡ listedOf (admitted file short) → ListedFits r
+listed-fits file short (Length n) e = omega (arith, length-few file short n e)
+listed-fits file short (ListedRefused k) e = tt

@@ -1,0 +1,3 @@
+-- What the proofs of the calls cite.
+-- Assumes nothing.
+pub mod FitsLaws

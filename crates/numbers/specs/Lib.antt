@@ -1,0 +1,3 @@
+-- Answers whose number has 64 bits.
+-- Assumes nothing.
+pub mod Fits

@@ -1,0 +1,47 @@
+// The number that a C call returns for each answer of the plan check, of planning and of listing.
+use checking::check::Verdict;
+use listings::list::Listed;
+use plans::plan::Outcome;
+ghost use mathlib.Core.Path.{_≡_};
+ghost use Rattle.checking.specs.Checking.{verdictNumber};
+ghost use Rattle.plans.specs.PlanCall.{planNumber};
+ghost use Rattle.listings.specs.ListCall.{listNumber};
+ghost use Rattle.numbers.specs.Fits.{OutcomeFits, ListedFits};
+
+// 2^48 for faithful, 2^48 + 1 for different, or the refusal's number.
+pub fn of_verdict(verdict: Verdict) -> u64
+    ensures { λ r. ⌜ r ≡ verdictNumber verdict ⌝ }
+{
+    match verdict {
+        Verdict::Faithful => 281_474_976_710_656,
+        Verdict::Different => 281_474_976_710_657,
+        Verdict::Refused(number) => number,
+    }
+}
+
+// 2^48 plus event nodes times 2^32, watched points times 2^16, and passes, or the refusal's number.
+pub fn of_outcome(outcome: Outcome) -> u64
+    requires { ⌜ OutcomeFits outcome ⌝ }
+    ensures { λ r. ⌜ r ≡ planNumber outcome ⌝ }
+{
+    match outcome {
+        Outcome::Planned(counts) => {
+            281_474_976_710_656
+                + counts.shadows as u64 * 4_294_967_296
+                + counts.enabled as u64 * 65_536
+                + counts.passes as u64
+        }
+        Outcome::Refused(number) => number,
+    }
+}
+
+// 2^48 plus the length of the listing, or the refusal's number.
+pub fn of_listed(listed: Listed) -> u64
+    requires { ⌜ ListedFits listed ⌝ }
+    ensures { λ r. ⌜ r ≡ listNumber listed ⌝ }
+{
+    match listed {
+        Listed::Length(length) => 281_474_976_710_656 + length as u64,
+        Listed::Refused(number) => number,
+    }
+}
