@@ -10,7 +10,7 @@ pub extern "C" fn dapohiru_check(job: &[u8], plan: &[u8], work: &mut [u8]) -> u6
     ensures { λ r. ⌜ (r ≡ verdictNumber (checked (now (job .entry)) (now (plan .entry)) (length (now (work .entry)))))
         × (now (work .exit) ≡ workLeft (checked (now (job .entry)) (now (plan .entry)) (length (now (work .entry)))) (now (work .entry))) ⌝ }
 {
-    let verdict = checking::check::check_plan(job, plan, work);
+    let verdict = checkcall::check_plan(job, plan, work);
     match verdict {
         Verdict::Faithful => 281_474_976_710_656,
         Verdict::Different => 281_474_976_710_657,

@@ -13,7 +13,7 @@ pub extern "C" fn dapohiru_list(job: &[u8], work: &mut [u8], listing: &mut [u8])
         × (now (work .exit) ≡ workAfter (listAnswer (now (job .entry)) (length (now (work .entry))) (length (now (listing .entry)))) (now (work .entry)))
         × (now (listing .exit) ≡ listingAfter (listAnswer (now (job .entry)) (length (now (work .entry))) (length (now (listing .entry)))) (now (listing .entry))) ⌝ }
 {
-    let listed = listings::list::list_job(job, work, listing);
+    let listed = listcall::list_job(job, work, listing);
     match listed {
         Listed::Length(length) => 281_474_976_710_656 + length as u64,
         Listed::Refused(number) => number,

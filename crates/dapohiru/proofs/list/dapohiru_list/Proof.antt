@@ -11,7 +11,7 @@ use Rattle.joblines.specs.Layout.{workSize}
 use Rattle.listings.specs.declared.list.Listed.{Listed}
 use Rattle.listings.specs.declared.list.Listed.the-variants.{Length, Refused}
 use Rattle.listings.specs.ListCall.{listingSize, listAnswer, listedOf, listNumber}
-use Rattle.listings.proofs.ListLaws.{length-few}
+use Rattle.listings.proofs.ListSays.{length-few}
 use Rattle.dapohiru.proofs.list.dapohiru_list.Statement.{statement}
 use Rattle.dapohiru.proofs.list.dapohiru_list.Tie as tie
 
