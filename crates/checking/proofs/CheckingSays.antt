@@ -19,11 +19,11 @@ use Rattle.job.proofs.Decide.{faithful-says, different-says}
 use Rattle.jobfile.specs.File.{Answer, accepted, turned, maxFile, readJob}
 use Rattle.jobfile.proofs.SpellableLaws.{read-written}
 use Rattle.jobfile.proofs.ListingFits.{listing-fits}
-use Rattle.joblines.specs.Layout.{workSize}
+use Rattle.joblines.specs.Layout.{workSize, cleared}
 use Rattle.checking.specs.declared.check.Verdict.{Verdict}
 use Rattle.checking.specs.declared.check.Verdict.the-variants.{Faithful, Different, Refused}
-use Rattle.checking.specs.Checking.{goodMark, hasLength, goodMarks, judged, answered, checked, verdictNumber}
-use Rattle.checking.specs.CheckingSays.{MarkFor, unwatched, watched, Admissible, SaysFaithful, SaysDifferent, verdictRead, VerdictByNumber}
+use Rattle.checking.specs.Checking.{goodMark, hasLength, goodMarks, judged, answered, checked, workLeft, verdictNumber}
+use Rattle.checking.specs.CheckingSays.{MarkFor, unwatched, watched, Admissible, SaysFaithful, SaysDifferent, WorkBufferSays, verdictRead, VerdictByNumber}
 use Rattle.checking.proofs.CheckLaws.{judged-11, judged-12, judged-verdict, checked-1, checked-2, checked-read}
 
 -- ---- plan bytes
@@ -156,6 +156,20 @@ verdict-different file plan size = (
   λ h. let p = passed file plan size false h in (p .0, p .1, different-says (formed (p .1)) plan .0 (p .2)),
   λ r. passed-verdict file plan size false (r .0, r .1, different-says (formed (r .1)) plan .1 (r .2)),
 )
+
+-- ---- the work buffer
+
+-- what an answer leaves of it
+pub work-buffer-says : WorkBufferSays
+work-buffer-says = record { left-by-1 = λ work. refl; left-by-2 = λ work. refl; cleared-else = else }
+  where
+    else : (v : Verdict) (work : List ℕ) → (v ≡ Refused 1 → ⊥) → (v ≡ Refused 2 → ⊥) → workLeft v work ≡ cleared work
+    else Faithful work a b = refl
+    else Different work a b = refl
+    else (Refused zero) work a b = refl
+    else (Refused (suc zero)) work a b = absurd (a refl)
+    else (Refused (suc (suc zero))) work a b = absurd (b refl)
+    else (Refused (suc (suc (suc k)))) work a b = refl
 
 -- ---- the number
 

@@ -1,4 +1,4 @@
--- The laws that the proofs of the functions cite.
+-- What the verdicts say, and the laws that the proofs of the functions cite.
 -- Assumes nothing.
 pub mod EdgeIndexLaws
 pub mod JobHeldLaws

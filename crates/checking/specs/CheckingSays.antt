@@ -11,10 +11,10 @@ use lib.ListN.{length, getD}
 use Rattle.job.specs.Job.{Kind, event, Job, nodeAt}
 use Rattle.job.specs.Plan.{enables, Faithful as FaithfulPlan, Different as DifferentPlan}
 use Rattle.jobfile.specs.File.{accepted, maxFile, readJob}
-use Rattle.joblines.specs.Layout.{workSize}
+use Rattle.joblines.specs.Layout.{workSize, cleared}
 use Rattle.checking.specs.declared.check.Verdict.{Verdict}
 use Rattle.checking.specs.declared.check.Verdict.the-variants.{Faithful, Different, Refused}
-use Rattle.checking.specs.Checking.{checked, verdictNumber}
+use Rattle.checking.specs.Checking.{checked, workLeft, verdictNumber}
 
 -- the bytes that a plan may have: 0 at any node, and 1 at an event node
 pub data MarkFor : Kind → ℕ → Type 0 where
@@ -40,6 +40,12 @@ abbrev pub SaysDifferent : Type 0
 SaysDifferent =
     (file plan : List ℕ) (size : ℕ)
     → (checked file plan size ≡ Different) ↔ ((j : Job) × Admissible file plan size j × DifferentPlan j (enables plan))
+
+-- the statement: "after 1 or 2 the work buffer is unchanged; after any other answer its first 65,536 bytes are zero and the rest unchanged"
+pub record WorkBufferSays : Type 0 where
+  pub left-by-1 : (work : List ℕ) → workLeft (Refused 1) work ≡ work
+  pub left-by-2 : (work : List ℕ) → workLeft (Refused 2) work ≡ work
+  pub cleared-else : (v : Verdict) (work : List ℕ) → (v ≡ Refused 1 → ⊥) → (v ≡ Refused 2 → ⊥) → workLeft v work ≡ cleared work
 
 -- the verdict that a number tells: 2^48 is faithful, 2^48 plus 1 different, any other a refusal
 abbrev pub verdictRead : ℕ → Verdict

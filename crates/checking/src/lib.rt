@@ -1,3 +1,2 @@
-// The plan check: a job file, a plan and a work buffer in, a verdict out.
-pub mod check; // check.rt: the plan check
-pub mod plan; // plan.rt: a plan to be checked, and the plan in the buffer
+// The plan check: its answer. What it answers and leaves is in specs/; the call itself is the crate `checkcall`.
+pub mod check; // check.rt: the answer of the plan check

@@ -13,7 +13,7 @@ use Rattle.plans.proofs.PlanAfterLaws.{counts-fit}
 use Rattle.listings.specs.ListCall.{listedOf}
 use Rattle.listings.specs.declared.list.Listed.{Listed}
 use Rattle.listings.specs.declared.list.Listed.the-variants.{Length, Refused as ListedRefused}
-use Rattle.listings.proofs.ListLaws.{length-few}
+use Rattle.listings.proofs.ListSays.{length-few}
 use Rattle.numbers.specs.Fits.{OutcomeFits, ListedFits}
 
 -- of planning

@@ -12,5 +12,5 @@ pub extern "C" fn dapohiru_list(job: &[u8], work: &mut [u8], listing: &mut [u8])
         × (now (work .exit) ≡ workAfter (listAnswer (now (job .entry)) (length (now (work .entry))) (length (now (listing .entry)))) (now (work .entry)))
         × (now (listing .exit) ≡ listingAfter (listAnswer (now (job .entry)) (length (now (work .entry))) (length (now (listing .entry)))) (now (listing .entry))) ⌝ }
 {
-    numbers::of_listed(listings::list::list_job(job, work, listing))
+    numbers::of_listed(listcall::list_job(job, work, listing))
 }

@@ -1,2 +1,1 @@
-// What is found at all points of a job, together in the work buffer.
-pub mod found; // found.rt: before sets, plan and classes
+// What the work buffer holds when before sets, plan and classes are found: definitions, and laws that `beforesets` and `analysis` cite. No code.

@@ -2,8 +2,8 @@
 use joblines::layout::WORK;
 use libc::STDIN_FILENO;
 use libc::STDOUT_FILENO;
-use listings::list::ROOM;
-use listings::print::print_job;
+use listcall::ROOM;
+use listprint::print_job;
 use reader::read::LONGEST;
 
 fn main() {

@@ -1,6 +1,3 @@
--- The laws that the proofs of the functions cite.
+-- What a caller of listing has.
 -- Assumes nothing.
-pub mod ListLaws
 pub mod ListSays
-pub mod PrintLaws
-pub mod ListTrialsPass

@@ -1,7 +1,7 @@
 -- What a caller of listing has: the lines in its buffer, and the answer read back from the number.
 -- Assumes nothing.
 use mathlib.Core.Path.{_≡_, refl, sym, ap, _∙_}
-use mathlib.Core.Bool.{true≢false, _||_}
+use mathlib.Core.Bool.{Bool, true≢false, _||_}
 use mathlib.Core.List.{List}
 use Prim.Native.Nat.{ℕ, _+_, _-_, _^_, _≤_}
 use native.Mathlib.Omega.{arith}
@@ -13,7 +13,8 @@ use Rattle.jobfile.specs.File.{Answer, accepted, turned}
 use Rattle.jobfile.proofs.SpellableLaws.{read-written}
 use Rattle.jobfile.proofs.ListingLength.{listing-in-buffer}
 use Rattle.joblines.specs.Layout.{workSize}
-use Rattle.plans.proofs.CalledLaws.{admitted-reads, admitted-small, written-first}
+use Rattle.plans.specs.Called.{admitted}
+use Rattle.plans.proofs.CalledLaws.{admitted-spells, admitted-reads, admitted-small, written-first}
 use Rattle.listings.specs.declared.list.Listed.the-variants.{Length, Refused}
 use Rattle.listings.specs.ListCall.{listingSize, listAnswer, bytesFor, listedOf, listingAfter, listNumber}
 use Rattle.listings.specs.ListSays.{ListingLeft, listed, unchanged, ListingBytesSay, listedRead, ListedByNumber}
@@ -22,7 +23,7 @@ use Rattle.listings.specs.ListSays.{ListingLeft, listed, unchanged, List
 pub listing-bytes-say : ListingBytesSay
 listing-bytes-say file listing work = go (listAnswer file work (length listing)) refl
   where
-    go : (a : Answer) → listAnswer file work (length listing) ≡ a → ListingLeft listing (listingAfter a listing) a
+    go : (a : Answer) → listAnswer file work (length listing) ≡ a → ListingLeft listing (listingAfter a listing) a (listedOf a)
     go (accepted j) e =
         let read = admitted-reads file (ltb work workSize || ltb (length listing) listingSize) j e in
         let fits = listing-in-buffer j (read-written file j (read .1) .1 .few-nodes) in
@@ -31,6 +32,16 @@ listing-bytes-say file listing work = go (listAnswer file work (length listing))
         ltb-false (length listing) listingSize (fails-of short (λ t. true≢false (sym (or-right (ltb work workSize) short t) ∙ read .0))) in
         listed fits room (written-first (length (bytesFor j)) (bytesFor j) listing refl (omega arith))
     go (turned k) e = unchanged refl
+
+-- the length that is returned is one within the buffer
+pub length-few : (file : List ℕ) (short : Bool) (n : ℕ) → Length n ≡ listedOf (admitted file short) → n ≤ listingSize
+length-few file short n e = go (admitted file short) refl e
+  where
+    go : (a : Answer) → admitted file short ≡ a → Length n ≡ listedOf a → n ≤ listingSize
+    go (accepted j) is e =
+        let same : n ≡ length (bytesFor j) = cc e in
+        omega (arith, listing-in-buffer j (read-written file j (admitted-spells file short j is) .1 .few-nodes))
+    go (turned k) is e = let z : _≡_ {A = ℕ} 0 1 = cc e in absurd (omega arith)
 
 -- a length is read back
 read-length : (n : ℕ) → listedRead (listNumber (Length n)) ≡ Length n

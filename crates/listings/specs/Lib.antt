@@ -1,5 +1,4 @@
--- The listing as a call.
+-- Listing as a call.
 -- Assumes nothing.
 pub mod ListCall
 pub mod ListSays
-pub mod ListTrials

@@ -1,7 +1,6 @@
 -- Listing as a call (document 01, "The job file", "Turned back, by number" and "One listing in full"): its answer, and what it leaves of the
 -- lent bytes.
 -- Assumes nothing.
-use mathlib.Core.Path.{_≡_}
 use mathlib.Core.Bool.{_||_}
 use mathlib.Core.List.{List}
 use Prim.Native.Nat.{ℕ, _+_, _^_}
@@ -12,8 +11,7 @@ use Rattle.job.specs.Job.{Job}
 use Rattle.job.specs.Listing.{listingOf}
 use Rattle.jobfile.specs.File.{Answer, accepted, turned}
 use Rattle.jobfile.specs.ListingLines.{listingBytes}
-use Rattle.joblines.specs.Layout.{workSize, SameOutside}
-use Rattle.tables.specs.Held.{JobHeld}
+use Rattle.joblines.specs.Layout.{workSize}
 use Rattle.plans.specs.Called.{admitted}
 use Rattle.listings.specs.declared.list.Listed.{Listed}
 use Rattle.listings.specs.declared.list.Listed.the-variants.{Length, Refused}
@@ -45,16 +43,3 @@ listingAfter (turned k) listing = listing
 abbrev pub listNumber : Listed → ℕ
 listNumber (Length n) = 2 ^ 48 + n
 listNumber (Refused k) = k
-
--- ---- what the parts of the call leave
-
--- the work buffer holds some job
-abbrev pub SomeJob : List ℕ → List (List ℕ) → ℕ → ℕ → ℕ → Type 0
-SomeJob work table finals states nodes = (j : Job) × JobHeld j work table finals states nodes
-
--- the listing buffer holds the listing of every job that the work buffer holds; the work buffer's bytes past the first 65,536 are as they
--- were
-pub record ListedHeld (table : List (List ℕ)) (finals states nodes : ℕ) (l m before after : List ℕ) (long : ℕ) : Type 0 where
-  pub kept : SameOutside l m 0 65536
-  pub exact
-      : (j : Job) → JobHeld j l table finals states nodes → (long ≡ length (bytesFor j)) × (after ≡ sets before 0 (bytesFor j))

@@ -14,19 +14,20 @@ use Rattle.listings.specs.declared.list.Listed.{Listed}
 use Rattle.listings.specs.declared.list.Listed.the-variants.{Length, Refused}
 use Rattle.listings.specs.ListCall.{listingSize, listAnswer, bytesFor, listedOf, listingAfter, listNumber}
 
--- the listing buffer after listing, for an answer: the listing fits, its bytes stand first and the rest is as it was; "a refusal leaves
--- plan, listing buffer and record unchanged"
-pub data ListingLeft (before after : List ℕ) : Answer → Type 0 where
+-- the listing buffer after listing, for what the file spells and what is answered: the length that is returned fits the buffer, so many
+-- bytes of the listing stand first and the rest is as it was; "a refusal leaves plan, listing buffer and record unchanged"
+pub data ListingLeft (before after : List ℕ) : Answer → Listed → Type 0 where
   listed
-      : {j : Job} → length (bytesFor j) ≤ listingSize → listingSize ≤ length before
-      → WrittenFirst (length (bytesFor j)) (bytesFor j) before after → ListingLeft before after (accepted j)
-  unchanged : {k : ℕ} → after ≡ before → ListingLeft before after (turned k)
+      : {j : Job} {n : ℕ} → n ≤ listingSize → listingSize ≤ length before → WrittenFirst n (bytesFor j) before after
+      → ListingLeft before after (accepted j) (Length n)
+  unchanged : {k : ℕ} → after ≡ before → ListingLeft before after (turned k) (Refused k)
 
--- the statement: "it writes the W and T lines from the buffer's start, changes no other byte of it"
+-- the statement: "it writes the W and T lines from the buffer's start, changes no other byte of it and returns their length"
 abbrev pub ListingBytesSay : Type 0
 ListingBytesSay =
     (file listing : List ℕ) (work : ℕ)
     → ListingLeft listing (listingAfter (listAnswer file work (length listing)) listing) (listAnswer file work (length listing))
+    (listedOf (listAnswer file work (length listing)))
 
 -- the answer that a number tells: below 2^48 a refusal, from there on the length
 abbrev pub listedRead : ℕ → Listed

@@ -1,3 +1,2 @@
-// The listing: a job file, a work buffer and a listing buffer in; what is found at each point, the plan's marks and the totals out.
-pub mod list; // list.rt: listing as a call
-pub mod print; // print.rt: what the listing program prints
+// Listing as a call: its answer. What it answers and leaves is in specs/; the call itself is the crate `listcall`.
+pub mod list; // list.rt: the answer of listing

@@ -7,10 +7,10 @@ ghost use Rattle.reader.specs.Rule.{ruleIn};
 ghost use Rattle.tables.specs.Held.{Usable};
 ghost use Rattle.planning.specs.Passes.{planIn};
 ghost use Rattle.planheld.specs.Held.{PlannedHeld};
-use classes::backwards::after_words;
+use afterwords::after_words;
 use joblines::layout::PLAN;
+use planmaking::make_plan;
 use planning::passes::Counts;
-use planning::passes::make_plan;
 use reader::table::table_in;
 
 // Copies the plan of the nodes to the plan buffer.

@@ -1,2 +1,2 @@
-// Planning in the work buffer.
-pub mod passes; // passes.rt: tries, passes, and the plan that they come to
+// Planning: definitions, and laws that the crates `enabling`, `tries` and `planmaking` cite.
+pub mod passes; // passes.rt: the counts

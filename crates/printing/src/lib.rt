@@ -1,2 +1,1 @@
-// The lines of the listing, written from what the work buffer holds.
-pub mod text; // text.rt: the W lines and the T line
+// The lines of the listing in a buffer: definitions, and laws that `pointlines` and `listlines` cite. No code.

@@ -2,12 +2,12 @@
 // A job that is cut within a line has that line's end in place of the first empty line.
 use super::large::HEAD;
 use super::large::write_counter;
+use checkcall::check_plan;
 use checking::check::Verdict;
-use checking::check::check_plan;
 use joblines::layout::WORK;
 use libc::STDOUT_FILENO;
-use listings::list::ROOM;
-use listings::print::print_job;
+use listcall::ROOM;
+use listprint::print_job;
 use reader::read::LONGEST;
 ghost use Prim.Native.Nat.{_≤_};
 

@@ -1,0 +1,96 @@
+-- `afterwords::word_row` meets its contract.
+-- Invariant: `rest` is the symbols from some number on, and `out` the states told apart by those before it.
+-- Measure: the set that is left, as a number. Each turn is one step of the walk.
+-- Assumes nothing.
+use Prim.Native.Nat.{ℕ}
+use native.Mathlib.Omega.{arith}
+use borrow.Author.Needs.{needs}
+use Rattle.laws.proofs.Walk.{rest-lt, clear-lt}
+use Rattle.tables.specs.Tables.{classRowIn}
+use Rattle.classes.specs.Backwards.{apartBy}
+use Rattle.classes.proofs.WordLaws.{WalkedRow, walked-start, word-turn, word-done}
+use Rattle.afterwords.proofs.word_row.Statement.{statement}
+use Rattle.afterwords.proofs.word_row.Tie as tie
+
+abbrev Inv-loop : tie.InvT-loop
+Inv-loop work table finals states n set p out₀ rest₀ out rest =
+    WalkedRow states set (λ (a : ℕ). apartBy table finals (classRowIn work n) a p) out rest
+
+abbrev μ-loop : tie.MeasureT-loop
+μ-loop work table finals states n set p out₀ rest₀ out rest = rest
+
+loop-holds : tie.Need-loop-holds Inv-loop μ-loop
+loop-holds c =
+    let a = c .before .args in
+    walked-start (a .states) (a .set) (λ (x : ℕ). apartBy (a .table .now) (a .finals) (classRowIn (a .work .now) (a .n)) x (a .p))
+    (c .before .fits .set .fits)
+
+lowest-requires : tie.Need-lowest-requires Inv-loop μ-loop
+lowest-requires c κs = search needs
+
+cast-a : tie.Need-cast-a Inv-loop μ-loop
+cast-a c = search needs
+
+next-state-requires : tie.Need-next-state-requires Inv-loop μ-loop
+next-state-requires c κs =
+    let pre = c .before .before .before .before .pre in
+    (pre .1 .1 .0, (omega (arith, rest-lt (c .before .before .loop .inv .left) (omega arith), c .lowest .ensures), pre .1 .1 .1 .1))
+
+class-row-requires : tie.Need-class-row-requires Inv-loop μ-loop
+class-row-requires c κs = search (needs, c .next-state .ensures .1)
+
+unlike-states-requires : tie.Need-unlike-states-requires Inv-loop μ-loop
+unlike-states-requires c κs = c .before .next-state .ensures .1
+
+preimage-under-requires : tie.Need-preimage-under-requires Inv-loop μ-loop
+preimage-under-requires c κs =
+    let pre = c .before .before .before .before .before .before .before .pre in (
+      pre .1 .1 .1 .0,
+      (
+        omega (arith, rest-lt (c .before .before .before .before .before .loop .inv .left) (omega arith), c .before .before .before .lowest .ensures),
+        pre .1 .1 .1 .1,
+      ),
+    )
+
+without-lowest-requires : tie.Need-without-lowest-requires Inv-loop μ-loop
+without-lowest-requires c κs = omega arith
+
+loop-less : tie.Need-loop-less Inv-loop μ-loop
+loop-less c =
+    let loop = c .before .before .before .before .before .before .before .loop in
+    rw (c .without-lowest .ensures) (clear-lt (loop .rest) (omega arith))
+
+loop-again : tie.Need-loop-again Inv-loop μ-loop
+loop-again c =
+    let loop = c .before .before .before .before .before .before .before .loop in
+    let a = c .before .before .before .before .before .before .before .before .before .args in
+    word-turn (a .table .now) (a .finals) (a .states) (classRowIn (a .work .now) (a .n)) (a .set) (a .p) (loop .out) (loop .rest)
+    (c .before .before .before .before .before .lowest .result) (c .before .before .before .before .next-state .result)
+    (c .before .before .before .class-row .result) (c .before .before .unlike-states .result) (c .before .preimage-under .result)
+    (c .without-lowest .result) (loop .inv) (omega arith) (c .before .before .before .before .before .lowest .ensures)
+    (c .before .before .before .before .next-state .ensures .0) (c .before .before .before .class-row .ensures)
+    (c .before .before .unlike-states .ensures) (c .before .preimage-under .ensures) (c .without-lowest .ensures)
+
+returns : tie.Need-returns Inv-loop μ-loop
+returns c =
+    let a = c .before .before .before .args in
+    word-done (a .table .now) (a .finals) (a .states) (classRowIn (a .work .now) (a .n)) (a .set) (a .p) (c .before .loop .out)
+    (c .before .loop .rest) (c .before .loop .inv) (omega arith)
+
+pub word-row-spec : {M : Type 1} → statement M
+word-row-spec =
+    tie.close
+    (tie.spec
+    Inv-loop
+    μ-loop
+    loop-holds
+    lowest-requires
+    cast-a
+    next-state-requires
+    class-row-requires
+    unlike-states-requires
+    preimage-under-requires
+    without-lowest-requires
+    loop-less
+    loop-again
+    returns)

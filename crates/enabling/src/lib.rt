@@ -1,0 +1,53 @@
+// The plan with every shadow enabled, and the enabled nodes counted.
+ghost use mathlib.Core.Path.{_≡_};
+ghost use Prim.Native.Nat.{_<_, _≤_};
+ghost use lib.ListN.{length};
+ghost use Rattle.job.specs.Planning.{shadowByte};
+ghost use Rattle.joblines.specs.Layout.{nodeIn};
+ghost use Rattle.planning.specs.Passes.{enabledTotal, AllEnabled};
+use joblines::layout::PLAN;
+use tables::places::is_enabled;
+use tables::places::is_shadow;
+
+// The plan byte with every shadow enabled.
+fn first_mark(work: &[u8], n: usize) -> usize
+    requires { ⌜ (65536 ≤ length (now work)) × (n < 512) ⌝ }
+    ensures { λ r. ⌜ r ≡ shadowByte (nodeIn (now (work .entry)) n .kind) ⌝ }
+{
+    if is_shadow(work, n) {
+        return 1;
+    }
+    0
+}
+
+// Enables every shadow, and returns how many there are.
+pub fn enable_all(work: &mut [u8], nodes: usize) -> usize
+    requires { ⌜ (65536 ≤ length (now work)) × (nodes ≤ 512) ⌝ }
+    ensures { λ r. ⌜ AllEnabled (now (work .entry)) (now (work .exit)) nodes r ⌝ }
+{
+    let mut count = 0;
+    let mut n = 0;
+    while n < nodes {
+        let mark = first_mark(work, n);
+        work[PLAN + n] = mark as u8;
+        count += mark;
+        n += 1;
+    }
+    count
+}
+
+// The number of enabled nodes.
+pub fn enabled_total(work: &[u8], nodes: usize) -> usize
+    requires { ⌜ (65536 ≤ length (now work)) × (nodes ≤ 512) ⌝ }
+    ensures { λ r. ⌜ r ≡ enabledTotal (now (work .entry)) nodes ⌝ }
+{
+    let mut total = 0;
+    let mut n = 0;
+    while n < nodes {
+        if is_enabled(work, n) {
+            total += 1;
+        }
+        n += 1;
+    }
+    total
+}

@@ -1,0 +1,46 @@
+// Listing as a call: the W and T lines in the lent listing buffer, and their length.
+ghost use mathlib.Core.Path.{_≡_};
+ghost use lib.ListN.{length};
+ghost use Rattle.plans.specs.Called.{workAfter};
+ghost use Rattle.listings.specs.ListCall.{listAnswer, listedOf, listingAfter};
+use joblines::layout::WORK;
+use listheld::list_held;
+use listings::list::Listed;
+use reader::clear::clear;
+use reader::read::LONGEST;
+use reader::read::read_job;
+
+// The smallest listing buffer.
+pub const ROOM: usize = 32768;
+
+// Lists a job. A refusal leaves the listing buffer; the work buffer is cleared unless the answer is refusal 1 or 2.
+pub fn list_job(file: &[u8], work: &mut [u8], listing: &mut [u8]) -> Listed
+    ensures { λ r. ⌜ (r ≡ listedOf (listAnswer (now (file .entry)) (length (now (work .entry))) (length (now (listing .entry)))))
+        × (now (work .exit) ≡ workAfter (listAnswer (now (file .entry)) (length (now (work .entry))) (length (now (listing .entry)))) (now (work .entry)))
+        × (now (listing .exit) ≡ listingAfter (listAnswer (now (file .entry)) (length (now (work .entry))) (length (now (listing .entry)))) (now (listing .entry))) ⌝ }
+{
+    if LONGEST < file.len() {
+        return Listed::Refused(1);
+    }
+    if work.len() < WORK {
+        return Listed::Refused(2);
+    }
+    if listing.len() < ROOM {
+        return Listed::Refused(2);
+    }
+    let head = read_job(file, work);
+    let refusal = head.refusal;
+    if refusal != 0 {
+        clear(work);
+        return Listed::Refused(refusal);
+    }
+    let length = list_held(
+        work,
+        listing,
+        head.finals as u16,
+        head.states as usize,
+        head.nodes as usize,
+    );
+    clear(work);
+    Listed::Length(length)
+}

@@ -1,0 +1,47 @@
+-- Laws of the listing of the job that the work buffer holds.
+-- Assumes nothing.
+use mathlib.Core.Path.{_≡_, sym, ap, subst}
+use mathlib.Core.List.{List}
+use Prim.Native.Nat.{ℕ, _≤_, _<_}
+use native.Mathlib.Omega.{arith}
+use lib.ListN.{length}
+use Rattle.joblines.proofs.KeptLaws.{kept-none, kept-both}
+use Rattle.tables.specs.Rows.{CellsBelow}
+use Rattle.tables.specs.Held.{Usable, JobHeld}
+use Rattle.checking.proofs.CheckLaws.{table-usable}
+use Rattle.planning.specs.declared.passes.Counts.{Counts}
+use Rattle.planning.specs.Passes.{countsOf}
+use Rattle.plans.proofs.CalledLaws.{counts-held}
+use Rattle.findings.specs.Findings.{Found}
+use Rattle.printing.specs.Printing.{LinesWritten}
+use Rattle.listheld.specs.Held.{SomeJob, ListedHeld}
+
+module _ {rule table : List (List ℕ)} {finals states nodes : ℕ} {l m : List ℕ} {counts : Counts} (same : table ≡ rule)
+    (usable : Usable l rule states nodes) (found : Found table finals states nodes l m counts) where
+  -- what the lines need: the counts of a job have few digits
+  pub lines-ready
+      : (listing : List ℕ) → 32768 ≤ length listing → SomeJob l rule finals states nodes
+      → (65536 ≤ length m) × ((nodes ≤ 512) × ((states ≤ 16) × (CellsBelow table × ((32768 ≤ length listing)
+      × ((counts .shadows < 1000000) × ((counts .enabled < 1000000) × (counts .passes < 1000000)))))))
+  lines-ready listing room some =
+      let held = subst (λ (t : List (List ℕ)). JobHeld (some .0) l t finals states nodes) (sym same) (some .1) in
+      let is : counts ≡ countsOf (some .0) = found .exact (some .0) held .1 in
+      let fit = counts-held (usable .few-nodes) held in
+      let shadows : counts .shadows < 1000000 = omega (arith, ap (λ (c : Counts). c .shadows) is, fit .shadows) in
+      let enabled : counts .enabled < 1000000 = omega (arith, ap (λ (c : Counts). c .enabled) is, fit .enabled) in
+      let passes : counts .passes < 1000000 = omega (arith, ap (λ (c : Counts). c .passes) is, fit .passes) in
+      let cells = table-usable same usable .cells in
+      (omega (arith, found .kept .long, usable .long), (usable .few-nodes, (usable .few-states, (cells, (room, (shadows, (enabled, passes)))))))
+
+  -- what was found is written
+  pub listed-held
+      : {before after : List ℕ} {long : ℕ} → LinesWritten table finals states nodes counts m before after long
+      → ListedHeld rule finals states nodes l m before after long
+  listed-held {before} {after} {long} written =
+      subst (λ (t : List (List ℕ)). ListedHeld t finals states nodes l m before after long) same (record {
+        kept = kept-both l l m 0 65536 9218 65536 (kept-none l 0 65536) (found .kept) (omega arith) (omega arith);
+        exact = λ j held.
+            let f = found .exact j held in
+            let w = written .exact j (f .0) (f .1) in
+            (w .1, w .0);
+      })

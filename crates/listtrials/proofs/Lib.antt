@@ -1,0 +1,3 @@
+-- The trials of listing pass.
+-- Assumes nothing.
+pub mod ListTrialsPass

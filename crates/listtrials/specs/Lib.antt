@@ -1,0 +1,3 @@
+-- Trials of listing.
+-- Assumes nothing.
+pub mod ListTrials

@@ -1,0 +1,32 @@
+-- `planmaking::make_plan` meets its contract: all points watched, then passes, then the count of those left.
+-- Assumes nothing.
+use borrow.Author.Needs.{needs}
+use Rattle.planning.proofs.PlanInLaws.{planning-plan, usable-kept}
+use Rattle.planning.proofs.EnabledLaws.{plan-made}
+use Rattle.planmaking.proofs.make_plan.Statement.{statement}
+use Rattle.planmaking.proofs.make_plan.Tie as tie
+
+enable-all-requires : tie.Need-enable-all-requires
+enable-all-requires c κs = search needs
+
+passes-requires : tie.Need-passes-requires
+passes-requires c κs =
+    let p = c .before .before .before .before .before .before .pre in
+    (p .0, usable-kept (planning-plan (c .before .before .before .enable-all .ensures .kept)) (p .1))
+
+enabled-total-requires : tie.Need-enabled-total-requires
+enabled-total-requires c κs = search needs
+
+same-length : tie.Need-same-length
+same-length c = search needs
+
+returns : tie.Need-returns
+returns c =
+    let u = c .before .before .before .before .before .before .before .before .before .before .before .pre .1 in
+    let all = c .before .before .before .before .before .before .before .before .enable-all .ensures in
+    plan-made u all (c .before .before .before .before .passes .ensures) (c .enabled-total .ensures)
+
+pub make-plan-spec : {M : Type 1} → statement M
+make-plan-spec =
+    tie.close
+    (tie.spec enable-all-requires passes-requires enabled-total-requires same-length returns)
