@@ -76,7 +76,7 @@ fn some_plans(random: &mut Random, job: &Job) -> Vec<Vec<u8>> {
 /// A generated job: small ones, some of them among many nodes, and some of 512 nodes.
 fn job(random: &mut Random, number: u64) -> Job {
     match number % 20 {
-        0 if number % 40 == 0 => large::job(random, Order::Flow),
+        0 if number.is_multiple_of(40) => large::job(random, Order::Flow),
         0 => large::job(random, Order::Parts),
         1 if number % 200 == 1 => Job::random(random, FULL),
         1 | 2 => {
@@ -98,7 +98,7 @@ fn job(random: &mut Random, number: u64) -> Job {
 fn damaged_file(random: &mut Random, number: u64) -> Vec<u8> {
     let job = small::job(random);
     match NUMBERS[number as usize % 8] {
-        _ if number % 2 == 0 => damaged(random, &job),
+        _ if number.is_multiple_of(2) => damaged(random, &job),
         8 if job.edges.is_empty() => faults::refused(random, &job, 10),
         refusal => faults::refused(random, &job, refusal),
     }
