@@ -32,7 +32,7 @@ fn pair() -> Rule {
 
 #[test]
 fn random_calls_agree_with_the_second_implementation() {
-    const CALLS: u64 = 2_000_000;
+    const CALLS: u64 = 4_000_000;
     let mut random = Random::of_this_run();
     let (mut quiet, mut alarm, mut refused, mut full) = (0, 0, [0; 3], 0);
     for number in 0..CALLS {

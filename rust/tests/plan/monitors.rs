@@ -96,7 +96,7 @@ fn two_records_alarm_alike_on_many_walks_of_small_jobs() {
 #[test]
 fn two_records_alarm_alike_on_walks_of_a_million_events() {
     const MOST: u64 = 1_000_000;
-    const JOBS: u64 = 3;
+    const JOBS: u64 = 8;
     let mut random = Random::fixed(14);
     let mut totals = Totals::default();
     for _ in 0..20_000 {

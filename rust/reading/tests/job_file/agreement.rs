@@ -8,7 +8,7 @@ use walks::random::Random;
 
 #[test]
 fn random_files_agree_with_the_second_reader() {
-    const FILES: u64 = 120_000;
+    const FILES: u64 = 300_000;
     let mut cases = Cases::new(Random::of_this_run());
     let mut memory = Memory::new();
     let mut counts = Counts::default();
