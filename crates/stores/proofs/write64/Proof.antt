@@ -1,10 +1,10 @@
--- `words::write64` meets its contract: a number is written by its low half and then its high half.
+-- `stores::write64` meets its contract: a number is written by its low half and then its high half.
 -- Assumes nothing.
 use mathlib.Core.Path.{sym, _∙_}
 use native.Mathlib.Omega.{arith}
 use Rattle.laws.proofs.Bytes.{put-split}
-use Rattle.words.proofs.write64.Statement.{statement}
-use Rattle.words.proofs.write64.Tie as tie
+use Rattle.stores.proofs.write64.Statement.{statement}
+use Rattle.stores.proofs.write64.Tie as tie
 
 write-quad-requires : tie.Need-write-quad-requires
 write-quad-requires c κs = omega arith

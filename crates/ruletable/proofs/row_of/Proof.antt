@@ -1,4 +1,4 @@
--- `automaton::table::row_of` meets its contract.
+-- `ruletable::row_of` meets its contract.
 -- Invariant: the cells before a are the bytes from the row's start on. Measure: the cells still to be filled.
 -- Assumes nothing.
 use Prim.Native.Nat.{ℕ, _+_, _-_, _≤_, _<_}
@@ -8,9 +8,9 @@ use native.Mathlib.Omega.{arith}
 use borrow.Author.Needs.{needs}
 use lib.ListN.{length, getD, length-set}
 use Rattle.laws.proofs.Bounded.{fill-more, fill-done}
 use Rattle.automaton.specs.Table.{rowOf}
-use Rattle.automaton.proofs.table.row_of.Statement.{statement}
-use Rattle.automaton.proofs.table.row_of.Tie as tie
+use Rattle.ruletable.proofs.row_of.Statement.{statement}
+use Rattle.ruletable.proofs.row_of.Tie as tie
 
 abbrev Inv-loop : tie.InvT-loop
 Inv-loop bytes start row₀ a₀ row a =

@@ -1,4 +1,4 @@
--- `automaton::table::table_of` meets its contract.
+-- `ruletable::table_of` meets its contract.
 -- Invariant: the rows before q are those of the bytes. Measure: the rows still to be filled.
 -- Assumes nothing.
 use Prim.Native.Nat.{ℕ, _*_, _-_, _≤_, _<_}
@@ -9,9 +9,9 @@ use native.Mathlib.Omega.{arith}
 use borrow.Author.Needs.{needs}
 use lib.ListN.{length, getD, length-set}
 use Rattle.laws.proofs.Bounded.{fill-more, fill-done}
 use Rattle.automaton.specs.Table.{rowOf, tableOf}
-use Rattle.automaton.proofs.table.table_of.Statement.{statement}
-use Rattle.automaton.proofs.table.table_of.Tie as tie
+use Rattle.ruletable.proofs.table_of.Statement.{statement}
+use Rattle.ruletable.proofs.table_of.Tie as tie
 
 abbrev Inv-loop : tie.InvT-loop
 Inv-loop bytes table₀ q₀ table q =

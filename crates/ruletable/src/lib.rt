@@ -1,8 +1,8 @@
-// The table from bytes in row order.
+// The rule's table from bytes in row order.
 ghost use mathlib.Core.Path.{_≡_};
 ghost use Prim.Native.Nat.{_+_, _≤_};
 ghost use lib.ListN.{length};
 ghost use Rattle.automaton.specs.Table.{rowOf, tableOf};
 
 // The sixteen bytes of one row.
 fn row_of(bytes: &[u8], start: usize) -> [u8; 16]

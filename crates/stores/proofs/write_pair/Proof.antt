@@ -1,11 +1,11 @@
--- `words::write_pair` meets its contract: the stores are those of `putNumber`, one after the other.
+-- `stores::write_pair` meets its contract: the stores are those of `putNumber`, one after the other.
 -- Assumes nothing.
 use native.Mathlib.Numerals.{towards-numerals}
 use native.Mathlib.Omega.{arith}
 use lib.ListN.{length-set}
 use Rattle.laws.specs.Bytes.{bytesOf, putNumber}
-use Rattle.words.proofs.write_pair.Statement.{statement}
-use Rattle.words.proofs.write_pair.Tie as tie
+use Rattle.stores.proofs.write_pair.Statement.{statement}
+use Rattle.stores.proofs.write_pair.Tie as tie
 
 cast-s : tie.Need-cast-s
 cast-s c = omega arith

@@ -1,10 +1,10 @@
--- `words::write_quad` meets its contract: a number is written by its low half and then its high half.
+-- `stores::write_quad` meets its contract: a number is written by its low half and then its high half.
 -- Assumes nothing.
 use mathlib.Core.Path.{sym, _∙_}
 use native.Mathlib.Omega.{arith}
 use Rattle.laws.proofs.Bytes.{put-split}
-use Rattle.words.proofs.write_quad.Statement.{statement}
-use Rattle.words.proofs.write_quad.Tie as tie
+use Rattle.stores.proofs.write_quad.Statement.{statement}
+use Rattle.stores.proofs.write_quad.Tie as tie
 
 write-pair-requires : tie.Need-write-pair-requires
 write-pair-requires c κs = omega arith
