@@ -3,7 +3,7 @@ ghost use Prim.Native.Nat.{_≤_};
 ghost use lib.ListN.{length, drop};
 ghost use Rattle.joblines.specs.Layout.{workSize, StartsFilled};
 ghost use Rattle.joblines.specs.ReadLines.{EdgesRead};
-use edges::edge_line;
+use edgeline::edge_line;
 use joblines::layout::STARTS;
 use joblines::layout::TARGETS;
 use stores::write16;

@@ -1,10 +1,10 @@
--- `edges::is_edge` meets its contract: each test that fails denies one part, and past them edges ascend as their keys do.
+-- `edgeline::is_edge` meets its contract: each test that fails denies one part, and past them edges ascend as their keys do.
 -- Assumes nothing.
 use native.Mathlib.Omega.{arith}
 use borrow.Author.Needs.{needs}
-use Rattle.edges.proofs.EdgeLaws.{edge-from, edge-to, edge-key}
-use Rattle.edges.proofs.is_edge.Statement.{statement}
-use Rattle.edges.proofs.is_edge.Tie as tie
+use Rattle.edgeline.proofs.EdgeLineLaws.{edge-from, edge-to, edge-key}
+use Rattle.edgeline.proofs.is_edge.Statement.{statement}
+use Rattle.edgeline.proofs.is_edge.Tie as tie
 
 returns : tie.Need-returns
 returns c = let x = c .before .args in edge-from (x .nodes) (x .next) (x .from) (x .to) (c .if1 .taken)

@@ -1,10 +1,10 @@
--- `rulelines::rule_line` meets its contract: nothing or no line, one of the three tests fails, or a row that is stored.
+-- `ruleline::rule_line` meets its contract: nothing or no line, one of the three tests fails, or a row that is stored.
 -- Assumes nothing.
 use borrow.Author.Needs.{needs}
 use lib.ListN.{drop}
-use Rattle.rulelines.proofs.RuleLineLaws.{rule-stop, rule-place, rule-mark, rule-cells, cells-small, rule-passes}
-use Rattle.rulelines.proofs.rule_line.Statement.{statement}
-use Rattle.rulelines.proofs.rule_line.Tie as tie
+use Rattle.ruleline.proofs.RuleLineLaws.{rule-stop, rule-place, rule-mark, rule-cells, cells-small, rule-passes}
+use Rattle.ruleline.proofs.rule_line.Statement.{statement}
+use Rattle.ruleline.proofs.rule_line.Tie as tie
 
 add-due-line : tie.Need-add-due-line
 add-due-line c = search needs

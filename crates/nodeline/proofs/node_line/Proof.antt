@@ -1,4 +1,4 @@
--- `nodelines::node_line` meets its contract: nothing or no line, a field that is no number, numbers that do not pass, or a node that is stored.
+-- `nodeline::node_line` meets its contract: nothing or no line, a field that is no number, numbers that do not pass, or a node that is stored.
 -- Assumes nothing.
 use mathlib.Core.Path.{sym, _∙_}
 use native.Mathlib.Omega.{arith}
@@ -6,10 +6,10 @@ use borrow.Author.Needs.{needs}
 use lib.Dec.{lit<}
 use lib.ListN.{drop, length-drop}
 use Rattle.lines.proofs.LineLaws.{frame-length}
-use Rattle.nodelines.proofs.NodeLineLaws.{node-stop, node-malformed, node-fails, node-passes}
+use Rattle.nodeline.proofs.NodeLineLaws.{node-stop, node-malformed, node-fails, node-passes}
 use Rattle.nodes.proofs.NodeLaws.{node-sizes}
-use Rattle.nodelines.proofs.node_line.Statement.{statement}
-use Rattle.nodelines.proofs.node_line.Tie as tie
+use Rattle.nodeline.proofs.node_line.Statement.{statement}
+use Rattle.nodeline.proofs.node_line.Tie as tie
 
 framed-requires : tie.Need-framed-requires
 framed-requires c κs = search needs

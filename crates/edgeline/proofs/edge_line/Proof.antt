@@ -1,4 +1,4 @@
--- `edges::edge_line` meets its contract: nothing or no line, a field that is no number, numbers that do not pass, or the key of an edge.
+-- `edgeline::edge_line` meets its contract: nothing or no line, a field that is no number, numbers that do not pass, or the key of an edge.
 -- Assumes nothing.
 use mathlib.Core.Path.{sym, _∙_}
 use native.Mathlib.Omega.{arith}
@@ -6,9 +6,9 @@ use borrow.Author.Needs.{needs}
 use lib.Dec.{lit<}
 use lib.ListN.{drop, length-drop}
 use Rattle.lines.proofs.LineLaws.{frame-length}
-use Rattle.edges.proofs.EdgeLaws.{edge-limits, edge-stop, edge-malformed, edge-fails, edge-passes}
-use Rattle.edges.proofs.edge_line.Statement.{statement}
-use Rattle.edges.proofs.edge_line.Tie as tie
+use Rattle.edgeline.proofs.EdgeLineLaws.{edge-limits, edge-stop, edge-malformed, edge-fails, edge-passes}
+use Rattle.edgeline.proofs.edge_line.Statement.{statement}
+use Rattle.edgeline.proofs.edge_line.Tie as tie
 
 framed-requires : tie.Need-framed-requires
 framed-requires c κs = search needs
