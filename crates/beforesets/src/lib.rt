@@ -8,8 +8,8 @@ use enabling::enable_all;
 use joblines::layout::FOUND;
 use points::held_states;
 use search::search::is_faithful;
+use stores::write16;
 use words::read16;
-use words::write16;
 
 // The before set of node n.
 pub fn before_set(work: &[u8], n: usize) -> u16

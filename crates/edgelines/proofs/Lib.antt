@@ -1,4 +1,4 @@
 -- The laws that the proofs of the functions cite.
 -- Assumes nothing.
 pub mod StartLaws
-pub mod EdgeLineLaws
+pub mod EdgesLaws

@@ -3,10 +3,10 @@ ghost use Prim.Native.Nat.{_≤_};
 ghost use lib.ListN.{length, drop};
 ghost use Rattle.joblines.specs.Layout.{workSize, StartsFilled};
 ghost use Rattle.joblines.specs.ReadLines.{EdgesRead};
-use edges::edge_line;
+use edgeline::edge_line;
 use joblines::layout::STARTS;
 use joblines::layout::TARGETS;
-use words::write16;
+use stores::write16;
 
 // Makes the starts of the nodes from a up to b the number v.
 fn fill_starts(work: &mut [u8], a: usize, b: usize, v: u16)

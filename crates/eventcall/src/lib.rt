@@ -25,7 +25,7 @@ fn take(rule: &[u8], states: u64, symbols: u64, finals: u64, symbol: u64, rec: &
     let state = field_in(rec, 0, 18_446_744_073_709_551_615);
     let alarms = field_in(rec, 8, 0);
     if rule.len() == 256 {
-        let table = automaton::table::table_of(rule);
+        let table = ruletable::table_of(rule);
         return lent::take_event_on(table, states, symbols, finals, symbol, state, alarms);
     }
     Taken {
@@ -40,8 +40,8 @@ fn store(rec: &mut [u8], state: u64, alarms: u64)
     requires { ⌜ length (now rec) ≡ 16 ⌝ }
     ensures { λ _. ⌜ now (rec .exit) ≡ recordBytes state alarms ⌝ }
 {
-    words::write64(rec, 0, state);
-    words::write64(rec, 8, alarms);
+    stores::write64(rec, 0, state);
+    stores::write64(rec, 8, alarms);
 }
 
 // Takes one event on the record's 16 bytes and returns 2^48 for quiet, 2^48 + 1 for alarm, or the refusal's number.

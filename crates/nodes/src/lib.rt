@@ -5,7 +5,7 @@ ghost use Prim.Native.Nat.{_<_, _≤_};
 ghost use lib.ListN.{length};
 ghost use Rattle.jobfile.specs.File.{goodValue, goodNode, nodeOf};
 ghost use Rattle.joblines.specs.Layout.{workSize, NodeStored};
-use words::write16;
+use stores::write16;
 
 // Whether a value is 0, a symbol or a set of symbols, as its kind wants.
 fn is_value(symbols: u64, kind: u64, value: u64) -> bool

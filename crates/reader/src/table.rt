@@ -12,5 +12,5 @@ pub fn table_in(work: &[u8]) -> [[u8; 16]; 16]
     requires { ⌜ workSize ≤ length (now work) ⌝ }
     ensures { λ r. ⌜ r ≡ ruleIn (now (work .entry)) ⌝ }
 {
-    automaton::table::table_of(&work[RULE..RULE_END])
+    ruletable::table_of(&work[RULE..RULE_END])
 }

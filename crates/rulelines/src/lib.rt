@@ -1,49 +1,12 @@
 // The R lines, read into the work buffer.
-ghost use Prim.Native.Nat.{_<_, _≤_};
+ghost use Prim.Native.Nat.{_≤_};
 ghost use lib.ListN.{length, drop};
 ghost use Rattle.joblines.specs.Layout.{workSize};
-ghost use Rattle.joblines.specs.ReadLines.{RuleRead, RulesRead};
-use duelines::due_line;
+ghost use Rattle.joblines.specs.ReadLines.{RulesRead};
 use framing::refused;
 use lines::line::Collected;
-use rulerows::are_below;
+use ruleline::rule_line;
 use rulerows::clear_rule;
-use rulerows::store_row;
-
-// Reads the R line at `at` as that of state q: 3, 4 or 6, or its final mark, and the row is stored.
-fn rule_line(
-    file: &[u8],
-    at: usize,
-    work: &mut [u8],
-    states: u64,
-    symbols: usize,
-    q: usize,
-) -> Collected
-    requires { ⌜ (at ≤ length (now file)) × ((workSize ≤ length (now work)) × ((states ≤ 16) × ((symbols ≤ 16) × (q < 16)))) ⌝ }
-    ensures { λ r. ⌜ RuleRead states symbols q (drop at (now (file .entry))) (now (work .entry)) (now (work .exit)) r ⌝ }
-{
-    let row = due_line(file, at, 82, symbols + 2);
-    let status = row.status;
-    if status != 0 {
-        return refused(status);
-    }
-    let f = row.numbers;
-    let place = q as u64;
-    if f[0] != place {
-        return refused(6);
-    }
-    if 1 < f[1] {
-        return refused(6);
-    }
-    if are_below(&f, states, symbols) {
-        store_row(work, q, &f);
-        return Collected {
-            status: 0,
-            number: f[1],
-        };
-    }
-    refused(6)
-}
 
 // Reads the R lines from `at` on: 3, 4 or 6, or the set of final states, and the rule is stored.
 pub fn rule_lines(file: &[u8], at: usize, work: &mut [u8], states: u64, symbols: usize) -> Collected

@@ -4,8 +4,8 @@ ghost use Prim.Native.Nat.{_<_, _≤_};
 ghost use lib.ListN.{length};
 ghost use Rattle.tables.specs.Tables.{pairRowIn, classRowIn, Zeroed, PairsJoined, NextMarked, MarksTaken, ApartGrown};
 use sets::insert;
+use stores::write16;
 use words::read16;
-use words::write16;
 
 // Where the rows of pairs, the class rows and the marks lie.
 pub const PAIRS: usize = 9218;

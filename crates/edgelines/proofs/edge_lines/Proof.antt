@@ -7,7 +7,7 @@ use mathlib.Core.Path.{_∙_}
 use native.Mathlib.Omega.{arith}
 use borrow.Author.Needs.{needs}
 use lib.ListN.{drop, length-drop}
-use Rattle.edgelines.proofs.EdgeLineLaws.{EdgesSoFar, edges-none, edges-stop, edges-more, edges-end, done-reaches}
+use Rattle.edgelines.proofs.EdgesLaws.{EdgesSoFar, edges-none, edges-stop, edges-more, edges-end, done-reaches}
 use Rattle.edgelines.proofs.edge_lines.Statement.{statement}
 use Rattle.edgelines.proofs.edge_lines.Tie as tie
 

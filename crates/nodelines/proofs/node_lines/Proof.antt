@@ -6,7 +6,7 @@ use mathlib.Core.Path.{_∙_}
 use native.Mathlib.Omega.{arith}
 use borrow.Author.Needs.{needs}
 use lib.ListN.{drop, length-drop}
-use Rattle.nodelines.proofs.NodeLineLaws.{NodesSoFar, nodes-none, nodes-more, nodes-stop, nodes-end}
+use Rattle.nodelines.proofs.NodesLaws.{NodesSoFar, nodes-none, nodes-more, nodes-stop, nodes-end}
 use Rattle.nodelines.proofs.node_lines.Statement.{statement}
 use Rattle.nodelines.proofs.node_lines.Tie as tie
 

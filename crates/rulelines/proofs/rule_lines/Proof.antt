@@ -6,7 +6,7 @@ use mathlib.Core.Path.{_∙_}
 use native.Mathlib.Omega.{arith}
 use borrow.Author.Needs.{needs}
 use lib.ListN.{drop, length-drop}
-use Rattle.rulelines.proofs.RuleLineLaws.{RulesSoFar, rules-none, rules-more, rules-stop, rules-end}
+use Rattle.rulelines.proofs.RulesLaws.{RulesSoFar, rules-none, rules-more, rules-stop, rules-end}
 use Rattle.rulelines.proofs.rule_lines.Statement.{statement}
 use Rattle.rulelines.proofs.rule_lines.Tie as tie
 

@@ -1,3 +1,0 @@
--- The laws that the proofs of the functions cite.
--- Assumes nothing.
-pub mod EdgeLaws
