@@ -1,13 +1,18 @@
 -- Calls on two records do not meet: what is seen on either, in a list of entries or of single calls, is the run of that record's own calls.
--- So any order in which each record's own calls keep theirs shows the same.
+-- So any order in which each record's own calls keep theirs shows the same. And any two lists of own calls, full's of all events and planned's
+-- of those that it is given, are merged event by event into a list of entries.
 -- Assumes nothing.
-use mathlib.Core.Path.{_≡_, refl, sym, ap, _∙_}
-use mathlib.Core.Bool.{Bool, true, false, cond}
-use mathlib.Core.List.{List, [], _∷_}
+use mathlib.Core.Path.{_≡_, refl, sym, ap, _∙_, subst}
+use mathlib.Core.Bool.{Bool, true, false, cond, true≢false}
+use mathlib.Core.List.{List, [], _∷_, head-eq-of-cons-eq, tail-eq-of-cons-eq}
+use native.Mathlib.Omega.{arith}
+use lib.ListN.{length}
+use Rattle.automaton.specs.Automaton.{Automaton}
 use Rattle.monitor.specs.Form.{EventForm}
 use Rattle.monitor.specs.Run.{Seen, seen, run, consIf}
-use Rattle.job.specs.Plan.{Enabling, takes}
-use Rattle.job.specs.Monitors.{Entry, walked, on-full, on-planned, elsewhere, Both, afterEntry, Single, to-full, to-planned, to-another, callsToFull, callsToPlanned, afterSingle, seenOnFull, seenOnPlanned, entriesToFull, entriesToPlanned, entriesOnFull, entriesOnPlanned, AnyOrder}
+use Rattle.job.specs.Walk.{Event, symbolOf}
+use Rattle.job.specs.Plan.{Enabling, takes, enables}
+use Rattle.job.specs.Monitors.{Entry, walked, on-full, on-planned, elsewhere, eventsIn, Both, afterEntry, ProperList, Single, to-full, to-planned, to-another, callsToFull, callsToPlanned, afterSingle, seenOnFull, seenOnPlanned, entriesToFull, entriesToPlanned, entriesOnFull, entriesOnPlanned, SeenAlike, OwnCall, takes-event, is-refused, ownEvents, ownCalls, ProperOwn, givenOf, AllListed, AnyOrder}
 
 -- ---- a list of single calls
 
@@ -61,9 +66,119 @@ entries-planned f w t (on-planned c ∷ cs) =
 entries-planned f w t (elsewhere c h ∷ cs) = entries-planned f w t cs
 
 -- in any order of the calls the same is seen
-pub any-order : (f : EventForm) → AnyOrder f
-any-order f w t cs xs same =
+seen-alike : (f : EventForm) → SeenAlike f
+seen-alike f w t cs xs same =
     record {
       full = singles-full f t xs ∙ ap (run f (t .full)) (same .full) ∙ sym (entries-full f w t cs);
       planned = singles-planned f t xs ∙ ap (run f (t .planned)) (same .planned) ∙ sym (entries-planned f w t cs);
     }
+
+-- ---- two lists of own calls, merged
+
+module _ (f : EventForm) (rule : Automaton) (w : Enabling) where
+  -- a list of entries with these own calls
+  record Merged (t : Both f) (xs ys : List (OwnCall f)) : Type 0 where
+    calls : List (Entry f)
+    events : eventsIn calls ≡ ownEvents xs
+    proper : ProperList rule w t calls
+    full : entriesToFull calls ≡ ownCalls xs
+    planned : entriesToPlanned w calls ≡ ownCalls ys
+
+  -- full's own calls can be merged with planned's, from any two records
+  abbrev Merges : List (OwnCall f) → Type 0
+  Merges xs =
+      (t : Both f) (ys : List (OwnCall f)) → ownEvents ys ≡ givenOf w (ownEvents xs) → ProperOwn rule (t .full) xs
+      → ProperOwn rule (t .planned) ys → Merged t xs ys
+
+  -- a refused call of planned before the others
+  merged-planned
+      : (t : Both f) (d : f .Call) (xs ys : List (OwnCall f)) → f .refusal (f .answer d (t .planned)) ≡ true
+      → Merged (afterEntry w t (on-planned d)) xs ys → Merged t xs (is-refused d ∷ ys)
+  unfolding eventsIn ProperList entriesToFull entriesToPlanned ownCalls
+  merged-planned t d xs ys q r =
+      record {
+        calls = on-planned d ∷ r .calls;
+        events = r .events;
+        proper = (q, r .proper);
+        full = r .full;
+        planned = ap (λ (l : List (f .Call)). d ∷ l) (r .planned);
+      }
+
+  -- full has no call more
+  merge-none : Merges []
+  unfolding eventsIn afterEntry ProperList entriesToFull entriesToPlanned ownEvents ownCalls ProperOwn givenOf
+  merge-none t [] h p q = record { calls = []; events = refl; proper = tt; full = refl; planned = refl }
+  merge-none t (is-refused d ∷ ys) h p q = merged-planned t d [] ys (q .0) (merge-none (afterEntry w t (on-planned d)) ys h p (q .1))
+  merge-none t (takes-event e d ∷ ys) h p q = let z = ap length h in absurd (omega (arith, z))
+
+  -- full's next event is given to planned too
+  merge-given
+      : (e : Event) (c : f .Call) (xs : List (OwnCall f)) → takes w e ≡ true → Merges xs → (t : Both f) (ys : List (OwnCall f))
+      → ownEvents ys ≡ e ∷ givenOf w (ownEvents xs) → ProperOwn rule (t .full) (takes-event e c ∷ xs) → ProperOwn rule (t .planned) ys
+      → Merged t (takes-event e c ∷ xs) ys
+  unfolding eventsIn afterEntry ProperList entriesToFull entriesToPlanned ownEvents ownCalls ProperOwn
+  merge-given e c xs g merge t [] h p q = let z = ap length h in absurd (omega (arith, z))
+  merge-given e c xs g merge t (is-refused d ∷ ys) h p q =
+      merged-planned t d (takes-event e c ∷ xs) ys (q .0) (merge-given e c xs g merge (afterEntry w t (on-planned d)) ys h p (q .1))
+  merge-given e c xs g merge t (takes-event u d ∷ ys) h p q =
+      let r =
+      merge (afterEntry w t (walked e c d)) ys (tail-eq-of-cons-eq h) (p .1)
+      (subst (λ (b : Bool). ProperOwn rule (cond b (f .left d (t .planned)) (t .planned)) ys) (sym g) (q .1)) in
+      record {
+        calls = walked e c d ∷ r .calls;
+        events = ap (λ (l : List Event). e ∷ l) (r .events);
+        proper = (p .0, λ y. subst (λ (v : Event). f .Gives rule (symbolOf v) d (t .planned)) (head-eq-of-cons-eq h) (q .0), r .proper);
+        full = ap (λ (l : List (f .Call)). c ∷ l) (r .full);
+        planned =
+            ap (λ (b : Bool). consIf b d (entriesToPlanned w (r .calls))) g ∙ ap (λ (l : List (f .Call)). d ∷ l) (r .planned);
+      }
+
+  -- it is not
+  merge-skipped
+      : (e : Event) (c : f .Call) (xs : List (OwnCall f)) → takes w e ≡ false → Merges xs → (t : Both f) (ys : List (OwnCall f))
+      → ownEvents ys ≡ givenOf w (ownEvents xs) → ProperOwn rule (t .full) (takes-event e c ∷ xs) → ProperOwn rule (t .planned) ys
+      → Merged t (takes-event e c ∷ xs) ys
+  unfolding eventsIn afterEntry ProperList entriesToFull entriesToPlanned ownEvents ownCalls ProperOwn
+  merge-skipped e c xs g merge t ys h p q =
+      let r =
+      merge (afterEntry w t (walked e c c)) ys h (p .1)
+      (subst (λ (b : Bool). ProperOwn rule (cond b (f .left c (t .planned)) (t .planned)) ys) (sym g) q) in
+      record {
+        calls = walked e c c ∷ r .calls;
+        events = ap (λ (l : List Event). e ∷ l) (r .events);
+        proper = (p .0, λ y. absurd (true≢false (sym y ∙ g)), r .proper);
+        full = ap (λ (l : List (f .Call)). c ∷ l) (r .full);
+        planned = ap (λ (b : Bool). consIf b c (entriesToPlanned w (r .calls))) g ∙ r .planned;
+      }
+
+  -- all of full's calls
+  merge : (xs : List (OwnCall f)) → Merges xs
+  unfolding eventsIn afterEntry ProperList entriesToFull entriesToPlanned ownEvents ownCalls ProperOwn givenOf
+  merge [] t ys h p q = merge-none t ys h p q
+  merge (is-refused c ∷ xs) t ys h p q =
+      let r = merge xs (afterEntry w t (on-full c)) ys h (p .1) q in
+      record {
+        calls = on-full c ∷ r .calls;
+        events = r .events;
+        proper = (p .0, r .proper);
+        full = ap (λ (l : List (f .Call)). c ∷ l) (r .full);
+        planned = r .planned;
+      }
+  merge (takes-event e c ∷ xs) t ys h p q = go (merge xs) (takes w e) refl h
+    where
+      go
+          : Merges xs → (b : Bool) → takes w e ≡ b → ownEvents ys ≡ consIf b e (givenOf w (ownEvents xs))
+          → Merged t (takes-event e c ∷ xs) ys
+      go rest true g i = merge-given e c xs g rest t ys i p q
+      go rest false g i = merge-skipped e c xs g rest t ys i p q
+
+-- whatever calls the records get, there is a list with them
+all-listed : (f : EventForm) → AllListed f
+all-listed f j plan s k t xs ys e d p q =
+    let r =
+    merge f (j .rule) (enables plan) xs t ys (d ∙ ap (givenOf (enables plan)) (sym e)) p q in
+    (record { calls = r .calls; events = r .events ∙ e; proper = r .proper }, r .full, r .planned)
+
+-- that an event's two calls are one entry loses nothing
+pub any-order : (f : EventForm) → AnyOrder f
+any-order f = record { listed = all-listed f; seen = seen-alike f }

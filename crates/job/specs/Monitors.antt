@@ -287,5 +287,47 @@ pub record SameSeen {f : EventForm} (w : Enabling) (t : Both f) (cs : List (Entr
   pub planned : seenOnPlanned t xs ≡ entriesOnPlanned w t cs
 
 -- the statement: in any order of the calls on two records, in which each record's own calls keep theirs, the same is seen
-abbrev pub AnyOrder : EventForm → Type 0
-AnyOrder f = (w : Enabling) (t : Both f) (cs : List (Entry f)) (xs : List (Single f)) → SameCalls w cs xs → SameSeen w t cs xs
+abbrev pub SeenAlike : EventForm → Type 0
+SeenAlike f = (w : Enabling) (t : Both f) (cs : List (Entry f)) (xs : List (Single f)) → SameCalls w cs xs → SameSeen w t cs xs
+
+-- a record's own call: that of an event, or a refused one between
+pub data OwnCall (f : EventForm) : Type 0 where
+  takes-event : Event → f .Call → OwnCall f
+  is-refused : f .Call → OwnCall f
+
+-- the events among them
+unfoldable pub ownEvents : {f : EventForm} → List (OwnCall f) → List Event
+ownEvents [] = []
+ownEvents (takes-event e c ∷ xs) = e ∷ ownEvents xs
+ownEvents (is-refused c ∷ xs) = ownEvents xs
+
+-- the calls
+unfoldable pub ownCalls : {f : EventForm} → List (OwnCall f) → List (f .Call)
+ownCalls [] = []
+ownCalls (takes-event e c ∷ xs) = c ∷ ownCalls xs
+ownCalls (is-refused c ∷ xs) = c ∷ ownCalls xs
+
+-- each event's call gets the rule, the event's symbol and the record as the call before left it, and every other is refused
+unfoldable pub ProperOwn : {f : EventForm} → Automaton → f .Held → List (OwnCall f) → Type 0
+ProperOwn rule h [] = Unit {0}
+ProperOwn {f} rule h (takes-event e c ∷ xs) = f .Gives rule (symbolOf e) c h × ProperOwn rule (f .left c h) xs
+ProperOwn {f} rule h (is-refused c ∷ xs) = (f .refusal (f .answer c h) ≡ true) × ProperOwn rule (f .left c h) xs
+
+-- the events that planned is given
+unfoldable pub givenOf : Enabling → List Event → List Event
+givenOf w [] = []
+givenOf w (e ∷ es) = consIf (takes w e) e (givenOf w es)
+
+-- the statement: whatever calls full gets on a walk, and planned on the events that it is given, there is a list of entries with these calls
+abbrev pub AllListed : EventForm → Type 0
+AllListed f =
+    (j : Job) (plan : List ℕ) (s : Start j) (k : WalkFrom j s) (t : Both f) (xs ys : List (OwnCall f)) → ownEvents xs ≡ k .events
+    → ownEvents ys ≡ givenOf (enables plan) (k .events) → ProperOwn (j .rule) (t .full) xs → ProperOwn (j .rule) (t .planned) ys
+    → (c : ListOn f j plan s k t)
+    × (entriesToFull (c .calls) ≡ ownCalls xs)
+    × (entriesToPlanned (enables plan) (c .calls) ≡ ownCalls ys)
+
+-- both: every two lists of own calls are those of a list of entries, and any order of them shows what it does
+pub record AnyOrder (f : EventForm) : Type 0 where
+  pub listed : AllListed f
+  pub seen : SeenAlike f
