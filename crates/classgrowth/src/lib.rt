@@ -1,66 +1,14 @@
 // The growth of the class rows from the after words of the exits, backwards over the edges.
-ghost use mathlib.Core.Path.{_≡_};
 ghost use Prim.Native.Nat.{_<_, _≤_};
 ghost use lib.ListN.{length};
 ghost use Rattle.tables.specs.Rows.{CellsBelow};
 ghost use Rattle.tables.specs.Held.{EdgesWithin, Usable};
 ghost use Rattle.classes.specs.Backwards.{ClassesFound};
-ghost use Rattle.classes.specs.Classes.{beforeRow, NextRow, NodeGrown, ClassesGrown};
+ghost use Rattle.classes.specs.Classes.{NodeGrown, ClassesGrown};
 use afterwords::word_row;
-use tables::moves::next_state;
-use tables::moves::preimage_under;
-use tables::moves::unlike_states;
+use successors::successor_row;
 use tables::places::call_set;
-use tables::places::is_shadow;
-use tables::places::start_at;
-use tables::places::symbol_at;
-use tables::places::target_at;
-use tables::rows::class_row;
 use tables::rows::join_classes;
-
-// The states told apart from p before node m.
-fn before_row(
-    work: &[u8],
-    table: &[[u8; 16]; 16],
-    finals: u16,
-    states: usize,
-    m: usize,
-    p: usize,
-) -> u16
-    requires { ⌜ (65536 ≤ length (now work)) × ((m < 512) × ((p < 16) × ((states ≤ 16) × CellsBelow (now table)))) ⌝ }
-    ensures { λ r. ⌜ r ≡ beforeRow (now (table .entry)) finals states (now (work .entry)) m p ⌝ }
-{
-    if is_shadow(work, m) {
-        let a = symbol_at(work, m);
-        let state = next_state(table, p, a);
-        let apart = class_row(work, m, state) | unlike_states(finals, state);
-        return preimage_under(table, states, a, apart);
-    }
-    class_row(work, m, p)
-}
-
-// The states told apart from p before some successor of node n.
-fn successor_row(
-    work: &[u8],
-    table: &[[u8; 16]; 16],
-    finals: u16,
-    states: usize,
-    n: usize,
-    p: usize,
-) -> u16
-    requires { ⌜ (65536 ≤ length (now work)) × ((n < 512) × ((p < 16) × ((states ≤ 16) × (CellsBelow (now table) × EdgesWithin (now work) n)))) ⌝ }
-    ensures { λ r. ⌜ NextRow (now (table .entry)) finals states (now (work .entry)) n p r ⌝ }
-{
-    let end = start_at(work, n + 1);
-    let mut out = 0;
-    let mut i = start_at(work, n);
-    while i < end {
-        let m = target_at(work, i);
-        out = out | before_row(work, table, finals, states, m, p);
-        i += 1;
-    }
-    out
-}
 
 // Joins into the rows of node n what they and the rows of its successors tell apart: the number of rows that grew.
 fn class_node(

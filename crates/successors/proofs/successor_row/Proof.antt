@@ -1,4 +1,4 @@
--- `classgrowth::successor_row` meets its contract.
+-- `successors::successor_row` meets its contract.
 -- Invariant: `out` has the states told apart before the ends of the edges below i.
 -- Measure: the edges still to be passed.
 -- Assumes nothing.
@@ -8,8 +8,8 @@ use native.Mathlib.Omega.{arith}
 use borrow.Author.Needs.{needs}
 use Rattle.joblines.specs.Layout.{startIn}
 use Rattle.classes.proofs.ClassLaws.{NextSoFar, next-start, next-more, next-end}
-use Rattle.classgrowth.proofs.successor_row.Statement.{statement}
-use Rattle.classgrowth.proofs.successor_row.Tie as tie
+use Rattle.successors.proofs.successor_row.Statement.{statement}
+use Rattle.successors.proofs.successor_row.Tie as tie
 
 abbrev Inv-loop : tie.InvT-loop
 Inv-loop work table finals states n p end out₀ i₀ out i = NextSoFar table finals states work n p i out

@@ -1,11 +1,11 @@
--- `classgrowth::before_row` meets its contract.
+-- `successors::before_row` meets its contract.
 -- At a shadow by the symbol that stands there, at any other node by its own row.
 -- Assumes nothing.
 use mathlib.Core.Path.{sym, _∙_}
 use borrow.Author.Needs.{needs}
 use Rattle.classes.proofs.ClassLaws.{before-shadow, before-other}
-use Rattle.classgrowth.proofs.before_row.Statement.{statement}
-use Rattle.classgrowth.proofs.before_row.Tie as tie
+use Rattle.successors.proofs.before_row.Statement.{statement}
+use Rattle.successors.proofs.before_row.Tie as tie
 
 is-shadow-requires : tie.Need-is-shadow-requires
 is-shadow-requires c κs = search needs
