@@ -7,16 +7,16 @@ ghost use Rattle.tables.specs.Held.{EdgesWithin, Usable};
 ghost use Rattle.classes.specs.Backwards.{ClassesFound};
 ghost use Rattle.classes.specs.Classes.{beforeRow, NextRow, NodeGrown, ClassesGrown};
 use super::backwards::word_row;
-use tables::moves::next_state;
-use tables::moves::preimage_under;
-use tables::moves::unlike_states;
-use tables::places::call_set;
-use tables::places::is_shadow;
-use tables::places::start_at;
-use tables::places::symbol_at;
-use tables::places::target_at;
-use tables::rows::class_row;
-use tables::rows::join_classes;
+use classrows::class_row;
+use classrows::join_classes;
+use moves::next_state;
+use moves::preimage_under;
+use moves::unlike_states;
+use places::call_set;
+use places::is_shadow;
+use places::start_at;
+use places::symbol_at;
+use places::target_at;
 
 // The states told apart from p before node m.
 fn before_row(

@@ -7,9 +7,9 @@ ghost use Rattle.joblines.specs.Layout.{nodeIn};
 ghost use Rattle.tables.specs.Held.{Usable};
 ghost use Rattle.planning.specs.Passes.{enabledTotal, AllEnabled, TriedAt, FirstGone, LastGone, PassMade, PassesMade, PlanMade};
 use joblines::layout::PLAN;
+use places::is_enabled;
+use places::is_shadow;
 use search::search::is_faithful;
-use tables::places::is_enabled;
-use tables::places::is_shadow;
 
 // The counts of event nodes, watched points and passes.
 pub struct Counts {

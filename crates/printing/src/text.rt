@@ -7,10 +7,10 @@ ghost use Rattle.printing.specs.Printing.{byteOf, PointWritten, PointsWr
 use classes::found::class_count;
 use classes::found::is_nop;
 use findings::found::before_set;
+use places::is_enabled;
+use places::is_shadow;
+use places::symbol_at;
 use planning::passes::Counts;
-use tables::places::is_enabled;
-use tables::places::is_shadow;
-use tables::places::symbol_at;
 use writer::write_shadow_line;
 use writer::write_total_line;
 
