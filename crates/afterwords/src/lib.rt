@@ -6,15 +6,15 @@ ghost use Rattle.tables.specs.Rows.{CellsBelow};
 ghost use Rattle.tables.specs.Tables.{classRowIn};
 ghost use Rattle.tables.specs.Held.{Usable};
 ghost use Rattle.classes.specs.Backwards.{wordRow, WordsGrown, WordsClosed, AfterWords};
+use classrows::class_row;
+use classrows::join_classes;
+use moves::next_state;
+use moves::preimage_under;
+use moves::unlike_states;
+use parts::clear_classes;
+use places::after_set;
 use sets::lowest;
 use sets::without_lowest;
-use tables::moves::next_state;
-use tables::moves::preimage_under;
-use tables::moves::unlike_states;
-use tables::places::after_set;
-use tables::rows::class_row;
-use tables::rows::clear_classes;
-use tables::rows::join_classes;
 
 // The states told apart from p by a symbol of the set, with what the rows of node n hold for the states that it leads to.
 pub fn word_row(

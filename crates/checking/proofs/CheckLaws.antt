@@ -30,7 +30,7 @@ use Rattle.checking.specs.declared.check.Verdict.{Verdict}
 use Rattle.checking.specs.declared.check.Verdict.the-variants.{Faithful, Different, Refused}
 use Rattle.tables.specs.Tables.{SearchKept}
 use Rattle.tables.specs.Held.{Usable, JobHeld, PlanHeld}
-use Rattle.search.specs.Looking.{SearchedAt}
+use Rattle.search.specs.Searched.{SearchedAt}
 use Rattle.classes.specs.Backwards.{AfterWords}
 use Rattle.checking.specs.Checking.{goodMark, judged, answered, checked, refusedLeft, workLeft, PlanStored, Judged}
 use Rattle.tables.proofs.JobKeptLaws.{FrontKept, front-kept, front-usable, front-job}

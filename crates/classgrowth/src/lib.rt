@@ -6,9 +6,9 @@ ghost use Rattle.tables.specs.Held.{EdgesWithin, Usable};
 ghost use Rattle.classes.specs.Backwards.{ClassesFound};
 ghost use Rattle.classes.specs.Classes.{NodeGrown, ClassesGrown};
 use afterwords::word_row;
-use successors::successor_row;
-use tables::places::call_set;
-use tables::rows::join_classes;
+use classrows::join_classes;
+use nextrows::successor_row;
+use places::call_set;
 
 // Joins into the rows of node n what they and the rows of its successors tell apart: the number of rows that grew.
 fn class_node(

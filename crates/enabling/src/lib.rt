@@ -6,8 +6,8 @@ ghost use Rattle.job.specs.Planning.{shadowByte};
 ghost use Rattle.joblines.specs.Layout.{nodeIn};
 ghost use Rattle.planning.specs.Passes.{enabledTotal, AllEnabled};
 use joblines::layout::PLAN;
-use tables::places::is_enabled;
-use tables::places::is_shadow;
+use places::is_enabled;
+use places::is_shadow;
 
 // The plan byte with every shadow enabled.
 fn first_mark(work: &[u8], n: usize) -> usize

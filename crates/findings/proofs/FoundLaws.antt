@@ -20,7 +20,7 @@ use Rattle.tables.specs.Tables.{pairRowIn}
 use Rattle.tables.specs.Held.{Usable, JobHeld, PlanHeld, AfterHeld}
 use Rattle.tables.proofs.JobKeptLaws.{front-kept, front-usable, front-job, after-words-kept}
 use Rattle.tables.proofs.SetLaws.{set-of-lt, set-of-cong}
-use Rattle.search.specs.Looking.{SearchedAt}
+use Rattle.search.specs.Searched.{SearchedAt}
 use Rattle.search.proofs.SearchLaws.{event-node}
 use Rattle.search.proofs.AllEnabled.{all-enabled-finds}
 use Rattle.classes.specs.Backwards.{AfterWords, ClassesFound, heldStates}

@@ -6,7 +6,7 @@ ghost use Rattle.laws.specs.Bounded.{allBelow};
 ghost use Rattle.joblines.specs.Layout.{nodeIn};
 ghost use Rattle.checking.specs.Checking.{goodMark, PlanStored};
 use joblines::layout::PLAN;
-use tables::places::is_shadow;
+use places::is_shadow;
 
 // Whether node n may have the plan byte: 0, or 1 at a shadow.
 fn is_mark(work: &[u8], n: usize, mark: u8) -> bool

@@ -16,7 +16,7 @@ use Rattle.job.proofs.PlanBytes.{set-back, count-set}
 use Rattle.job.proofs.PassLaws.{tried-disabled, tried-needed, tried-removed}
 use Rattle.tables.specs.Tables.{enabledIn}
 use Rattle.tables.specs.Held.{Usable, JobHeld, AfterHeld}
-use Rattle.search.specs.Looking.{SearchedAt}
+use Rattle.search.specs.Searched.{SearchedAt}
 use Rattle.planning.specs.Passes.{planIn, PlanningKept, TriedAt}
 use Rattle.planning.proofs.PlanInLaws.{plan-in-held, plan-in-set, plan-in-enables, plan-in-same}
 use Rattle.planning.proofs.PlanInLaws.{planning-none, planning-both, planning-search, planning-plan, plan-stored}

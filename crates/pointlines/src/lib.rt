@@ -5,11 +5,11 @@ ghost use lib.ListN.{length};
 ghost use Rattle.tables.specs.Rows.{CellsBelow};
 ghost use Rattle.printing.specs.Printing.{byteOf, PointWritten};
 use beforesets::before_set;
+use places::is_enabled;
+use places::is_shadow;
+use places::symbol_at;
 use points::class_count;
 use points::is_nop;
-use tables::places::is_enabled;
-use tables::places::is_shadow;
-use tables::places::symbol_at;
 use writer::write_shadow_line;
 
 // A mark as a number: 1 or 0.

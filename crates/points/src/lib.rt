@@ -6,14 +6,14 @@ ghost use lib.ListN.{length};
 ghost use Rattle.laws.specs.Bounded.{sumBelow};
 ghost use Rattle.tables.specs.Rows.{CellsBelow};
 ghost use Rattle.classes.specs.Backwards.{heldStates, isLowest, lowestStates, isNop};
+use classrows::class_row;
+use moves::next_state;
+use rows::pair_row;
 use sets::contains;
 use sets::count;
 use sets::insert;
 use sets::lowest;
 use sets::without_lowest;
-use tables::moves::next_state;
-use tables::rows::class_row;
-use tables::rows::pair_row;
 
 // The states whose rows at node n hold pairs.
 pub fn held_states(work: &[u8], n: usize, states: usize) -> u16

@@ -5,7 +5,7 @@ use mathlib.Core.Bool.{true}
 use Rattle.job.specs.Planning.{allEnabled}
 use Rattle.job.proofs.Decide.{faithful-says}
 use Rattle.job.proofs.PlanningResult.{all-enabled-faithful}
-use Rattle.search.specs.Looking.{AllEnabledFinds}
+use Rattle.search.specs.Searched.{AllEnabledFinds}
 
 -- the answer is faithful, and so the rows are those of the states that arrive
 pub all-enabled-finds : AllEnabledFinds

@@ -4,17 +4,14 @@ use mathlib.Core.Path.{_≡_, refl, sym, ap, subst, _∙_}
 use mathlib.Core.Logic.{⊎-elim}
 use mathlib.Core.Bool.{true, false, not, true≢false}
 use mathlib.Core.List.{List}
-use Prim.Native.Nat.{ℕ, zero, suc, _^_, _≤_, _<_}
+use Prim.Native.Nat.{ℕ, _≤_, _<_}
 use native.Mathlib.Nat.{lt-of-not-le}
 use native.Mathlib.Omega.{arith}
 use lib.Dec.{eqb}
-use lib.Count.{trailingZeros}
-use native.Mathlib.Nat.{pow-suc}
 use lib.ListN.{length, List·getD-eq-default}
 use borrow.Author.Tests.{eqb-true, eqb-false}
 use Rattle.laws.specs.Bits.{has}
 use Rattle.laws.proofs.Bits.{has-empty}
-use Rattle.laws.proofs.Walk.{trailing-member}
 use Rattle.laws.proofs.Tests.{passes-or-fails, same-or-contrary}
 use Rattle.automaton.specs.Automaton.{next, final}
 use Rattle.job.specs.Job.{Kind, plain, event, call, Node, Job, nodeAt, noNode, leads, WellFormedJob}
@@ -29,29 +26,17 @@ use Rattle.job.proofs.Rules.{pair-different, faithful-true, arrives-true, arriv
 use Rattle.job.proofs.Nodes.{Table, NoEvent, plain-no-event, call-no-event, PastNode, past-silent, past-event, Spelt, no-word, one-more, past-map}
 use Rattle.job.proofs.Nodes.{PairAt, pair-at-start, pair-at-event, pair-at-silent, past-pair, pair-at-edge, pair-at-word, pair-at-within}
 use Rattle.job.proofs.Nodes.{ReachedIn, NodeKept, NodeInvariant, node-kept, node-invariant, word-apart}
-use Rattle.tables.specs.Tables.{Held, pairRowIn, classRowIn, marksIn, SearchKept}
+use Rattle.tables.specs.Tables.{Held, pairRowIn, classRowIn, SearchKept}
 use Rattle.tables.specs.Held.{Usable, JobHeld, PlanHeld, AfterHeld}
-use Rattle.search.specs.Looking.{pastState, pastNode, Follows, over-edge, by-word, ClosedPair, ClosedAt}
-use Rattle.search.specs.Looking.{SplitPair, split-point, split-call, split-exit, Following, held-first, follows}
-use Rattle.search.specs.Looking.{Settled, Started, Rounded, RoundedAt, SearchedAt}
-use Rattle.search.specs.declared.search.Seen.{Seen}
-use Rattle.search.specs.declared.search.Seen.the-variants.{Nothing, Rows, Difference}
+use Rattle.look.specs.Looking.{pastState, pastNode, Follows, over-edge, by-word, ClosedPair, SplitPair, split-point, split-call, split-exit}
+use Rattle.rounds.specs.Rounds.{ClosedAt, Following, held-first, follows, Settled, Rounded, RoundedAt}
+use Rattle.search.specs.Searched.{SearchedAt}
+use Rattle.starts.specs.Started.{Started}
+use Rattle.rounds.proofs.RoundLaws.{nothing-difference, rows-difference}
+use Rattle.rounds.specs.declared.Seen.{Seen}
+use Rattle.rounds.specs.declared.Seen.the-variants.{Nothing, Rows, Difference}
+use Rattle.tables.proofs.RowLaws.{any-member, has-nothing}
 use Rattle.tables.proofs.KeptLaws.{search-kept-none, search-kept-both, node-same, class-same, usable-same, job-same, plan-same}
-
--- ---- sets
-
--- a number is below its power
-below-power : (n : ℕ) → n < 2 ^ n
-below-power zero = omega arith
-below-power (suc n) = omega (arith, below-power n, pow-suc 2 n)
-
--- a set that is not 0 has a member
-pub has-some : (s : ℕ) → (s ≡ 0 → ⊥) → (q : ℕ) × (has s q ≡ true)
-has-some s ne = (trailingZeros s s, trailing-member s s (omega arith) (below-power s))
-
--- the set 0 has none
-pub has-nothing : {s : ℕ} (q : ℕ) → s ≡ 0 → has s q ≡ true → ⊥
-has-nothing {s} q e h = true≢false (sym h ∙ ap (λ (x : ℕ). has x q) e ∙ has-empty q)
 
 -- ---- past a node
 
@@ -218,24 +203,12 @@ closed-before {j} {w} {work} t few reached n a q e l =
     (λ (z : eqb (pairRowIn work n q) 0 ≡ true).
     z ∙ sym (ap not (arrives-false (t .formed) n q (one-side (node-kept (closed-kept t))) (λ r. has-nothing (r .0) (eqb-true _ _ z) (r .1 .1)))))
     (λ (z : eqb (pairRowIn work n q) 0 ≡ false).
-    let s = has-some (pairRowIn work n q) (eqb-false _ _ z) in
+    let s = any-member (pairRowIn work n q) (eqb-false _ _ z) in
     let h = reached n q (s .0) (omega (arith, event-node j n a e)) (omega (arith, t .formed .rule .few-states)) (s .1) in
     z ∙ sym (ap not (arrives-true (t .formed) n q (pair-at-event e h))))
     (passes-or-fails (eqb (pairRowIn work n q) 0))
 
 -- ---- the search, round by round
-
--- no rows are something
-pub nothing-rows : Nothing ≡ Rows → ⊥
-nothing-rows e = let z : _≡_ {A = ℕ} 0 1 = cc in omega arith
-
--- and so is a difference
-pub nothing-difference : Nothing ≡ Difference → ⊥
-nothing-difference e = let z : _≡_ {A = ℕ} 0 1 = cc in omega arith
-
--- which rows are not
-pub rows-difference : Rows ≡ Difference → ⊥
-rows-difference e = let z : _≡_ {A = ℕ} 0 1 = cc in omega arith
 
 -- the after words of a well-formed job are kept
 after-kept

@@ -1,3 +1,3 @@
--- What looking at rows, a round and a search leave.
+-- What a search leaves.
 -- Assumes nothing.
-pub mod Looking
+pub mod Searched

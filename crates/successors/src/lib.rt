@@ -1,59 +1,34 @@
-// The states told apart before a node, and before the successors of one.
-ghost use mathlib.Core.Path.{_≡_};
+// Sixteen rows of pairs joined at a node, and at the successors of a node.
 ghost use Prim.Native.Nat.{_<_, _≤_};
 ghost use lib.ListN.{length};
-ghost use Rattle.tables.specs.Rows.{CellsBelow};
 ghost use Rattle.tables.specs.Held.{EdgesWithin};
-ghost use Rattle.classes.specs.Classes.{beforeRow, NextRow};
-use tables::moves::next_state;
-use tables::moves::preimage_under;
-use tables::moves::unlike_states;
-use tables::places::is_shadow;
-use tables::places::start_at;
-use tables::places::symbol_at;
-use tables::places::target_at;
-use tables::rows::class_row;
+ghost use Rattle.successors.specs.Joined.{RowsJoined, JoinedPast};
+use places::start_at;
+use places::target_at;
+use rows::join_pairs;
 
-// The states told apart from p before node m.
-fn before_row(
-    work: &[u8],
-    table: &[[u8; 16]; 16],
-    finals: u16,
-    states: usize,
-    m: usize,
-    p: usize,
-) -> u16
-    requires { ⌜ (65536 ≤ length (now work)) × ((m < 512) × ((p < 16) × ((states ≤ 16) × CellsBelow (now table)))) ⌝ }
-    ensures { λ r. ⌜ r ≡ beforeRow (now (table .entry)) finals states (now (work .entry)) m p ⌝ }
+// Joins sixteen rows into those of node n.
+fn join_rows(work: &mut [u8], n: usize, rows: &[u16; 16])
+    requires { ⌜ (65536 ≤ length (now work)) × (n < 512) ⌝ }
+    ensures { λ _. ⌜ RowsJoined (now (work .entry)) (now (work .exit)) n (now (rows .entry)) ⌝ }
 {
-    if is_shadow(work, m) {
-        let a = symbol_at(work, m);
-        let state = next_state(table, p, a);
-        let apart = class_row(work, m, state) | unlike_states(finals, state);
-        return preimage_under(table, states, a, apart);
+    let mut p = 0;
+    while p < 16 {
+        join_pairs(work, n, p, rows[p]);
+        p += 1;
     }
-    class_row(work, m, p)
 }
 
-// The states told apart from p before some successor of node n.
-pub fn successor_row(
-    work: &[u8],
-    table: &[[u8; 16]; 16],
-    finals: u16,
-    states: usize,
-    n: usize,
-    p: usize,
-) -> u16
-    requires { ⌜ (65536 ≤ length (now work)) × ((n < 512) × ((p < 16) × ((states ≤ 16) × (CellsBelow (now table) × EdgesWithin (now work) n)))) ⌝ }
-    ensures { λ r. ⌜ NextRow (now (table .entry)) finals states (now (work .entry)) n p r ⌝ }
+// Joins sixteen rows into those of every successor of node n.
+pub fn join_successors(work: &mut [u8], n: usize, rows: &[u16; 16])
+    requires { ⌜ (65536 ≤ length (now work)) × ((n < 512) × EdgesWithin (now work) n) ⌝ }
+    ensures { λ _. ⌜ JoinedPast (now (work .entry)) (now (work .exit)) n (now (rows .entry)) ⌝ }
 {
     let end = start_at(work, n + 1);
-    let mut out = 0;
     let mut i = start_at(work, n);
     while i < end {
         let m = target_at(work, i);
-        out = out | before_row(work, table, finals, states, m, p);
+        join_rows(work, m, rows);
         i += 1;
     }
-    out
 }

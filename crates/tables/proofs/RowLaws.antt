@@ -27,8 +27,12 @@ lt-pow zero = omega arith
 lt-pow (suc n) = omega (arith, lt-pow n, pow-suc 2 n)
 
 -- a set that is not empty has a member
-any-member : (s : ℕ) → s ≢ 0 → (q : ℕ) × (has s q ≡ true)
+pub any-member : (s : ℕ) → s ≢ 0 → (q : ℕ) × (has s q ≡ true)
 any-member s ne = (trailingZeros s s, trailing-member s s (omega arith) (lt-pow s))
+
+-- the set 0 has none
+pub has-nothing : {s : ℕ} (q : ℕ) → s ≡ 0 → has s q ≡ true → ⊥
+has-nothing {s} q e h = true≢false (sym h ∙ ap (λ (x : ℕ). has x q) e ∙ has-empty q)
 
 -- two sets meet where they have a common member
 pub meets-says : (s t : ℕ) → (meets s t ≡ true) ↔ ((q : ℕ) × (has s q ≡ true) × (has t q ≡ true))

@@ -1,4 +1,4 @@
--- Rows of pairs and their moves; the tables of the work buffer; the job in it.
+-- Definitions of rows of pairs, of the tables of the work buffer, and of the job in it.
 -- Assumes nothing.
 pub mod Rows
 pub mod Tables

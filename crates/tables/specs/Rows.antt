@@ -10,7 +10,6 @@ use Rattle.automaton.specs.Automaton.{cell}
 use Rattle.job.specs.Job.{Kind, plain, event, call}
 use Rattle.job.specs.Search.{unlike}
 use Rattle.job.specs.Found.{setOf}
-use Rattle.tables.specs.declared.moves.Past.{Past}
 
 -- every cell of the table is below 16
 abbrev pub CellsBelow : List (List ℕ) → Type 0
@@ -31,17 +30,6 @@ preimageOf table states a s = setOf states (λ q. has s (cell table q a))
 -- the states that a symbol leads to from a set
 unfoldable pub imageOf : List (List ℕ) → ℕ → ℕ → ℕ
 imageOf table a s = image 16 (λ q. cell table q a) s
-
--- a row past a shadow with symbol a: the full monitor moves; an enabled shadow moves the set too, a disabled one leaves it
-abbrev pub pastShadow : List (List ℕ) → ℕ → ℕ → Bool → ℕ → ℕ → Past
-pastShadow table finals a true p s =
-    record { state = cell table p a; set = imageOf table a s; differs = meets (imageOf table a s) (unlikeStates finals (cell table p a)) }
-pastShadow table finals a false p s = record { state = cell table p a; set = s; differs = has finals (cell table p a) }
-
--- a row past a node, and whether some pair of it alarms differently there
-abbrev pub pastRow : List (List ℕ) → ℕ → Bool → ℕ → Bool → ℕ → ℕ → Past
-pastRow table finals true a enabled p s = pastShadow table finals a enabled p s
-pastRow table finals false a enabled p s = record { state = p; set = s; differs = false }
 
 -- the set of a call; empty at any other kind
 abbrev pub callSet : Kind → ℕ

@@ -3,8 +3,8 @@ ghost use Prim.Native.Nat.{_<_, _≤_};
 ghost use Rattle.tables.specs.Held.{Usable};
 ghost use Rattle.planning.specs.Passes.{TriedAt, FirstGone, LastGone};
 use joblines::layout::PLAN;
+use places::is_enabled;
 use search::search::is_faithful;
-use tables::places::is_enabled;
 
 // Tries node n: 1 where it goes, 0 where it stays or is not enabled.
 fn try_node(

@@ -2,7 +2,7 @@
 -- Invariant: every pair held is reached, the starts are held, and every row that is not marked is closed.
 -- Measure: what is left to the search, less after a round that sees rows.
 -- Assumes nothing.
-use mathlib.Core.Path.{_≡_, sym, _∙_}
+use mathlib.Core.Path.{_∙_}
 use borrow.Author.Needs.{needs}
 use Rattle.tables.specs.Tables.{pairsLeft}
 use Rattle.tables.proofs.KeptLaws.{usable-same}

@@ -1,0 +1,31 @@
+// The class rows of the work buffer: the states told apart past each node.
+ghost use mathlib.Core.Path.{_≡_};
+ghost use Prim.Native.Nat.{_<_, _≤_};
+ghost use lib.ListN.{length};
+ghost use Rattle.tables.specs.Tables.{classRowIn, ApartGrown};
+use parts::CLASSES;
+use stores::write16;
+use words::read16;
+
+// Row p of the states told apart past node n.
+pub fn class_row(work: &[u8], n: usize, p: usize) -> u16
+    requires { ⌜ (65536 ≤ length (now work)) × ((n < 512) × (p < 16)) ⌝ }
+    ensures { λ r. ⌜ r ≡ classRowIn (now (work .entry)) n p ⌝ }
+{
+    read16(work, CLASSES + (n * 16 + p) * 2)
+}
+
+// Joins a set into row p of the states told apart past node n: 1 where the row grows, 0 where not.
+pub fn join_classes(work: &mut [u8], n: usize, p: usize, s: u16) -> usize
+    requires { ⌜ (65536 ≤ length (now work)) × ((n < 512) × (p < 16)) ⌝ }
+    ensures { λ r. ⌜ ApartGrown (now (work .entry)) (now (work .exit)) n p s r ⌝ }
+{
+    let at = CLASSES + (n * 16 + p) * 2;
+    let old = read16(work, at);
+    let new = old | s;
+    if new == old {
+        return 0;
+    }
+    write16(work, at, new);
+    1
+}

@@ -1,0 +1,3 @@
+-- What looking at one row leaves.
+-- Assumes nothing.
+pub mod Looking

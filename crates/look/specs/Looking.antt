@@ -1,0 +1,80 @@
+-- What looking at one row of pairs leaves.
+-- Assumes nothing.
+use mathlib.Core.Path.{_≡_}
+use mathlib.Core.Logic.{_⊎_}
+use mathlib.Core.Bool.{true, false, not}
+use mathlib.Core.List.{List}
+use Prim.Native.Nat.{ℕ, _<_}
+use Rattle.laws.specs.Bits.{has}
+use Rattle.automaton.specs.Automaton.{Automaton, next, final}
+use Rattle.job.specs.Job.{Kind, plain, event, call, Job, nodeAt, leads}
+use Rattle.job.specs.Walk.{shadow}
+use Rattle.job.specs.Plan.{Enabling, full, enables, stateAt, alarmAt}
+use Rattle.tables.specs.Tables.{classRowIn, Held, HeldApart, Grown}
+use Rattle.moves.specs.declared.Past.{Past}
+use Rattle.tables.specs.Held.{JobHeld, PlanHeld}
+
+-- the state past a node: its own event is taken as the watch says
+abbrev pub pastState : Automaton → Enabling → ℕ → Kind → ℕ → ℕ
+pastState m v n plain p = p
+pastState m v n (event a) p = stateAt m v p (shadow n a)
+pastState m v n (call set) p = p
+
+-- past node n of a job
+abbrev pub pastNode : Job → Enabling → ℕ → ℕ → ℕ
+pastNode j v n p = pastState (j .rule) v n (nodeAt j n .kind) p
+
+-- what follows a pair in the set of node n: over an edge, or by a symbol of its call word
+pub data Follows (j : Job) (w : Enabling) (n p q : ℕ) : ℕ → ℕ → ℕ → Type 0 where
+  over-edge : {m : ℕ} → leads j n m ≡ true → Follows j w n p q m (pastNode j full n p) (pastNode j w n q)
+  by-word
+      : {set : ℕ} (a : ℕ) → nodeAt j n .kind ≡ call set → has set a ≡ true
+      → Follows j w n p q n (next (j .rule) p a) (next (j .rule) q a)
+
+-- at every event that may come next the monitors alarm alike, and what a symbol of the call word leads to is held
+pub record AlikePair (j : Job) (w : Enabling) (work : List ℕ) (n p q : ℕ) : Type 0 where
+  pub words
+      : (set a : ℕ) → nodeAt j n .kind ≡ call set → has set a ≡ true → Held work n (next (j .rule) p a) (next (j .rule) q a)
+  pub at-point
+      : (a : ℕ) → nodeAt j n .kind ≡ event a → alarmAt (j .rule) full p (shadow n a) ≡ alarmAt (j .rule) w q (shadow n a)
+  pub at-call
+      : (set a : ℕ) → nodeAt j n .kind ≡ call set → has set a ≡ true
+      → final (j .rule) (next (j .rule) p a) ≡ final (j .rule) (next (j .rule) q a)
+  pub at-exit : has (classRowIn work n (pastNode j full n p)) (pastNode j w n q) ≡ false
+
+-- and so is what an edge leads to
+pub record ClosedPair (j : Job) (w : Enabling) (work : List ℕ) (n p q : ℕ) : Type 0 where
+  pub alike : AlikePair j w work n p q
+  pub edges : (m : ℕ) → leads j n m ≡ true → Held work m (pastNode j full n p) (pastNode j w n q)
+
+-- at some event that may come next one monitor alarms and the other does not
+pub data SplitPair (j : Job) (w : Enabling) (work : List ℕ) (n p q : ℕ) : Type 0 where
+  split-point
+      : {a : ℕ} → nodeAt j n .kind ≡ event a → alarmAt (j .rule) full p (shadow n a) ≡ not (alarmAt (j .rule) w q (shadow n a))
+      → SplitPair j w work n p q
+  split-call
+      : {set : ℕ} (a : ℕ) → nodeAt j n .kind ≡ call set → has set a ≡ true
+      → final (j .rule) (next (j .rule) p a) ≡ not (final (j .rule) (next (j .rule) q a)) → SplitPair j w work n p q
+  split-exit : HeldApart work n (pastNode j full n p) (pastNode j w n q) → SplitPair j w work n p q
+
+-- row p of node n was looked at: `past` is the row past the node
+pub record Looked (j : Job) (w : Enabling) (l m : List ℕ) (n p : ℕ) (past : Past) : Type 0 where
+  pub new
+      : (k r s : ℕ) → k < 512 → r < 16 → Held m k r s
+      → Held l k r s ⊎ ((q : ℕ) × Held l n p q × Follows j w n p q k r s)
+  pub alike : past .differs ≡ false → (q : ℕ) → Held l n p q → AlikePair j w m n p q
+  pub here
+      : past .differs ≡ false → (q : ℕ) → Held l n p q
+      → (past .state ≡ pastNode j full n p) × (has (past .set) (pastNode j w n q) ≡ true)
+  pub from
+      : past .differs ≡ false → (s : ℕ) → has (past .set) s ≡ true
+      → (q : ℕ) × Held l n p q × ((past .state ≡ pastNode j full n p) × (s ≡ pastNode j w n q))
+  pub split : past .differs ≡ true → (q : ℕ) × Held l n p q × SplitPair j w l n p q
+
+-- the same for every job that the buffer holds
+pub record LookedAt (table : List (List ℕ)) (finals : ℕ) (l m : List ℕ) (n p : ℕ) (past : Past) : Type 0 where
+  pub grown : Grown l m
+  pub small : past .state < 16
+  pub exact
+      : (j : Job) (plan : List ℕ) (states nodes : ℕ) → JobHeld j l table finals states nodes → PlanHeld plan l nodes → n < nodes
+      → Looked j (enables plan) l m n p past

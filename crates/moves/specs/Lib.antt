@@ -1,0 +1,3 @@
+-- A row past a node.
+-- Assumes nothing.
+pub mod Past

@@ -1,0 +1,3 @@
+-- What a round leaves.
+-- Assumes nothing.
+pub mod Rounds

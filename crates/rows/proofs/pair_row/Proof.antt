@@ -1,0 +1,29 @@
+-- `rows::pair_row` meets its contract: the row is the number in its two bytes.
+-- Assumes nothing.
+use borrow.Author.Needs.{needs}
+use Rattle.tables.specs.Tables.{pairRowIn}
+use Rattle.rows.proofs.pair_row.Statement.{statement}
+use Rattle.rows.proofs.pair_row.Tie as tie
+
+mul-read16 : tie.Need-mul-read16
+mul-read16 c = search needs
+
+add-read16 : tie.Need-add-read16
+add-read16 c = search needs
+
+mul-read16-2 : tie.Need-mul-read16-2
+mul-read16-2 c = search needs
+
+add-read16-2 : tie.Need-add-read16-2
+add-read16-2 c = search needs
+
+read16-requires : tie.Need-read16-requires
+read16-requires c κs = search needs
+
+returns : tie.Need-returns
+unfolding pairRowIn
+returns c = c .read16 .ensures
+
+pub pair-row-spec : {M : Type 1} → statement M
+pair-row-spec =
+    tie.close (tie.spec mul-read16 add-read16 mul-read16-2 add-read16-2 read16-requires returns)

@@ -1,0 +1,3 @@
+-- What moving a row by the symbols of a call set leaves.
+-- Assumes nothing.
+pub mod Spreading

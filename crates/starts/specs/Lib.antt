@@ -1,0 +1,3 @@
+-- What the starts of a search leave.
+-- Assumes nothing.
+pub mod Started

@@ -1,0 +1,26 @@
+-- What joining sixteen rows of pairs leaves, at one node and at the successors of a node.
+-- Assumes nothing.
+use mathlib.Core.Path.{_≡_}
+use mathlib.Core.Logic.{_⊎_}
+use mathlib.Core.Bool.{true}
+use mathlib.Core.List.{List}
+use Prim.Native.Nat.{ℕ, _<_}
+use lib.ListN.{getD}
+use Rattle.laws.specs.Bits.{has}
+use Rattle.tables.specs.Tables.{EdgeIn, Held, Grown}
+
+-- the pair is in sixteen rows
+abbrev pub InRows : List ℕ → ℕ → ℕ → Type 0
+InRows rows p q = has (getD rows p 0) q ≡ true
+
+-- sixteen rows were joined into those of node n
+pub record RowsJoined (l m : List ℕ) (n : ℕ) (rows : List ℕ) : Type 0 where
+  pub grown : Grown l m
+  pub here : (p q : ℕ) → p < 16 → InRows rows p q → Held m n p q
+  pub new : (k p q : ℕ) → k < 512 → p < 16 → Held m k p q → Held l k p q ⊎ ((k ≡ n) × InRows rows p q)
+
+-- sixteen rows were joined at the ends of all edges of node n
+pub record JoinedPast (l m : List ℕ) (n : ℕ) (rows : List ℕ) : Type 0 where
+  pub grown : Grown l m
+  pub here : (k p q : ℕ) → EdgeIn l n k → p < 16 → InRows rows p q → Held m k p q
+  pub new : (k p q : ℕ) → k < 512 → p < 16 → Held m k p q → Held l k p q ⊎ (EdgeIn l n k × InRows rows p q)

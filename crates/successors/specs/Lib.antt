@@ -1,0 +1,3 @@
+-- What joining rows leaves.
+-- Assumes nothing.
+pub mod Joined
