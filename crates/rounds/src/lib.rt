@@ -8,10 +8,13 @@ use sets::lowest;
 use sets::without_lowest;
 use successors::join_successors;
 
-// What a round has seen: no marked row, marked rows whose pairs alarm alike, or a pair that alarms differently.
+// What a round has seen.
 pub enum Seen {
+    // No row is marked.
     Nothing,
+    // Marked rows, whose pairs alarm alike.
     Rows,
+    // A pair that alarms differently.
     Difference,
 }
 
