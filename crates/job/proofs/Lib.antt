@@ -13,10 +13,6 @@ pub mod PassLaws
 pub mod PlanningLaws
 pub mod PlanningResult
 pub mod PlanningSays
-pub mod MonitorsLaws
-pub mod MonitorsMore
-pub mod OrderLaws
-pub mod TwoMonitors
 pub mod WellFormedTest
 pub mod TrialsPass
 pub mod Slips

@@ -11,6 +11,5 @@ pub mod SearchSays
 pub mod Planning
 pub mod Listing
 pub mod PlanningSays
-pub mod Monitors
 pub mod Trials
 pub mod Slips

@@ -1,19 +1,4 @@
 // The listing program: a job file on standard input; its listing, or the X line of its refusal, on standard output.
-use joblines::layout::WORK;
-use libc::STDIN_FILENO;
-use libc::STDOUT_FILENO;
-use listcall::ROOM;
-use listprint::print_job;
-use reader::read::LONGEST;
-
 fn main() {
-    // one byte more than the longest file, so that a longer one is refused and not cut
-    let mut file = [0u8; LONGEST + 1];
-    let mut work = [0u8; WORK];
-    let mut out = [0u8; ROOM];
-    let n = io::read_full(STDIN_FILENO, &mut file);
-    let length = print_job(&file[..n], &mut work, &mut out);
-    if !io::write_all(STDOUT_FILENO, &out[0..length]) {
-        os::fail(b"write");
-    }
+    listrun::list_input();
 }

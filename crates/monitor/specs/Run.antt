@@ -11,6 +11,7 @@ pub record Seen (f : EventForm) : Type 0 where
   pub answer : f .Answer
   pub after : f .Held
 
+-- what this call shows
 abbrev pub seen : (f : EventForm) → f .Call → f .Held → Seen f
 seen f c h = record { answer = f .answer c h; after = f .left c h }
 

@@ -23,8 +23,8 @@ use Rattle.monitor.specs.Form.{Given, GivenFits, GivenIs, valueForm, lentForm}
 use Rattle.monitor.specs.declared.step.Record.{Record}
 use Rattle.monitor.proofs.MonitorLaws.{taken-13}
 use Rattle.monitor.proofs.FormLaws.{refuses}
-use Rattle.job.specs.Monitors.{RecordsExist, RefusedExist}
-use Rattle.job.proofs.MonitorsMore.{FormGives}
+use Rattle.twomonitors.specs.Monitors.{RecordsExist, RefusedExist}
+use Rattle.twomonitors.proofs.MonitorsMore.{FormGives}
 use Rattle.eventcall.specs.Event.{ruleIn, recordIn, eventTaken, recordBytes}
 use Rattle.eventcall.specs.Form.{HeldBytes, ByteCall, lent, callForm}
 use Rattle.eventcall.proofs.EventLaws.{rule-of, rule-none}

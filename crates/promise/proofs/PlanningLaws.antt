@@ -6,8 +6,8 @@ use Prim.Native.Nat.{ℕ}
 use lib.ListN.{length}
 use borrow.Author.Tests.{le-ltb}
 use Rattle.monitor.specs.Form.{EventForm, FormMoves}
-use Rattle.job.specs.Monitors.{AlarmsKept, PointsNeeded, CallsExist}
-use Rattle.job.proofs.TwoMonitors.{plan-keeps-alarms}
+use Rattle.twomonitors.specs.Monitors.{AlarmsKept, PointsNeeded, CallsExist}
+use Rattle.twomonitors.proofs.TwoMonitors.{plan-keeps-alarms}
 use Rattle.jobfile.specs.File.{maxFile, writeJob}
 use Rattle.jobfile.proofs.Longest.{longest-file}
 use Rattle.jobfile.proofs.SpellableLaws.{accepted-written, accepted-well-formed}

@@ -4,9 +4,9 @@
 use Rattle.monitor.specs.Form.{EventForm, FormMoves, valueForm, lentForm}
 use Rattle.monitor.proofs.MonitorLaws.{report-by-number}
 use Rattle.monitor.proofs.FormLaws.{value-moves, lent-moves}
-use Rattle.job.specs.Monitors.{RecordsExist, RefusedExist, ListsExist}
-use Rattle.job.proofs.MonitorsMore.{FormGives, lists-exist}
-use Rattle.job.proofs.OrderLaws.{any-order}
+use Rattle.twomonitors.specs.Monitors.{RecordsExist, RefusedExist, ListsExist}
+use Rattle.twomonitors.proofs.MonitorsMore.{FormGives, lists-exist}
+use Rattle.twomonitors.proofs.OrderLaws.{any-order}
 use Rattle.plans.proofs.PlanAfterLaws.{plan-bytes-say, seen-by-number}
 use Rattle.eventcall.specs.Form.{callForm}
 use Rattle.eventcall.proofs.FormLaws.{call-moves}

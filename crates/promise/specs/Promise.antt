@@ -1,5 +1,5 @@
 -- The third promise (document 01, "Two monitors on one walk"), from the bytes of the job file to the alarms. The lists of calls and both halves
--- are `job`'s `Monitors.antt`; the forms are `monitor`'s and `eventcall`'s `Form.antt`.
+-- are `twomonitors`'s `Monitors.antt`; the forms are `monitor`'s and `eventcall`'s `Form.antt`.
 -- Assumes nothing.
 use mathlib.Core.Path.{_≡_}
 use mathlib.Core.List.{List}
@@ -8,7 +8,7 @@ use lib.ListN.{length, take}
 use Rattle.monitor.specs.Monitor.{ReportByNumber}
 use Rattle.monitor.specs.Form.{EventForm, valueForm, lentForm}
 use Rattle.job.specs.Job.{Job}
-use Rattle.job.specs.Monitors.{AlarmsKept, PointsNeeded, ListsExist, AnyOrder}
+use Rattle.twomonitors.specs.Monitors.{AlarmsKept, PointsNeeded, ListsExist, AnyOrder}
 use Rattle.jobfile.specs.File.{accepted, writeJob}
 use Rattle.jobfile.specs.Spellable.{Spellable}
 use Rattle.joblines.specs.Layout.{workSize}
