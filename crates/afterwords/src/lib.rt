@@ -3,7 +3,8 @@ ghost use mathlib.Core.Path.{_≡_};
 ghost use Prim.Native.Nat.{_<_, _≤_};
 ghost use lib.ListN.{length};
 ghost use Rattle.tables.specs.Rows.{CellsBelow};
-ghost use Rattle.tables.specs.Tables.{classRowIn};
+ghost use Rattle.buffer.specs.Layout.{Lent};
+ghost use Rattle.buffer.specs.Views.{classRowIn};
 ghost use Rattle.tables.specs.Held.{Usable};
 ghost use Rattle.classes.specs.Backwards.{wordRow, WordsGrown, WordsClosed, AfterWords};
 use classrows::class_row;
@@ -26,7 +27,7 @@ pub fn word_row(
     set: u16,
     p: usize,
 ) -> u16
-    requires { ⌜ (65536 ≤ length (now work)) × ((n < 512) × ((p < 16) × ((states ≤ 16) × CellsBelow (now table)))) ⌝ }
+    requires { ⌜ (Lent (now work)) × ((n < 512) × ((p < 16) × ((states ≤ 16) × CellsBelow (now table)))) ⌝ }
     ensures { λ r. ⌜ r ≡ wordRow (now (table .entry)) finals states (classRowIn (now (work .entry)) n) set p ⌝ }
 {
     let mut out = 0;
@@ -50,7 +51,7 @@ fn word_round(
     n: usize,
     set: u16,
 ) -> usize
-    requires { ⌜ (65536 ≤ length (now work)) × ((n < 512) × ((states ≤ 16) × CellsBelow (now table))) ⌝ }
+    requires { ⌜ (Lent (now work)) × ((n < 512) × ((states ≤ 16) × CellsBelow (now table))) ⌝ }
     ensures { λ r. ⌜ WordsGrown (now (table .entry)) finals states (now (work .entry)) (now (work .exit)) n set r ⌝ }
 {
     let mut grown = 0;
@@ -72,7 +73,7 @@ fn close_words(
     n: usize,
     set: u16,
 )
-    requires { ⌜ (65536 ≤ length (now work)) × ((n < 512) × ((states ≤ 16) × CellsBelow (now table))) ⌝ }
+    requires { ⌜ (Lent (now work)) × ((n < 512) × ((states ≤ 16) × CellsBelow (now table))) ⌝ }
     ensures { λ _. ⌜ WordsClosed (now (table .entry)) finals states (now (work .entry)) (now (work .exit)) n set ⌝ }
 {
     let mut grown = set as usize;

@@ -2,10 +2,11 @@
 ghost use mathlib.Core.Path.{_≡_};
 ghost use Prim.Native.Nat.{_<_, _≤_};
 ghost use lib.ListN.{length};
+ghost use Rattle.buffer.specs.Layout.{Lent};
 ghost use Rattle.tables.specs.Held.{Usable};
 ghost use Rattle.findings.specs.Findings.{beforeIn, BeforeStored, BeforeFound};
+use buffer::FOUND;
 use enabling::enable_all;
-use joblines::layout::FOUND;
 use points::held_states;
 use search::search::is_faithful;
 use stores::write16;
@@ -13,7 +14,7 @@ use words::read16;
 
 // The before set of node n.
 pub fn before_set(work: &[u8], n: usize) -> u16
-    requires { ⌜ (65536 ≤ length (now work)) × (n < 512) ⌝ }
+    requires { ⌜ (Lent (now work)) × (n < 512) ⌝ }
     ensures { λ r. ⌜ r ≡ beforeIn (now (work .entry)) n ⌝ }
 {
     read16(work, FOUND + n * 4)
@@ -21,7 +22,7 @@ pub fn before_set(work: &[u8], n: usize) -> u16
 
 // Stores for each node the states whose rows hold pairs.
 fn store_before(work: &mut [u8], states: usize, nodes: usize)
-    requires { ⌜ (65536 ≤ length (now work)) × ((states ≤ 16) × (nodes ≤ 512)) ⌝ }
+    requires { ⌜ (Lent (now work)) × ((states ≤ 16) × (nodes ≤ 512)) ⌝ }
     ensures { λ _. ⌜ BeforeStored (now (work .entry)) (now (work .exit)) states nodes ⌝ }
 {
     let mut n = 0;

@@ -2,9 +2,9 @@
 ghost use mathlib.Core.Path.{_≡_};
 ghost use lib.ListN.{length};
 ghost use Rattle.checking.specs.Checking.{checked, workLeft};
+use buffer::WORK;
 use checkheld::judge;
 use checking::check::Verdict;
-use joblines::layout::WORK;
 use reader::clear::clear;
 use reader::read::LONGEST;
 use reader::read::read_job;

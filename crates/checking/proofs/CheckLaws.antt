@@ -21,11 +21,13 @@ use Rattle.jobfile.specs.File.{Answer, maxFile, readJob}
 use Rattle.jobfile.specs.Refusal.{TurnedBack, too-long, at-head, at-rule, at-node, at-edge, bytes-follow, no-entry}
 use Rattle.jobfile.proofs.RefusalLaws.{turned-says}
 use Rattle.joblines.specs.declared.head.Head.{Head}
-use Rattle.joblines.specs.Layout.{nodeIn, workSize, cleared, SameOutside}
+use Rattle.buffer.specs.Layout.{nodesPart, classPart, foundPart, planPart, rulePart, workSize, Lent}
+use Rattle.buffer.specs.Views.{nodeIn}
+use Rattle.buffer.specs.Kept.{SameOutside, cleared}
 use Rattle.reader.specs.Rule.{ruleIn}
 use Rattle.joblines.specs.Reading.{JobRead, SameRest}
 use Rattle.reader.proofs.ClearLaws.{cleared-same}
-use Rattle.joblines.proofs.KeptLaws.{kept-none, kept-both}
+use Rattle.buffer.proofs.KeptLaws.{kept-fewer, outside-part, kept-none, kept-both}
 use Rattle.checking.specs.declared.check.Verdict.{Verdict}
 use Rattle.checking.specs.declared.check.Verdict.the-variants.{Faithful, Different, Refused}
 use Rattle.tables.specs.Tables.{SearchKept}
@@ -75,7 +77,7 @@ module _ (plan l : List ℕ) (table : List (List ℕ)) (finals states nodes : �
   -- the plan has another length
   pub other-length : (length plan ≡ nodes → ⊥) → Judged table finals states nodes plan l l (Refused 11)
   other-length h = record {
-    kept = kept-none l 0 65536;
+    kept = kept-none l nodesPart workSize;
     exact = λ j held. sym (judged-11 j plan (λ e. h (e ∙ sym (held .nodes-are))));
   }
 
@@ -83,7 +85,7 @@ module _ (plan l : List ℕ) (table : List (List ℕ)) (finals states nodes : �
   pub other-marks
       : length plan ≡ nodes → allBelow nodes (marks plan (nodeIn l)) ≡ false → Judged table finals states nodes plan l l (Refused 12)
   other-marks h g = record {
-    kept = kept-none l 0 65536;
+    kept = kept-none l nodesPart workSize;
     exact = λ j held.
         sym (judged-12 j plan (h ∙ held .nodes-are) (sym (marks-held j plan l table finals states nodes held) ∙ g));
   }
@@ -118,22 +120,18 @@ table-usable {l} {table} {rule} {states} {nodes} e u = subst (λ (t : List (List
 module _ (plan l m k f : List ℕ) (table : List (List ℕ)) (finals states nodes : ℕ) where
   -- the plan stays where the after words are filled in
   plan-held : nodes ≤ 512 → PlanStored plan l m nodes → AfterWords table finals states nodes m k → PlanHeld plan k nodes
-  plan-held few p a n h = a .kept .outside (44034 + n) (inr (omega arith)) ∙ p .here n h
+  plan-held few p a n h = a .kept .outside (planPart + n) (inr (omega arith)) ∙ p .here n h
 
   -- the search leaves the bytes past the first 65,536
   rest-kept
-      : PlanStored plan l m nodes → AfterWords table finals states nodes m k → SearchKept k f → SameOutside l f 0 65536
+      : PlanStored plan l m nodes → AfterWords table finals states nodes m k → SearchKept k f → SameOutside l f nodesPart workSize
   rest-kept p a s =
-      kept-both l k f 0 65536 0 65536
-      (kept-both l m k 0 65536 25602 41986
-      (kept-both l l m 0 65536 44034 44546 (kept-none l 0 65536) (p .kept) (omega arith) (omega arith))
+      kept-both l k f nodesPart workSize nodesPart workSize
+      (kept-both l m k nodesPart workSize classPart foundPart
+      (kept-both l l m nodesPart workSize planPart rulePart (kept-none l nodesPart workSize) (p .kept) (omega arith) (omega arith))
       (a .kept) (omega arith) (omega arith))
-      (record { long = s .long; outside = λ x o. s .outside x (inr (inr (past x o))) })
+      (kept-fewer (λ x o. (outside-part (omega arith) (omega arith) x o, outside-part (omega arith) (omega arith) x o)) s)
       (omega arith) (omega arith)
-    where
-      past : (x : ℕ) → (x < 0) ⊎ (65536 ≤ x) → 46338 ≤ x
-      past x (inl o) = absurd (omega arith)
-      past x (inr o) = omega arith
 
   -- the verdict of the search is the plan's
   pub search-judged
@@ -206,12 +204,12 @@ left-judged j plan work =
     go false b c = refl
 
 -- buffers that differ in the bytes that a call may use are cleared to the same
-pub cleared-outside : (l m : List ℕ) → SameOutside l m 0 65536 → cleared m ≡ cleared l
+pub cleared-outside : (l m : List ℕ) → SameOutside l m nodesPart workSize → cleared m ≡ cleared l
 cleared-outside l m s = cleared-same l m (s .long) (λ k h. s .outside k (inr h))
 
 -- so is what the reader leaves, and what it was given
 pub cleared-rest : (l m : List ℕ) → SameRest l m → cleared m ≡ cleared l
-cleared-rest l m s = cleared-same l m (s .long) (λ k h. s .outside k (inr (omega arith)))
+cleared-rest l m s = cleared-same l m (s .long) (λ k h. s .outside k (inr (omega arith), inr (omega arith)))
 
 module _ (file l m : List ℕ) (r : Head) (short : length file ≤ maxFile) (read : JobRead (readJob file) l m r) where
   -- a number is the answer's refusal, and the buffer is cleared
@@ -233,7 +231,7 @@ module _ (file l m : List ℕ) (r : Head) (short : length file ≤ maxFile) (rea
       (members-below 16 (a .0 .rule .finals) (λ q g. lt-of-lt-of-le (rule .finals-below q g) (rule .few-states)))
 
   -- the buffer is as the searches need it
-  pub read-usable : r .refusal ≡ 0 → 65536 ≤ length m → Usable m (ruleIn m) (r .states) (r .nodes)
+  pub read-usable : r .refusal ≡ 0 → Lent m → Usable m (ruleIn m) (r .states) (r .nodes)
   read-usable h long = let a = accepted-read file l m r read h in usable-read file l m r read (a .0) (a .1) long
 
   -- the answer for the buffer's job is the file's, and the buffer is cleared

@@ -19,7 +19,8 @@ use Rattle.job.proofs.Decide.{faithful-says, different-says}
 use Rattle.jobfile.specs.File.{Answer, accepted, turned, maxFile, readJob}
 use Rattle.jobfile.proofs.SpellableLaws.{read-written}
 use Rattle.jobfile.proofs.ListingFits.{listing-fits}
-use Rattle.joblines.specs.Layout.{workSize, cleared}
+use Rattle.buffer.specs.Layout.{workSize}
+use Rattle.buffer.specs.Kept.{cleared}
 use Rattle.checking.specs.declared.check.Verdict.{Verdict}
 use Rattle.checking.specs.declared.check.Verdict.the-variants.{Faithful, Different, Refused}
 use Rattle.checking.specs.Checking.{goodMark, hasLength, goodMarks, judged, answered, checked, workLeft, verdictNumber}

@@ -12,8 +12,7 @@ use borrow.Author.Tests.{eq-eqb, eqb-true}
 use Rattle.laws.specs.Bounded.{tabFrom}
 use Rattle.laws.proofs.Tests.{or-passes, or-left, or-right}
 use Rattle.job.specs.Job.{Edge, holds}
-use Rattle.joblines.specs.Layout.{startIn, targetIn, successorsIn, edge, edgesFrom}
-use Rattle.tables.specs.Tables.{EdgeIn}
+use Rattle.buffer.specs.Views.{startIn, targetIn, successorsIn, edge, edgesFrom, EdgeIn}
 
 -- both of two tests
 both : (a b : Bool) → (a && b) ≡ true → (a ≡ true) × (b ≡ true)

@@ -18,12 +18,13 @@ use Rattle.jobfile.specs.File.{accepted, readJob}
 use Rattle.jobfile.specs.Spellable.{Spellable}
 use Rattle.jobfile.proofs.SpellableLaws.{read-written}
 use Rattle.joblines.specs.declared.head.Head.{Head}
-use Rattle.joblines.specs.Layout.{nodeIn, startIn, targetIn, cellIn, tableIn, jobIn}
+use Rattle.buffer.specs.Layout.{Lent}
+use Rattle.buffer.specs.Views.{nodeIn, startIn, targetIn, cellIn, tableIn, EdgeIn}
+use Rattle.joblines.specs.Stored.{jobIn}
 use Rattle.reader.specs.Rule.{ruleIn}
 use Rattle.joblines.specs.Reading.{headOfAnswer, JobRead}
 use Rattle.reader.proofs.TableLaws.{rule-cell}
 use Rattle.tables.specs.Rows.{CellsBelow}
-use Rattle.tables.specs.Tables.{EdgeIn}
 use Rattle.tables.specs.Held.{EdgesWithin, Usable, JobHeld}
 use Rattle.checking.proofs.EdgeIndexLaws.{edges-says}
 
@@ -170,7 +171,7 @@ module _ (file l m : List ℕ) (r : Head) (read : JobRead (readJob file) l m r) 
       }
 
   -- buffer and table are as the searches need them
-  pub usable-read : 65536 ≤ length m → Usable m (ruleIn m) (r .states) (r .nodes)
+  pub usable-read : Lent m → Usable m (ruleIn m) (r .states) (r .nodes)
   usable-read long = record { long = long; few-states = few-states; few-nodes = few-nodes; cells = cells-read; edges = edges-read }
 
   -- and hold the job

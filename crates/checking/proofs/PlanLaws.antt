@@ -11,9 +11,9 @@ use lib.Dec.{eqb, leb}
 use lib.ListN.{length, getD, set}
 use lib.Seq.{getD-set-same, getD-set-other}
 use Rattle.job.specs.Job.{Kind, plain, event, call}
-use Rattle.joblines.proofs.KeptLaws.{kept-none, kept-both, kept-set}
+use Rattle.buffer.proofs.KeptLaws.{kept-none, kept-both, kept-set}
 use Rattle.tables.specs.Rows.{isEvent}
-use Rattle.tables.specs.Tables.{planPart}
+use Rattle.buffer.specs.Layout.{planPart, rulePart, Lent}
 use Rattle.checking.specs.Checking.{goodMark, PlanStored}
 
 -- the byte of a shadow is at most 1
@@ -30,23 +30,23 @@ mark-other (call set) b e = refl
 
 -- no byte is stored
 pub plan-none : (plan l : List ℕ) → PlanStored plan l l 0
-plan-none plan l = record { kept = kept-none l 44034 44546; here = λ n h. absurd (omega arith) }
+plan-none plan l = record { kept = kept-none l planPart rulePart; here = λ n h. absurd (omega arith) }
 
 -- one byte more is stored
 pub plan-more
-    : (plan l m : List ℕ) (n : ℕ) → n < 512 → 65536 ≤ length m → PlanStored plan l m n
-    → PlanStored plan l (set m (44034 + n) (getD plan n 0)) (n + 1)
+    : (plan l m : List ℕ) (n : ℕ) → n < 512 → Lent m → PlanStored plan l m n
+    → PlanStored plan l (set m (planPart + n) (getD plan n 0)) (n + 1)
 plan-more plan l m n h long p = record {
-  kept = kept-both l m (set m (44034 + n) (getD plan n 0)) 44034 44546 (44034 + n) (44034 + n + 1) (p .kept)
-      (kept-set m (44034 + n) (getD plan n 0)) (omega arith) (omega arith);
+  kept = kept-both l m (set m (planPart + n) (getD plan n 0)) planPart rulePart (planPart + n) (planPart + n + 1) (p .kept)
+      (kept-set m (planPart + n) (getD plan n 0)) (omega arith) (omega arith);
   here = here;
 }
   where
-    here : (k : ℕ) → k < n + 1 → getD (set m (44034 + n) (getD plan n 0)) (planPart + k) 0 ≡ getD plan k 0
+    here : (k : ℕ) → k < n + 1 → getD (set m (planPart + n) (getD plan n 0)) (planPart + k) 0 ≡ getD plan k 0
     here k b =
         ⊎-elim
         (λ (e : k ≡ n).
-        subst (λ (x : ℕ). getD (set m (44034 + n) (getD plan n 0)) (planPart + x) 0 ≡ getD plan x 0) (sym e)
-        (getD-set-same m (44034 + n) (getD plan n 0) 0 (omega arith)))
-        (λ (l : k < n). getD-set-other m (44034 + n) (planPart + k) (getD plan n 0) 0 (λ e. absurd (omega arith)) ∙ p .here k l)
+        subst (λ (x : ℕ). getD (set m (planPart + n) (getD plan n 0)) (planPart + x) 0 ≡ getD plan x 0) (sym e)
+        (getD-set-same m (planPart + n) (getD plan n 0) 0 (omega arith)))
+        (λ (l : k < n). getD-set-other m (planPart + n) (planPart + k) (getD plan n 0) 0 (λ e. absurd (omega arith)) ∙ p .here k l)
         (eq-or-lt-of-le (omega arith))

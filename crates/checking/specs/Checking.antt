@@ -10,10 +10,10 @@ use Rattle.laws.specs.Bounded.{allBelow}
 use Rattle.job.specs.Job.{Kind, plain, event, call, Job, nodeAt}
 use Rattle.job.specs.Search.{faithful}
 use Rattle.jobfile.specs.File.{Answer, accepted, turned, maxFile, readJob}
-use Rattle.joblines.specs.Layout.{workSize, cleared, SameOutside}
+use Rattle.buffer.specs.Layout.{nodesPart, planPart, rulePart, workSize}
+use Rattle.buffer.specs.Kept.{SameOutside, cleared}
 use Rattle.checking.specs.declared.check.Verdict.{Verdict}
 use Rattle.checking.specs.declared.check.Verdict.the-variants.{Faithful, Different, Refused}
-use Rattle.tables.specs.Tables.{planPart, planEnd}
 use Rattle.tables.specs.Held.{JobHeld}
 
 -- a plan byte that a node may have: 0, and 1 at an event node
@@ -69,10 +69,10 @@ verdictNumber (Refused k) = k
 
 -- the plan was stored in its part of the buffer
 pub record PlanStored (plan l m : List ℕ) (nodes : ℕ) : Type 0 where
-  pub kept : SameOutside l m planPart planEnd
+  pub kept : SameOutside l m planPart rulePart
   pub here : (n : ℕ) → n < nodes → getD m (planPart + n) 0 ≡ getD plan n 0
 
 -- the answer for every job that the buffer holds; the bytes past the first 65,536 are as they were
 pub record Judged (table : List (List ℕ)) (finals states nodes : ℕ) (plan l m : List ℕ) (answer : Verdict) : Type 0 where
-  pub kept : SameOutside l m 0 65536
+  pub kept : SameOutside l m nodesPart workSize
   pub exact : (j : Job) → JobHeld j l table finals states nodes → answer ≡ judged j plan

@@ -13,9 +13,11 @@ use Rattle.laws.proofs.Bits.{has-empty}
 use Rattle.automaton.specs.Automaton.{Automaton}
 use Rattle.job.specs.Job.{Node, Job, nodeAt}
 use Rattle.job.specs.Words.{WordApart, apart-here, apart-later}
-use Rattle.joblines.specs.Layout.{nodeIn, SameOutside}
-use Rattle.joblines.proofs.KeptLaws.{kept-none, kept-both, node-kept}
-use Rattle.tables.specs.Tables.{classPart, classRowIn, HeldApart, Zeroed}
+use Rattle.buffer.specs.Layout.{classPart, foundPart}
+use Rattle.buffer.specs.Views.{nodeIn, classRowIn, HeldApart}
+use Rattle.buffer.specs.Kept.{SameOutside}
+use Rattle.buffer.proofs.KeptLaws.{kept-none, kept-both, node-kept}
+use Rattle.tables.specs.Tables.{Zeroed}
 use Rattle.tables.specs.Held.{JobHeld}
 use Rattle.classes.specs.Backwards.{RuleHeld, WordsClosed, AfterWords}
 use Rattle.classes.proofs.GrownLaws.{class-kept}
@@ -33,35 +35,35 @@ pub record WordsHeld (table : List (List ℕ)) (finals states : ℕ) (m : List �
 
 -- the nodes below n are done, and the rows of the others are empty
 pub record AfterSoFar (table : List (List ℕ)) (finals states : ℕ) (l m : List ℕ) (n : ℕ) : Type 0 where
-  pub kept : SameOutside l m 25602 41986
+  pub kept : SameOutside l m classPart foundPart
   pub done : (k : ℕ) → k < n → WordsHeld table finals states m k (afterSet (nodeIn l k))
   pub empty : (k p : ℕ) → n ≤ k → k < 512 → p < 16 → classRowIn m k p ≡ 0
 
 -- rows of zeros are empty
-pub zeroed-empty : (l m : List ℕ) → Zeroed l m 25602 41986 → (k p : ℕ) → k < 512 → p < 16 → classRowIn m k p ≡ 0
+pub zeroed-empty : (l m : List ℕ) → Zeroed l m classPart foundPart → (k p : ℕ) → k < 512 → p < 16 → classRowIn m k p ≡ 0
 unfolding classRowIn numberAt
 zeroed-empty l m z k p hk hp =
-    omega (arith, z .zeros (25602 + (k * 16 + p) * 2) (omega arith) (omega arith), z .zeros (suc (25602 + (k * 16 + p) * 2)) (omega arith) (omega arith))
+    omega (arith, z .zeros (classPart + (k * 16 + p) * 2) (omega arith) (omega arith), z .zeros (suc (classPart + (k * 16 + p) * 2)) (omega arith) (omega arith))
 
 -- no node is done
 pub after-start
-    : (table : List (List ℕ)) (finals states : ℕ) (l m : List ℕ) → Zeroed l m 25602 41986 → AfterSoFar table finals states m m 0
+    : (table : List (List ℕ)) (finals states : ℕ) (l m : List ℕ) → Zeroed l m classPart foundPart → AfterSoFar table finals states m m 0
 after-start table finals states l m z = record {
-  kept = kept-none m 25602 41986;
+  kept = kept-none m classPart foundPart;
   done = λ k h. absurd (omega arith);
   empty = λ k p h. zeroed-empty l m z k p;
 }
 
 -- a node before the class rows is as it was
-pub node-before : (l m : List ℕ) → SameOutside l m 25602 41986 → (n : ℕ) → n < 512 → nodeIn m n ≡ nodeIn l n
-node-before l m s n h = node-kept l m 25602 41986 s n (inl (omega arith))
+pub node-before : (l m : List ℕ) → SameOutside l m classPart foundPart → (n : ℕ) → n < 512 → nodeIn m n ≡ nodeIn l n
+node-before l m s n h = node-kept l m classPart foundPart s n (inl (omega arith))
 
 -- one node more
 pub after-more
     : (table : List (List ℕ)) (finals states : ℕ) (l m k : List ℕ) (n set : ℕ) → n < 512 → AfterSoFar table finals states l m n
     → set ≡ afterSet (nodeIn m n) → WordsClosed table finals states m k n set → AfterSoFar table finals states l k (n + 1)
 after-more table finals states l m k n set hn s e g = record {
-  kept = kept-both l m k 25602 41986 (classPart + n * 32) (classPart + n * 32 + 32) (s .kept) (g .kept) (omega arith) (omega arith);
+  kept = kept-both l m k classPart foundPart (classPart + n * 32) (classPart + n * 32 + 32) (s .kept) (g .kept) (omega arith) (omega arith);
   done = λ x h. done x h;
   empty = λ x p h a b. class-kept m k n x p (g .kept) b (λ q. absurd (omega arith)) ∙ s .empty x p (omega arith) a b;
 }
@@ -106,10 +108,10 @@ job-rule h = record { formed = h .formed .rule; states-are = h .states-are; fina
 
 -- all nodes are done
 pub after-end
-    : (table : List (List ℕ)) (finals states nodes : ℕ) (o l m : List ℕ) (n : ℕ) → nodes ≤ 512 → nodes ≤ n → Zeroed o l 25602 41986
+    : (table : List (List ℕ)) (finals states nodes : ℕ) (o l m : List ℕ) (n : ℕ) → nodes ≤ 512 → nodes ≤ n → Zeroed o l classPart foundPart
     → AfterSoFar table finals states l m n → AfterWords table finals states nodes o m
 after-end table finals states nodes o l m n few all z s = record {
-  kept = kept-both o l m 25602 41986 25602 41986 start (s .kept) (omega arith) (omega arith);
+  kept = kept-both o l m classPart foundPart classPart foundPart start (s .kept) (omega arith) (omega arith);
   exact = λ j h. record {
     sound = λ k p q a b i.
         exit-words (j .rule) p q (nodeAt j k)
@@ -123,8 +125,8 @@ after-end table finals states nodes o l m n few all z s = record {
   };
 }
   where
-    start : SameOutside o l 25602 41986
-    start = record { long = z .long; outside = z .outside }
+    start : SameOutside o l classPart foundPart
+    start = z .kept
 
     set-is : (j : Job) → JobHeld j o table finals states nodes → (k : ℕ) → k < nodes → afterSet (nodeIn l k) ≡ afterSet (nodeAt j k)
     set-is j h k a = ap (λ (y : Node). afterSet y) (node-before o l start k (omega arith) ∙ h .node k a)

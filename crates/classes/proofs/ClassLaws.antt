@@ -25,10 +25,12 @@ use Rattle.job.proofs.Decide.{apart-at}
 use Rattle.job.proofs.Rules.{apart-true, apart-false}
 use Rattle.job.proofs.Nodes.{NoEvent, plain-no-event, call-no-event, BeforeNode, before-silent, before-event, event-splits}
 use Rattle.job.proofs.Nodes.{NodeBackwards, node-backwards, before-apart, word-apart}
-use Rattle.joblines.specs.Layout.{nodeIn, startIn, targetIn, SameOutside}
-use Rattle.joblines.proofs.KeptLaws.{kept-none, kept-both, number-kept}
+use Rattle.buffer.specs.Layout.{startsPart, targetsPart, classPart, foundPart}
+use Rattle.buffer.specs.Views.{nodeIn, startIn, targetIn, classRowIn, EdgeIn, HeldApart}
+use Rattle.buffer.specs.Kept.{SameOutside}
+use Rattle.buffer.proofs.KeptLaws.{kept-none, kept-both, number-kept}
 use Rattle.tables.specs.Rows.{CellsBelow, unlikeStates, preimageOf, callSet, isEvent}
-use Rattle.tables.specs.Tables.{classPart, classRowIn, EdgeIn, HeldApart, apartLeft, ApartGrown}
+use Rattle.tables.specs.Tables.{apartLeft, ApartGrown}
 use Rattle.tables.specs.Held.{EdgesWithin, Usable, JobHeld, AfterHeld}
 use Rattle.classes.specs.Backwards.{apartBy, wordRow, ClassesFound}
 use Rattle.classes.specs.Classes.{beforeKind, beforeRow, ApartNext, NextRow, ApartBack, ClosedBack, AllApart, NodeGrown, ClassesGrown}
@@ -39,16 +41,16 @@ use Rattle.classes.proofs.AfterLaws.{node-before}
 
 -- ---- what a store in the class rows leaves as it was
 
-module _ {l m : List ℕ} (s : SameOutside l m 25602 41986) where
+module _ {l m : List ℕ} (s : SameOutside l m classPart foundPart) where
   -- where the edges of a node start
   pub start-kept : (n : ℕ) → n ≤ 512 → startIn m n ≡ startIn l n
   unfolding startIn
-  start-kept n h = number-kept l m 25602 41986 s (4096 + n * 2) (inl (omega arith))
+  start-kept n h = number-kept l m classPart foundPart s (startsPart + n * 2) (inl (omega arith))
 
   -- where an edge ends
   pub target-kept : (i : ℕ) → i < 2048 → targetIn m i ≡ targetIn l i
   unfolding targetIn
-  target-kept i h = number-kept l m 25602 41986 s (5122 + i * 2) (inl (omega arith))
+  target-kept i h = number-kept l m classPart foundPart s (targetsPart + i * 2) (inl (omega arith))
 
   -- an edge
   pub edge-kept : (n k : ℕ) → n < 512 → EdgesWithin l n → EdgeIn l n k ↔ EdgeIn m n k
@@ -312,7 +314,7 @@ module _
   -- what the rows of a buffer tell apart past node n, some continuation does
   pub back-sound
       : (w : List ℕ) (n set : ℕ) → n < nodes → nodes ≤ 512 → states ≤ 16 → EdgesWithin work n → set ≡ callSet (nodeIn work n .kind)
-      → SameOutside work w 25602 41986 → ((k x y : ℕ) → k < nodes → x < 16 → HeldApart w k x y → ApartPast j k x y)
+      → SameOutside work w classPart foundPart → ((k x y : ℕ) → k < nodes → x < 16 → HeldApart w k x y → ApartPast j k x y)
       → (p q : ℕ) → p < 16 → ApartBack table finals states w n set p q → ApartPast j n p q
   back-sound w n set hn many few within set-is kept all p q hp (inl t) =
       let m = has-word-row table finals states (classRowIn w n) set p q .0 t in
@@ -334,9 +336,9 @@ abbrev pub ApartIn : Job → ℕ → ℕ → ℕ → Type 0
 ApartIn j n p q = n < length (j .nodes) → ApartPast j n p q
 
 -- the part of one node lies in the part of all
-pub kept-part : (l m : List ℕ) (n : ℕ) → n < 512 → SameOutside l m (classPart + n * 32) (classPart + n * 32 + 32) → SameOutside l m 25602 41986
+pub kept-part : (l m : List ℕ) (n : ℕ) → n < 512 → SameOutside l m (classPart + n * 32) (classPart + n * 32 + 32) → SameOutside l m classPart foundPart
 kept-part l m n h s =
-    kept-both l l m 25602 41986 (classPart + n * 32) (classPart + n * 32 + 32) (kept-none l 25602 41986) s (omega arith) (omega arith)
+    kept-both l l m classPart foundPart (classPart + n * 32) (classPart + n * 32 + 32) (kept-none l classPart foundPart) s (omega arith) (omega arith)
 
 -- the pairs that one turn adds at node n
 abbrev pub BackPairs : List (List ℕ) → ℕ → ℕ → ℕ → ℕ → List ℕ → ℕ → ℕ → Type 0
@@ -393,7 +395,7 @@ node-end table finals states l m n set grown p hn few below within set-is g all 
 -- the nodes from n on were grown once
 pub record RoundSoFar (table : List (List ℕ)) (finals states nodes : ℕ) (l m : List ℕ) (grown n : ℕ) : Type 0 where
   pub within : n ≤ nodes
-  pub kept : SameOutside l m 25602 41986
+  pub kept : SameOutside l m classPart foundPart
   pub held : (k p q : ℕ) → k < 512 → p < 16 → HeldApart l k p q → HeldApart m k p q
   pub sound : (j : Job) → JobHeld j l table finals states nodes → AllApart j nodes l → AllApart j nodes m
   pub none : grown ≡ 0 → m ≡ l
@@ -404,7 +406,7 @@ pub record RoundSoFar (table : List (List ℕ)) (finals states nodes : ℕ) (l m
 pub round-start : (table : List (List ℕ)) (finals states nodes : ℕ) (l : List ℕ) → RoundSoFar table finals states nodes l l 0 nodes
 round-start table finals states nodes l = record {
   within = omega arith;
-  kept = kept-none l 25602 41986;
+  kept = kept-none l classPart foundPart;
   held = λ k p q a b h. h;
   sound = λ j h all. all;
   none = λ e. refl;
@@ -419,7 +421,7 @@ pub round-next
     → RoundSoFar table finals states nodes l k (grown + count) (n - 1)
 round-next table finals states nodes l m k grown n count u some s g = record {
   within = omega (arith, s .within);
-  kept = kept-both l m k 25602 41986 (classPart + (n - 1) * 32) (classPart + (n - 1) * 32 + 32) (s .kept) (g .kept) (omega arith)
+  kept = kept-both l m k classPart foundPart (classPart + (n - 1) * 32) (classPart + (n - 1) * 32 + 32) (s .kept) (g .kept) (omega arith)
       (omega (arith, s .within, u .few-nodes));
   held = λ x p q a b h. g .held x p q a b (s .held x p q a b h);
   sound = λ j h all. g .sound j nodes (job-kept (s .kept) u h) (omega (arith, s .within)) (u .few-nodes) (s .sound j h all);
@@ -449,7 +451,7 @@ round-done table finals states nodes l m grown n s z = record {
 
 -- after some rounds
 pub record GrowingClasses (table : List (List ℕ)) (finals states nodes : ℕ) (l m : List ℕ) (grown : ℕ) : Type 0 where
-  pub kept : SameOutside l m 25602 41986
+  pub kept : SameOutside l m classPart foundPart
   pub held : (k p q : ℕ) → k < 512 → p < 16 → HeldApart l k p q → HeldApart m k p q
   pub sound : (j : Job) → JobHeld j l table finals states nodes → AllApart j nodes l → AllApart j nodes m
   pub closed : grown ≡ 0 → (n : ℕ) → n < nodes → ClosedBack table finals states m n
@@ -457,7 +459,7 @@ pub record GrowingClasses (table : List (List ℕ)) (finals states nodes : ℕ) 
 -- before the first
 pub growing-start : (table : List (List ℕ)) (finals states nodes : ℕ) (l : List ℕ) → GrowingClasses table finals states nodes l l 1
 growing-start table finals states nodes l = record {
-  kept = kept-none l 25602 41986;
+  kept = kept-none l classPart foundPart;
   held = λ k p q a b h. h;
   sound = λ j h all. all;
   closed = λ e n h. absurd (omega arith);
@@ -469,7 +471,7 @@ pub growing-more
     → GrowingClasses table finals states nodes l m grown → ClassesGrown table finals states nodes m k new
     → GrowingClasses table finals states nodes l k new
 growing-more table finals states nodes l m k grown new u s g = record {
-  kept = kept-both l m k 25602 41986 25602 41986 (s .kept) (g .kept) (omega arith) (omega arith);
+  kept = kept-both l m k classPart foundPart classPart foundPart (s .kept) (g .kept) (omega arith) (omega arith);
   held = λ x p q a b h. g .held x p q a b (s .held x p q a b h);
   sound = λ j h all. g .sound j (job-kept (s .kept) u h) (s .sound j h all);
   closed = g .closed;
@@ -483,7 +485,7 @@ after-apart j l nodes a n p q h b e =
 
 -- rows that are closed and hold the after words are closed backwards
 pub closed-nodes
-    : (table : List (List ℕ)) (finals states nodes : ℕ) (l m : List ℕ) (j : Job) → Usable l table states nodes → SameOutside l m 25602 41986
+    : (table : List (List ℕ)) (finals states nodes : ℕ) (l m : List ℕ) (j : Job) → Usable l table states nodes → SameOutside l m classPart foundPart
     → JobHeld j l table finals states nodes → AfterHeld j l nodes
     → ((k p q : ℕ) → k < 512 → p < 16 → HeldApart l k p q → HeldApart m k p q)
     → ((n : ℕ) → n < nodes → ClosedBack table finals states m n) → NodeBackwards j full full (HeldApart m)

@@ -18,7 +18,7 @@ use Rattle.automaton.specs.Automaton.{next, final, cell}
 use Rattle.job.specs.Job.{Job}
 use Rattle.job.specs.Search.{arrives, apart}
 use Rattle.job.specs.Found.{statesBefore, lowest, classCount, nopShadow}
-use Rattle.tables.specs.Tables.{pairRowIn, classRowIn}
+use Rattle.buffer.specs.Views.{pairRowIn, classRowIn}
 use Rattle.tables.specs.Held.{JobHeld}
 use Rattle.classes.specs.Backwards.{ClassesHeld, heldStates, isLowest, isNop}
 use Rattle.tables.proofs.SetLaws.{has-set-test, set-of-cong}

@@ -12,9 +12,11 @@ use Rattle.laws.specs.Bytes.{numberAt}
 use Rattle.laws.proofs.Tests.{or-passes, or-left, or-right}
 use Rattle.laws.proofs.Bounded.{sum-bound}
 use Rattle.laws.proofs.Bits.{has-or}
-use Rattle.joblines.specs.Layout.{SameOutside}
-use Rattle.joblines.proofs.KeptLaws.{kept-none, kept-both, number-kept}
-use Rattle.tables.specs.Tables.{classPart, classRowIn, HeldApart, apartLeft, ApartGrown}
+use Rattle.buffer.specs.Layout.{classPart}
+use Rattle.buffer.specs.Views.{classRowIn, HeldApart}
+use Rattle.buffer.specs.Kept.{SameOutside}
+use Rattle.buffer.proofs.KeptLaws.{kept-none, kept-both, number-kept}
+use Rattle.tables.specs.Tables.{apartLeft, ApartGrown}
 
 -- ---- the measure of a search that ends when no row grows
 

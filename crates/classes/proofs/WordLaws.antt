@@ -22,10 +22,12 @@ use Rattle.job.specs.Words.{WordApart, apart-here, apart-later}
 use Rattle.job.specs.Search.{unlike}
 use Rattle.job.specs.Found.{setOf}
 use Rattle.job.proofs.FoundLaws.{has-set-of}
-use Rattle.joblines.specs.Layout.{SameOutside}
-use Rattle.joblines.proofs.KeptLaws.{kept-none, kept-both}
+use Rattle.buffer.specs.Layout.{classPart}
+use Rattle.buffer.specs.Views.{classRowIn, HeldApart}
+use Rattle.buffer.specs.Kept.{SameOutside}
+use Rattle.buffer.proofs.KeptLaws.{kept-none, kept-both}
 use Rattle.tables.specs.Rows.{CellsBelow, unlikeStates, preimageOf}
-use Rattle.tables.specs.Tables.{classPart, classRowIn, HeldApart, ApartGrown}
+use Rattle.tables.specs.Tables.{ApartGrown}
 use Rattle.classes.specs.Backwards.{RuleHeld, apartBy, wordRow, WordsGrown, WordsClosed}
 use Rattle.tables.proofs.RowLaws.{has-unlike, has-preimage}
 use Rattle.classes.proofs.GrownLaws.{AllHeld, RowsGrown, rows-more}

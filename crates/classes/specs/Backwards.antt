@@ -14,9 +14,11 @@ use Rattle.job.specs.Job.{Job}
 use Rattle.job.specs.Words.{WordApart}
 use Rattle.job.specs.Search.{apart}
 use Rattle.job.specs.Found.{setOf}
-use Rattle.joblines.specs.Layout.{SameOutside}
+use Rattle.buffer.specs.Layout.{classPart, foundPart}
+use Rattle.buffer.specs.Views.{pairRowIn, classRowIn, HeldApart}
+use Rattle.buffer.specs.Kept.{SameOutside}
 use Rattle.tables.specs.Rows.{unlikeStates}
-use Rattle.tables.specs.Tables.{classPart, foundPart, pairRowIn, classRowIn, HeldApart, apartLeft}
+use Rattle.tables.specs.Tables.{apartLeft}
 use Rattle.tables.specs.Held.{JobHeld, AfterHeld}
 
 -- the table, S and the final set are this rule

@@ -10,9 +10,11 @@ use Rattle.laws.specs.Bits.{has}
 use Rattle.automaton.specs.Automaton.{cell}
 use Rattle.job.specs.Job.{Kind, plain, event, call, Job}
 use Rattle.job.specs.Found.{Apart}
-use Rattle.joblines.specs.Layout.{nodeIn, SameOutside}
+use Rattle.buffer.specs.Layout.{classPart, foundPart}
+use Rattle.buffer.specs.Views.{nodeIn, classRowIn, EdgeIn, HeldApart}
+use Rattle.buffer.specs.Kept.{SameOutside}
 use Rattle.tables.specs.Rows.{unlikeStates, preimageOf, callSet}
-use Rattle.tables.specs.Tables.{classPart, foundPart, classRowIn, EdgeIn, HeldApart, apartLeft}
+use Rattle.tables.specs.Tables.{apartLeft}
 use Rattle.tables.specs.Held.{JobHeld}
 use Rattle.classes.specs.Backwards.{wordRow}
 

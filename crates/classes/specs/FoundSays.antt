@@ -9,7 +9,7 @@ use Rattle.laws.specs.Bounded.{sumBelow}
 use Rattle.job.specs.Job.{Job}
 use Rattle.job.specs.Search.{arrives}
 use Rattle.job.specs.Found.{setOf, statesBefore, lowest, classCount, nopShadow}
-use Rattle.tables.specs.Tables.{pairRowIn}
+use Rattle.buffer.specs.Views.{pairRowIn}
 use Rattle.tables.specs.Held.{JobHeld}
 use Rattle.classes.specs.Backwards.{ClassesHeld, heldStates, isLowest, lowestStates, isNop}
 

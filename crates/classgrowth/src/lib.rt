@@ -1,6 +1,7 @@
 // The growth of the class rows from the after words of the exits, backwards over the edges.
 ghost use Prim.Native.Nat.{_<_, _≤_};
 ghost use lib.ListN.{length};
+ghost use Rattle.buffer.specs.Layout.{Lent};
 ghost use Rattle.tables.specs.Rows.{CellsBelow};
 ghost use Rattle.tables.specs.Held.{EdgesWithin, Usable};
 ghost use Rattle.classes.specs.Backwards.{ClassesFound};
@@ -18,7 +19,7 @@ fn class_node(
     states: usize,
     n: usize,
 ) -> usize
-    requires { ⌜ (65536 ≤ length (now work)) × ((n < 512) × ((states ≤ 16) × (CellsBelow (now table) × EdgesWithin (now work) n))) ⌝ }
+    requires { ⌜ (Lent (now work)) × ((n < 512) × ((states ≤ 16) × (CellsBelow (now table) × EdgesWithin (now work) n))) ⌝ }
     ensures { λ r. ⌜ NodeGrown (now (table .entry)) finals states (now (work .entry)) (now (work .exit)) n r ⌝ }
 {
     let set = call_set(work, n);

@@ -2,14 +2,16 @@
 ghost use mathlib.Core.Path.{_≡_};
 ghost use Prim.Native.Nat.{_<_, _≤_};
 ghost use lib.ListN.{length};
-ghost use Rattle.tables.specs.Tables.{classRowIn, ApartGrown};
-use parts::CLASSES;
+ghost use Rattle.buffer.specs.Layout.{Lent};
+ghost use Rattle.buffer.specs.Views.{classRowIn};
+ghost use Rattle.tables.specs.Tables.{ApartGrown};
+use buffer::CLASSES;
 use stores::write16;
 use words::read16;
 
 // Row p of the states told apart past node n.
 pub fn class_row(work: &[u8], n: usize, p: usize) -> u16
-    requires { ⌜ (65536 ≤ length (now work)) × ((n < 512) × (p < 16)) ⌝ }
+    requires { ⌜ (Lent (now work)) × ((n < 512) × (p < 16)) ⌝ }
     ensures { λ r. ⌜ r ≡ classRowIn (now (work .entry)) n p ⌝ }
 {
     read16(work, CLASSES + (n * 16 + p) * 2)
@@ -17,7 +19,7 @@ pub fn class_row(work: &[u8], n: usize, p: usize) -> u16
 
 // Joins a set into row p of the states told apart past node n: 1 where the row grows, 0 where not.
 pub fn join_classes(work: &mut [u8], n: usize, p: usize, s: u16) -> usize
-    requires { ⌜ (65536 ≤ length (now work)) × ((n < 512) × (p < 16)) ⌝ }
+    requires { ⌜ (Lent (now work)) × ((n < 512) × (p < 16)) ⌝ }
     ensures { λ r. ⌜ ApartGrown (now (work .entry)) (now (work .exit)) n p s r ⌝ }
 {
     let at = CLASSES + (n * 16 + p) * 2;

@@ -16,11 +16,14 @@ use Rattle.laws.proofs.Bytes.{number-put}
 use Rattle.lines.specs.declared.line.Collected.{Collected}
 use Rattle.lines.specs.Line.{lineOf, at}
 use Rattle.jobfile.specs.File.{edgeLine}
-use Rattle.joblines.specs.Layout.{startsPart, targetsPart, targetsEnd, workSize, startIn, targetIn, SameOutside, StartsFilled}
+use Rattle.buffer.specs.Layout.{startsPart, targetsPart, pairPart, Lent}
+use Rattle.buffer.specs.Views.{startIn, targetIn}
+use Rattle.buffer.specs.Kept.{SameOutside}
+use Rattle.joblines.specs.Stored.{StartsFilled}
 use Rattle.lines.specs.Places.{numbersOf, numbersAt, beforeAt, statusAt}
 use Rattle.joblines.specs.ReadLines.{beforeOf, EdgeRead, EdgesRead}
 use Rattle.lines.proofs.LinesLaws.{passed-more, read-all, read-stop, status-here, numbers-here, passed-length}
-use Rattle.joblines.proofs.KeptLaws.{kept-none, kept-both, kept-put, number-kept}
+use Rattle.buffer.proofs.KeptLaws.{kept-none, kept-both, kept-put, number-kept}
 
 -- where edge i begins, as its line says
 abbrev source : ℕ → List ℕ → ℕ → ℕ
@@ -39,7 +42,7 @@ pub record EdgesSoFar (n : ℕ) (bytes l m : List ℕ) (next done e : ℕ) : Typ
   pub below : (i j : ℕ) → i < e → j < done → i < startIn m j → source n bytes i < j
   pub above : (i j : ℕ) → i < e → j < done → startIn m j ≤ i → j ≤ source n bytes i
   pub sources : (i : ℕ) → i < e → source n bytes i < done
-  pub kept : SameOutside l m startsPart targetsEnd
+  pub kept : SameOutside l m startsPart pairPart
 
 -- none is read yet
 pub edges-none : (n : ℕ) (bytes l : List ℕ) → EdgesSoFar n bytes l l 0 0 0
@@ -56,7 +59,7 @@ edges-none n bytes l = record {
   below = λ i j h. absurd (not-suc-le-zero h);
   above = λ i j h. absurd (not-suc-le-zero h);
   sources = λ i h. absurd (not-suc-le-zero h);
-  kept = kept-none l startsPart targetsEnd;
+  kept = kept-none l startsPart pairPart;
 }
 
 -- a list of two numbers
@@ -70,7 +73,7 @@ two-numbers xs a b h p q =
     place (suc (suc i)) l = absurd (omega arith)
 
 -- the starts of the buffer after the stores of an edge: those before are as they were, and the new ones are e
-module _ (l m k w : List ℕ) (done from e v : ℕ) (few : from < 512) (reach : done ≤ from + 1) (le : e < 2048) (long : workSize ≤ length m)
+module _ (l m k w : List ℕ) (done from e v : ℕ) (few : from < 512) (reach : done ≤ from + 1) (le : e < 2048) (long : Lent m)
     (x : StartsFilled m k done (from + 1) e) (y : w ≡ putNumber 2 k (targetsPart + e * 2) v) where
   put : SameOutside k w (targetsPart + e * 2) (targetsPart + e * 2 + 2)
   put = kept-put k w (targetsPart + e * 2) v y
@@ -98,10 +101,10 @@ module _ (l m k w : List ℕ) (done from e v : ℕ) (few : from < 512) (reach : 
   unfolding targetIn
   new-target h = rw y (number-put 2 k (targetsPart + e * 2) v h (omega (arith, x .kept .long)))
 
-  stores-kept : SameOutside l m startsPart targetsEnd → SameOutside l w startsPart targetsEnd
+  stores-kept : SameOutside l m startsPart pairPart → SameOutside l w startsPart pairPart
   stores-kept p =
-      kept-both l k w startsPart targetsEnd (targetsPart + e * 2) (targetsPart + e * 2 + 2)
-      (kept-both l m k startsPart targetsEnd (startsPart + done * 2) (startsPart + (from + 1) * 2) p (x .kept) (omega arith) (omega arith))
+      kept-both l k w startsPart pairPart (targetsPart + e * 2) (targetsPart + e * 2 + 2)
+      (kept-both l m k startsPart pairPart (startsPart + done * 2) (startsPart + (from + 1) * 2) p (x .kept) (omega arith) (omega arith))
       put (omega arith) (omega arith)
 
 module _ (n : ℕ) (file : List ℕ) (start : ℕ) (l m : List ℕ) (next done e : ℕ) (r : Collected)
@@ -146,7 +149,7 @@ module _ (n : ℕ) (file : List ℕ) (start : ℕ) (l m : List ℕ) (next done e
 
   -- one line more
   pub edges-more
-      : (k w : List ℕ) → n ≤ 512 → e < 2048 → workSize ≤ length l → r .status ≡ 0 → StartsFilled m k done (r .number / 512 + 1) e
+      : (k w : List ℕ) → n ≤ 512 → e < 2048 → Lent l → r .status ≡ 0 → StartsFilled m k done (r .number / 512 + 1) e
       → w ≡ putNumber 2 k (targetsPart + e * 2) (r .number % 512)
       → EdgesSoFar n bytes l w (r .number + 1) (r .number / 512 + 1) (e + 1)
   edges-more k w hn he long z st y =
@@ -156,7 +159,7 @@ module _ (n : ℕ) (file : List ℕ) (start : ℕ) (l m : List ℕ) (next done e
       let is-to : r .number % 512 ≡ at (numbersAt (edgeLine n) bytes e) 1 = x .to z ∙ ap (λ (ns : List ℕ). at ns 1) own-numbers in
       let reaches = done-reaches z in
       let fb = x .from-below z in
-      let lm : workSize ≤ length m = omega (arith, so .kept .long) in
+      let lm : Lent m = omega (arith, so .kept .long) in
       let old = old-start l m k w done from e (r .number % 512) (omega arith) reaches he lm st y in
       let new = new-start l m k w done from e (r .number % 512) (omega arith) reaches he lm st y in
       record {
@@ -227,7 +230,7 @@ edges-end n bytes l m k next done e c is hn so st = record {
       (λ (d : j < done). so .above i j (omega arith) d (omega (arith, old j d)))
       (λ d. absurd (omega (arith, st .here j (omega arith) (omega arith))));
   sources = λ z i h. omega (arith, so .sources i (omega arith), so .few);
-  kept = kept-both l m k startsPart targetsEnd (startsPart + done * 2) (startsPart + (n + 1) * 2) (so .kept) (st .kept) (omega arith) (omega arith);
+  kept = kept-both l m k startsPart pairPart (startsPart + done * 2) (startsPart + (n + 1) * 2) (so .kept) (st .kept) (omega arith) (omega arith);
 }
   where
     old : (j : ℕ) → j < done → startIn k j ≡ startIn m j

@@ -10,8 +10,11 @@ use native.Mathlib.Omega.{arith}
 use lib.ListN.{length}
 use Rattle.laws.specs.Bytes.{putNumber}
 use Rattle.laws.proofs.Bytes.{number-put}
-use Rattle.joblines.specs.Layout.{startsPart, workSize, startIn, SameOutside, StartsFilled}
-use Rattle.joblines.proofs.KeptLaws.{kept-none, kept-both, kept-put, number-kept}
+use Rattle.buffer.specs.Layout.{startsPart, Lent}
+use Rattle.buffer.specs.Views.{startIn}
+use Rattle.buffer.specs.Kept.{SameOutside}
+use Rattle.joblines.specs.Stored.{StartsFilled}
+use Rattle.buffer.proofs.KeptLaws.{kept-none, kept-both, kept-put, number-kept}
 
 -- the starts from a up to j are filled
 pub record StartsSoFar (l m : List ℕ) (a b v j : ℕ) : Type 0 where
@@ -24,7 +27,7 @@ starts-none l a b v = record { here = λ i g h. absurd (omega arith); kept = kep
 
 -- one start more
 pub starts-more
-    : (l m k : List ℕ) (a b v j : ℕ) → a ≤ j → j < b → b ≤ 513 → v < 65536 → workSize ≤ length l → StartsSoFar l m a b v j
+    : (l m k : List ℕ) (a b v j : ℕ) → a ≤ j → j < b → b ≤ 513 → v < 65536 → Lent l → StartsSoFar l m a b v j
     → k ≡ putNumber 2 m (startsPart + j * 2) v → StartsSoFar l k a b v (j + 1)
 unfolding startIn
 starts-more l m k a b v j h g few fits long s e =

@@ -1,16 +1,17 @@
 // The F lines, and the edges by source in the work buffer.
 ghost use Prim.Native.Nat.{_≤_};
 ghost use lib.ListN.{length, drop};
-ghost use Rattle.joblines.specs.Layout.{workSize, StartsFilled};
+ghost use Rattle.buffer.specs.Layout.{Lent};
+ghost use Rattle.joblines.specs.Stored.{StartsFilled};
 ghost use Rattle.joblines.specs.ReadLines.{EdgesRead};
+use buffer::STARTS;
+use buffer::TARGETS;
 use edgeline::edge_line;
-use joblines::layout::STARTS;
-use joblines::layout::TARGETS;
 use stores::write16;
 
 // Makes the starts of the nodes from a up to b the number v.
 fn fill_starts(work: &mut [u8], a: usize, b: usize, v: u16)
-    requires { ⌜ (a ≤ b) × ((b ≤ 513) × (workSize ≤ length (now work))) ⌝ }
+    requires { ⌜ (a ≤ b) × ((b ≤ 513) × (Lent (now work))) ⌝ }
     ensures { λ _. ⌜ StartsFilled (now (work .entry)) (now (work .exit)) a b v ⌝ }
 {
     let mut j = a;
@@ -22,7 +23,7 @@ fn fill_starts(work: &mut [u8], a: usize, b: usize, v: u16)
 
 // Reads the F lines from `at` on: 3, 4 or 8, or 0, and the edges are stored by source.
 pub fn edge_lines(file: &[u8], at: usize, work: &mut [u8], nodes: usize, edges: usize) -> u64
-    requires { ⌜ (at ≤ length (now file)) × ((workSize ≤ length (now work)) × ((nodes ≤ 512) × (edges ≤ 2048))) ⌝ }
+    requires { ⌜ (at ≤ length (now file)) × ((Lent (now work)) × ((nodes ≤ 512) × (edges ≤ 2048))) ⌝ }
     ensures { λ r. ⌜ EdgesRead nodes edges (drop at (now (file .entry))) (now (work .entry)) (now (work .exit)) r ⌝ }
 {
     let count = nodes as u64;

@@ -3,15 +3,16 @@ ghost use mathlib.Core.Path.{_≡_};
 ghost use Prim.Native.Nat.{_<_, _≤_};
 ghost use lib.ListN.{length};
 ghost use Rattle.job.specs.Planning.{shadowByte};
-ghost use Rattle.joblines.specs.Layout.{nodeIn};
+ghost use Rattle.buffer.specs.Layout.{Lent};
+ghost use Rattle.buffer.specs.Views.{nodeIn};
 ghost use Rattle.planning.specs.Passes.{enabledTotal, AllEnabled};
-use joblines::layout::PLAN;
+use buffer::PLAN;
 use places::is_enabled;
 use places::is_shadow;
 
 // The plan byte with every shadow enabled.
 fn first_mark(work: &[u8], n: usize) -> usize
-    requires { ⌜ (65536 ≤ length (now work)) × (n < 512) ⌝ }
+    requires { ⌜ (Lent (now work)) × (n < 512) ⌝ }
     ensures { λ r. ⌜ r ≡ shadowByte (nodeIn (now (work .entry)) n .kind) ⌝ }
 {
     if is_shadow(work, n) {
@@ -22,7 +23,7 @@ fn first_mark(work: &[u8], n: usize) -> usize
 
 // Enables every shadow, and returns how many there are.
 pub fn enable_all(work: &mut [u8], nodes: usize) -> usize
-    requires { ⌜ (65536 ≤ length (now work)) × (nodes ≤ 512) ⌝ }
+    requires { ⌜ (Lent (now work)) × (nodes ≤ 512) ⌝ }
     ensures { λ r. ⌜ AllEnabled (now (work .entry)) (now (work .exit)) nodes r ⌝ }
 {
     let mut count = 0;
@@ -38,7 +39,7 @@ pub fn enable_all(work: &mut [u8], nodes: usize) -> usize
 
 // The number of enabled nodes.
 pub fn enabled_total(work: &[u8], nodes: usize) -> usize
-    requires { ⌜ (65536 ≤ length (now work)) × (nodes ≤ 512) ⌝ }
+    requires { ⌜ (Lent (now work)) × (nodes ≤ 512) ⌝ }
     ensures { λ r. ⌜ r ≡ enabledTotal (now (work .entry)) nodes ⌝ }
 {
     let mut total = 0;

@@ -14,9 +14,10 @@ use Rattle.laws.specs.Bytes.{putNumber}
 use Rattle.laws.proofs.Bytes.{number-cong, number-put, number-put-other}
 use Rattle.job.specs.Job.{Job}
 use Rattle.job.specs.Planning.{allEnabled}
-use Rattle.joblines.specs.Layout.{SameOutside}
-use Rattle.joblines.proofs.KeptLaws.{kept-none, kept-both, kept-put, number-kept}
-use Rattle.tables.specs.Tables.{pairRowIn}
+use Rattle.buffer.specs.Layout.{pairPart, classPart, foundPart, planPart, workSize, Lent}
+use Rattle.buffer.specs.Views.{pairRowIn}
+use Rattle.buffer.specs.Kept.{SameOutside}
+use Rattle.buffer.proofs.KeptLaws.{kept-then, kept-fewer, outside-part, kept-none, kept-both, kept-put, number-kept}
 use Rattle.tables.specs.Held.{Usable, JobHeld, PlanHeld, AfterHeld}
 use Rattle.tables.proofs.JobKeptLaws.{front-kept, front-usable, front-job, after-words-kept}
 use Rattle.tables.proofs.SetLaws.{set-of-lt, set-of-cong}
@@ -39,38 +40,38 @@ held-states-small l n states h = set-of-lt 16 states (λ q. not (eqb (pairRowIn 
 
 -- a store past the rows of pairs leaves them
 held-states-kept
-    : {l m : List ℕ} {i j : ℕ} → SameOutside l m i j → 25602 ≤ i → (n states : ℕ) → n < 512 → states ≤ 16
+    : {l m : List ℕ} {i j : ℕ} → SameOutside l m i j → classPart ≤ i → (n states : ℕ) → n < 512 → states ≤ 16
     → heldStates m n states ≡ heldStates l n states
 unfolding heldStates pairRowIn
 held-states-kept {l} {m} {i} {j} s far n states h few =
     set-of-cong states (λ q. not (eqb (pairRowIn m n q) 0)) (λ q. not (eqb (pairRowIn l n q) 0))
-    (λ q g. ap (λ (x : ℕ). not (eqb x 0)) (number-kept l m i j s (9218 + (n * 16 + q) * 2) (inl (omega arith))))
+    (λ q g. ap (λ (x : ℕ). not (eqb x 0)) (number-kept l m i j s (pairPart + (n * 16 + q) * 2) (inl (omega arith))))
 
 -- the before sets of the first n nodes are stored
 pub record StoredSoFar (l m : List ℕ) (states n : ℕ) : Type 0 where
-  pub kept : SameOutside l m 41986 44034
+  pub kept : SameOutside l m foundPart planPart
   pub here : (k : ℕ) → k < n → beforeIn m k ≡ heldStates l k states
 
 -- none
 pub stored-start : (l : List ℕ) (states : ℕ) → StoredSoFar l l states 0
-stored-start l states = record { kept = kept-none l 41986 44034; here = λ k h. absurd (omega arith) }
+stored-start l states = record { kept = kept-none l foundPart planPart; here = λ k h. absurd (omega arith) }
 
 -- one more
 pub stored-more
-    : {l m r : List ℕ} {states n s : ℕ} → 65536 ≤ length l → states ≤ 16 → n < 512 → StoredSoFar l m states n
-    → s ≡ heldStates m n states → r ≡ putNumber 2 m (41986 + n * 4) s → StoredSoFar l r states (n + 1)
+    : {l m r : List ℕ} {states n s : ℕ} → Lent l → states ≤ 16 → n < 512 → StoredSoFar l m states n
+    → s ≡ heldStates m n states → r ≡ putNumber 2 m (foundPart + n * 4) s → StoredSoFar l r states (n + 1)
 unfolding beforeIn
 stored-more {l} {m} {r} {states} {n} {s} long few h g e put =
-    let long′ : 65536 ≤ length m = omega (arith, g .kept .long) in
+    let long′ : Lent m = omega (arith, g .kept .long) in
     let is : s ≡ heldStates l n states = e ∙ held-states-kept (g .kept) (omega arith) n states h few in
     let small : s < 256 ^ 2 = subst (λ (x : ℕ). x < 256 ^ 2) (sym is) (held-states-small l n states few) in
     record {
-      kept = kept-both l m r 41986 44034 (41986 + n * 4) (41986 + n * 4 + 2) (g .kept) (kept-put m r (41986 + n * 4) s put) (omega arith) (omega arith);
+      kept = kept-both l m r foundPart planPart (foundPart + n * 4) (foundPart + n * 4 + 2) (g .kept) (kept-put m r (foundPart + n * 4) s put) (omega arith) (omega arith);
       here = λ k b.
           ⊎-elim
-          (λ (q : k ≡ n). rw (q, put) (number-put 2 m (41986 + n * 4) s small (omega arith) ∙ is))
+          (λ (q : k ≡ n). rw (q, put) (number-put 2 m (foundPart + n * 4) s small (omega arith) ∙ is))
           (λ (q : k < n).
-          rw put (number-put-other 2 2 m (41986 + n * 4) (41986 + k * 4) s (inl (omega arith)) ∙ g .here k q))
+          rw put (number-put-other 2 2 m (foundPart + n * 4) (foundPart + k * 4) s (inl (omega arith)) ∙ g .here k q))
           (eq-or-lt-of-le (le-of-suc-le-suc (rw add-one at b)));
     }
 
@@ -81,10 +82,10 @@ stored-end {l} {m} {states} is g =
 
 -- the before set of a node in buffers that agree where it lies
 before-cong
-    : (l m : List ℕ) → ((k : ℕ) → 41986 ≤ k → k < 44034 → getD m k 0 ≡ getD l k 0) → (n : ℕ) → n < 512 → beforeIn m n ≡ beforeIn l n
+    : (l m : List ℕ) → ((k : ℕ) → foundPart ≤ k → k < planPart → getD m k 0 ≡ getD l k 0) → (n : ℕ) → n < 512 → beforeIn m n ≡ beforeIn l n
 unfolding beforeIn
 before-cong l m s n h =
-    number-cong 2 m l (41986 + n * 4) (41986 + n * 4) (λ k g. s (41986 + n * 4 + k) (omega arith) (omega arith))
+    number-cong 2 m l (foundPart + n * 4) (foundPart + n * 4) (λ k g. s (foundPart + n * 4 + k) (omega arith) (omega arith))
 
 -- ---- the search for the before sets
 
@@ -109,17 +110,21 @@ module _ {table : List (List ℕ)} {states nodes : ℕ} {l a : List ℕ} {count 
     pub before-searched : BeforeFound table finals states nodes l m
     before-searched =
         record {
-          front = kept-both l b m 9218 65536 41986 44034
-              (kept-both l a b 9218 65536 9218 65536
-              (kept-both l l a 9218 65536 44034 44546 (kept-none l 9218 65536) (all .kept) (omega arith) (omega arith))
-              (planning-outside (planning-search (s .kept))) (omega arith) (omega arith))
-              (stored .kept) (omega arith) (omega arith);
-          classes = λ k g h.
-              stored .kept .outside k (inl h) ∙ s .kept .outside k (inr (inl (g, omega arith))) ∙ all .kept .outside k (inl (omega arith));
+          kept = kept-then (λ k o. (o, outside-part (omega arith) (omega arith) k (o .1)))
+              (kept-then (λ k o. (outside-part (omega arith) (omega arith) k (o .1), (o .0, outside-part (omega arith) (omega arith) k (o .1))))
+              (all .kept) (s .kept))
+              (stored .kept);
           exact = before-held;
         }
 
 -- ---- before sets, plan and classes
+
+-- the bytes in front of the rows of pairs and past the buffer are as they were
+before-outside
+    : {table : List (List ℕ)} {finals states nodes : ℕ} {l m : List ℕ} → BeforeFound table finals states nodes l m
+    → SameOutside l m pairPart workSize
+before-outside found =
+    kept-fewer (λ k o. (outside-part (omega arith) (omega arith) k o, outside-part (omega arith) (omega arith) k o)) (found .kept)
 
 module _ {table : List (List ℕ)} {finals states nodes : ℕ} {l a : List ℕ} (u : Usable l table states nodes)
     (after : AfterWords table finals states nodes l a) where
@@ -130,7 +135,7 @@ module _ {table : List (List ℕ)} {finals states nodes : ℕ} {l a : List ℕ} 
   module _ {b : List ℕ} (found : BeforeFound table finals states nodes a b) where
     -- with the before sets
     pub before-usable : Usable b table states nodes
-    before-usable = front-usable (front-kept (omega arith) (found .front)) after-usable
+    before-usable = front-usable (front-kept (omega arith) (before-outside found)) after-usable
 
     module _ {c : List ℕ} {counts : Counts} (made : PlanMade table finals states nodes b c counts) where
       -- with the plan
@@ -139,20 +144,20 @@ module _ {table : List (List ℕ)} {finals states nodes : ℕ} {l a : List ℕ} 
 
       module _ {m : List ℕ} (grown : ClassesFound table finals states nodes c m) where
         -- the bytes in front of the rows of pairs and past the buffer's part
-        all-kept : SameOutside l m 9218 65536
+        all-kept : SameOutside l m pairPart workSize
         all-kept =
-            kept-both l c m 9218 65536 25602 41986
-            (kept-both l b c 9218 65536 9218 65536
-            (kept-both l a b 9218 65536 9218 65536
-            (kept-both l l a 9218 65536 25602 41986 (kept-none l 9218 65536) (after .kept) (omega arith) (omega arith))
-            (found .front) (omega arith) (omega arith))
+            kept-both l c m pairPart workSize classPart foundPart
+            (kept-both l b c pairPart workSize pairPart workSize
+            (kept-both l a b pairPart workSize pairPart workSize
+            (kept-both l l a pairPart workSize classPart foundPart (kept-none l pairPart workSize) (after .kept) (omega arith) (omega arith))
+            (before-outside found) (omega arith) (omega arith))
             (planning-outside (made .kept)) (omega arith) (omega arith))
             (grown .kept) (omega arith) (omega arith)
 
         -- the before sets stay
         before-stays : (n : ℕ) → n < 512 → beforeIn m n ≡ beforeIn b n
         before-stays =
-            before-cong b m (λ k g h. grown .kept .outside k (inr g) ∙ made .kept .outside k (inr (inl (omega arith, h))))
+            before-cong b m (λ k g h. grown .kept .outside k (inr g) ∙ made .kept .outside k (inr (omega arith), inl h))
 
         -- what is found is the job's
         found-held
@@ -160,8 +165,8 @@ module _ {table : List (List ℕ)} {finals states nodes : ℕ} {l a : List ℕ} 
         found-held j h =
             let first = front-job (front-kept (omega arith) (after .kept)) u h in
             let words = after .exact j h in
-            let second = front-job (front-kept (omega arith) (found .front)) after-usable first in
-            let words′ = after-words-kept a b (found .classes) (h .formed) (u .few-nodes) words in
+            let second = front-job (front-kept (omega arith) (before-outside found)) after-usable first in
+            let words′ = after-words-kept a b (kept-fewer (λ k h. (inr (h .0), inl (h .1))) (found .kept)) (h .formed) (u .few-nodes) words in
             let third = job-kept (made .kept) before-usable second in
             let words″ = after-kept (made .kept) before-usable second words′ in (
               record {

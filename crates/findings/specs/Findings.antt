@@ -8,8 +8,8 @@ use Rattle.laws.specs.Bytes.{numberAt}
 use Rattle.job.specs.Job.{event, Job, nodeAt}
 use Rattle.job.specs.Found.{statesBefore}
 use Rattle.job.specs.Listing.{planOf}
-use Rattle.joblines.specs.Layout.{SameOutside}
-use Rattle.tables.specs.Tables.{foundPart}
+use Rattle.buffer.specs.Layout.{pairPart, classPart, foundPart, planPart, workSize}
+use Rattle.buffer.specs.Kept.{SameOutside, Kept, Outside}
 use Rattle.tables.specs.Held.{JobHeld, AfterHeld}
 use Rattle.classes.specs.Backwards.{ClassesHeld, heldStates}
 use Rattle.planning.specs.declared.passes.Counts.{Counts}
@@ -25,13 +25,12 @@ BeforeHeld j work = (n a : ℕ) → nodeAt j n .kind ≡ event a → beforeIn wo
 
 -- for each node the states whose rows hold pairs were stored
 pub record BeforeStored (l m : List ℕ) (states nodes : ℕ) : Type 0 where
-  pub kept : SameOutside l m 41986 44034
+  pub kept : SameOutside l m foundPart planPart
   pub here : (n : ℕ) → n < nodes → beforeIn m n ≡ heldStates l n states
 
--- the before sets were found; rows of pairs, plan and marks are free
+-- the before sets were found; the job and the class rows are as they were
 pub record BeforeFound (table : List (List ℕ)) (finals states nodes : ℕ) (l m : List ℕ) : Type 0 where
-  pub front : SameOutside l m 9218 65536
-  pub classes : (k : ℕ) → 25602 ≤ k → k < 41986 → getD m k 0 ≡ getD l k 0
+  pub kept : Kept (λ k. Outside pairPart classPart k × Outside foundPart workSize k) l m
   pub exact : (j : Job) → JobHeld j l table finals states nodes → AfterHeld j l nodes → BeforeHeld j m
 
 -- before sets, plan and classes of the job are held
@@ -43,6 +42,6 @@ pub record FoundHeld (j : Job) (work : List ℕ) (table : List (List ℕ)) (fina
 
 -- they were found for every job that the buffer holds, and the counts are the plan's
 pub record Found (table : List (List ℕ)) (finals states nodes : ℕ) (l m : List ℕ) (counts : Counts) : Type 0 where
-  pub kept : SameOutside l m 9218 65536
+  pub kept : SameOutside l m pairPart workSize
   pub exact
       : (j : Job) → JobHeld j l table finals states nodes → FoundHeld j m table finals states nodes × (counts ≡ countsOf j)

@@ -3,7 +3,7 @@
 use mathlib.Core.Path.{_≡_}
 use mathlib.Core.Bool.{Bool, true, false, _&&_, _||_}
 use mathlib.Core.List.{List, [], _∷_}
-use Prim.Native.Nat.{ℕ, _<_}
+use Prim.Native.Nat.{ℕ, zero, suc, _<_}
 use lib.Dec.{eqb}
 use lib.ListN.{getD, length}
 use Rattle.laws.specs.Bits.{has}
@@ -14,6 +14,12 @@ pub data Kind : Type 0 where
   plain : Kind
   event : ℕ → Kind
   call : ℕ → Kind
+
+-- the kind of its number in a job file, and its value
+abbrev pub kindOf : ℕ → ℕ → Kind
+kindOf zero value = plain
+kindOf (suc zero) value = event value
+kindOf (suc (suc k)) value = call value
 
 -- a node: its kind, its entry set (nonzero at an entry), whether it is an exit, and its after set
 pub record Node : Type 0 where

@@ -15,9 +15,9 @@ use Rattle.laws.specs.Bounded.{tab}
 use Rattle.laws.specs.Bits.{has}
 use Rattle.laws.proofs.Bounded.{length-tab, getD-tab}
 use Rattle.laws.proofs.Bits.{has-empty, below-says}
-use Rattle.job.specs.Job.{Kind, plain, event, call, Node, noNode, KindBelow, plain-below, event-below, call-below}
+use Rattle.job.specs.Job.{Kind, plain, event, call, kindOf, Node, noNode, KindBelow, plain-below, event-below, call-below}
 use Rattle.lines.specs.Line.{line, at, writeLines}
-use Rattle.jobfile.specs.File.{nodeLine, kindOf, nodeOf, mark, kindNumber, valueNumber, writeNodes}
+use Rattle.jobfile.specs.File.{nodeLine, nodeOf, mark, kindNumber, valueNumber, writeNodes}
 use Rattle.jobfile.specs.Refusal.{NodeWithin}
 use Rattle.lines.specs.Written.{Fits, GoodLines, good-none, good-more}
 use Rattle.jobfile.proofs.WithinLaws.{node-says}

@@ -8,7 +8,7 @@ use lib.ListN.{length, drop}
 use Rattle.laws.specs.Bounded.{allBelow}
 use Rattle.laws.specs.Bits.{has, with}
 use Rattle.automaton.specs.Automaton.{Automaton}
-use Rattle.job.specs.Job.{Kind as NodeKind, plain, event, call, Node, Edge, Job}
+use Rattle.job.specs.Job.{Kind as NodeKind, plain, event, call, kindOf, Node, Edge, Job}
 use Rattle.lines.specs.Line.{line, at}
 use Rattle.lines.specs.Lines.{Kind, Lines, lines, refused, linesOf}
 
@@ -78,12 +78,6 @@ finalsOf i (ns ∷ ls) = cond (eqb (at ns 1) 1) (with (finalsOf (suc i) ls) i) (
 -- the rule of its R lines
 abbrev pub ruleOf : ℕ → ℕ → List (List ℕ) → Automaton
 ruleOf s a ls = record { states = s; symbols = a; finals = finalsOf 0 ls; table = map (drop 2) ls }
-
--- the kind of its number and value
-abbrev pub kindOf : ℕ → ℕ → NodeKind
-kindOf zero value = plain
-kindOf (suc zero) value = event value
-kindOf (suc (suc k)) value = call value
 
 -- the node of its P line
 abbrev pub nodeOf : List ℕ → Node

@@ -1,4 +1,3 @@
--- Laws of what stores leave, and those that the proofs of the functions cite.
+-- The laws that the proofs of the functions cite.
 -- Assumes nothing.
-pub mod KeptLaws
 pub mod HeadLaws

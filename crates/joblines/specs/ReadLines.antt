@@ -11,7 +11,9 @@ use Rattle.lines.specs.Lines.{Lines, lines, refused, linesOf}
 use Rattle.lines.specs.Places.{numbersOf, statusOf, numbersAt, statusAt, LinesRead}
 use Rattle.jobfile.specs.File.{headLine, ruleLine, nodeLine, edgeLine, finalsOf, nodeOf}
 use Rattle.joblines.specs.declared.head.Head.{Head}
-use Rattle.joblines.specs.Layout.{startsPart, targetsEnd, rulePart, ruleEnd, nodeIn, startIn, targetIn, cellIn, SameOutside}
+use Rattle.buffer.specs.Layout.{startsPart, pairPart, rulePart, marksPart}
+use Rattle.buffer.specs.Views.{nodeIn, startIn, targetIn, cellIn}
+use Rattle.buffer.specs.Kept.{SameOutside}
 
 -- "every number it returns beside its own number is zero"
 abbrev pub refusedHead : ℕ → Head
@@ -76,7 +78,7 @@ pub record RulesRead (s a : ℕ) (bytes l m : List ℕ) (r : Collected) : Type 0
   pub zero : (r .status ≡ 0 → ⊥) → r .number ≡ 0
   pub here : r .status ≡ 0 → (q c : ℕ) → q < s → c < 16 → cellIn m q c ≡ at (numbersAt (ruleLine s a) bytes q) (c + 2)
   pub past : r .status ≡ 0 → (q c : ℕ) → s ≤ q → q < 16 → c < 16 → cellIn m q c ≡ 0
-  pub kept : SameOutside l m rulePart ruleEnd
+  pub kept : SameOutside l m rulePart marksPart
 
 -- the numbers of the edge before one whose key, from * 512 + to, is to be at least next
 abbrev pub beforeOf : ℕ → List ℕ
@@ -102,4 +104,4 @@ pub record EdgesRead (n e : ℕ) (bytes l m : List ℕ) (status : ℕ) : Type 0 
   pub below : status ≡ 0 → (i j : ℕ) → i < e → j ≤ n → i < startIn m j → at (numbersAt (edgeLine n) bytes i) 0 < j
   pub above : status ≡ 0 → (i j : ℕ) → i < e → j ≤ n → startIn m j ≤ i → j ≤ at (numbersAt (edgeLine n) bytes i) 0
   pub sources : status ≡ 0 → (i : ℕ) → i < e → at (numbersAt (edgeLine n) bytes i) 0 < n
-  pub kept : SameOutside l m startsPart targetsEnd
+  pub kept : SameOutside l m startsPart pairPart

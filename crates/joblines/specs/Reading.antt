@@ -5,11 +5,14 @@ use mathlib.Core.Logic.{_⊎_}
 use mathlib.Core.List.{List}
 use Prim.Native.Nat.{ℕ, suc, _≤_, _<_}
 use lib.ListN.{length, getD}
+use Rattle.buffer.specs.Layout.{nodesPart, pairPart, rulePart, marksPart}
+use Rattle.buffer.specs.Views.{startIn, cellIn}
+use Rattle.buffer.specs.Kept.{Kept, Outside}
 use Rattle.job.specs.Job.{Job}
 use Rattle.jobfile.specs.File.{Answer, accepted, turned, readJob, maxFile}
 use Rattle.joblines.specs.declared.head.Head.{Head}
 use Rattle.joblines.specs.ReadLines.{refusedHead}
-use Rattle.joblines.specs.Layout.{targetsEnd, rulePart, ruleEnd, startIn, cellIn, jobIn}
+use Rattle.joblines.specs.Stored.{jobIn}
 
 -- the numbers of an answer
 abbrev pub headOfAnswer : Answer → Head
@@ -24,9 +27,8 @@ headOfAnswer (accepted j) = record {
 }
 
 -- the bytes past the job's parts are as before
-pub record SameRest (l m : List ℕ) : Type 0 where
-  pub long : length m ≡ length l
-  pub outside : (k : ℕ) → ((targetsEnd ≤ k) × (k < rulePart)) ⊎ (ruleEnd ≤ k) → getD m k 0 ≡ getD l k 0
+abbrev pub SameRest : List ℕ → List ℕ → Type 0
+SameRest = Kept (λ k. Outside nodesPart pairPart k × Outside rulePart marksPart k)
 
 -- the answer's numbers are returned; an accepted job is held by the buffer, with zeros in the rule's cells past S or A, and the starts
 -- ascend up to the number of edges. Free are the bytes of the job's parts in which `jobIn` does not tell two buffers apart: nodes and

@@ -1,3 +1,2 @@
-// Where the parts of the work buffer lie, and the J line.
+// The J line, and the numbers that reading a job returns.
 pub mod head; // head.rt: the J line
-pub mod layout; // layout.rt: where the parts of the work buffer lie

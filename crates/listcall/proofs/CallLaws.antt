@@ -9,7 +9,8 @@ use lib.Dec.{ltb}
 use lib.ListN.{length}
 use Rattle.jobfile.specs.File.{maxFile, readJob}
 use Rattle.joblines.specs.declared.head.Head.{Head}
-use Rattle.joblines.specs.Layout.{workSize, cleared}
+use Rattle.buffer.specs.Layout.{workSize, Lent}
+use Rattle.buffer.specs.Kept.{cleared}
 use Rattle.reader.specs.Rule.{ruleIn}
 use Rattle.joblines.specs.Reading.{JobRead}
 use Rattle.tables.specs.Held.{Usable}
@@ -43,7 +44,7 @@ module _ (file work listing : List ℕ) where
   list-short-listing h p =
       ends-short listedOf listingAfter file work listing short h (short-other (length work) workSize (length listing) listingSize p)
 
-  module _ (fits : length file ≤ maxFile) (w : workSize ≤ length work) (p : listingSize ≤ length listing) (m : List ℕ) (r : Head)
+  module _ (fits : length file ≤ maxFile) (w : Lent work) (p : listingSize ≤ length listing) (m : List ℕ) (r : Head)
       (read : JobRead (readJob file) work m r) where
     -- the lent buffers are long enough
     room : short ≡ false

@@ -3,7 +3,7 @@ ghost use mathlib.Core.Path.{_≡_};
 ghost use lib.ListN.{length};
 ghost use Rattle.plans.specs.Called.{workAfter};
 ghost use Rattle.listings.specs.ListCall.{listAnswer, listedOf, listingAfter};
-use joblines::layout::WORK;
+use buffer::WORK;
 use listheld::list_held;
 use listings::list::Listed;
 use reader::clear::clear;

@@ -5,7 +5,8 @@ use mathlib.Core.List.{List}
 use Prim.Native.Nat.{ℕ, _≤_, _<_}
 use native.Mathlib.Omega.{arith}
 use lib.ListN.{length}
-use Rattle.joblines.proofs.KeptLaws.{kept-none, kept-both}
+use Rattle.buffer.specs.Layout.{nodesPart, pairPart, workSize, Lent}
+use Rattle.buffer.proofs.KeptLaws.{kept-none, kept-both}
 use Rattle.tables.specs.Rows.{CellsBelow}
 use Rattle.tables.specs.Held.{Usable, JobHeld}
 use Rattle.checking.proofs.CheckLaws.{table-usable}
@@ -21,7 +22,7 @@ module _ {rule table : List (List ℕ)} {finals states nodes : ℕ} {l m : List 
   -- what the lines need: the counts of a job have few digits
   pub lines-ready
       : (listing : List ℕ) → 32768 ≤ length listing → SomeJob l rule finals states nodes
-      → (65536 ≤ length m) × ((nodes ≤ 512) × ((states ≤ 16) × (CellsBelow table × ((32768 ≤ length listing)
+      → (Lent m) × ((nodes ≤ 512) × ((states ≤ 16) × (CellsBelow table × ((32768 ≤ length listing)
       × ((counts .shadows < 1000000) × ((counts .enabled < 1000000) × (counts .passes < 1000000)))))))
   lines-ready listing room some =
       let held = subst (λ (t : List (List ℕ)). JobHeld (some .0) l t finals states nodes) (sym same) (some .1) in
@@ -39,7 +40,7 @@ module _ {rule table : List (List ℕ)} {finals states nodes : ℕ} {l m : List 
       → ListedHeld rule finals states nodes l m before after long
   listed-held {before} {after} {long} written =
       subst (λ (t : List (List ℕ)). ListedHeld t finals states nodes l m before after long) same (record {
-        kept = kept-both l l m 0 65536 9218 65536 (kept-none l 0 65536) (found .kept) (omega arith) (omega arith);
+        kept = kept-both l l m nodesPart workSize pairPart workSize (kept-none l nodesPart workSize) (found .kept) (omega arith) (omega arith);
         exact = λ j held.
             let f = found .exact j held in
             let w = written .exact j (f .0) (f .1) in

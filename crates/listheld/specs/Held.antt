@@ -6,7 +6,8 @@ use Prim.Native.Nat.{ℕ}
 use lib.ListN.{length}
 use lib.Seq.{sets}
 use Rattle.job.specs.Job.{Job}
-use Rattle.joblines.specs.Layout.{SameOutside}
+use Rattle.buffer.specs.Layout.{nodesPart, workSize}
+use Rattle.buffer.specs.Kept.{SameOutside}
 use Rattle.tables.specs.Held.{JobHeld}
 use Rattle.listings.specs.ListCall.{bytesFor}
 
@@ -17,6 +18,6 @@ SomeJob work table finals states nodes = (j : Job) × JobHeld j work table final
 -- the listing buffer holds the listing of every job that the work buffer holds; the work buffer's bytes past the first 65,536 are as they
 -- were
 pub record ListedHeld (table : List (List ℕ)) (finals states nodes : ℕ) (l m before after : List ℕ) (long : ℕ) : Type 0 where
-  pub kept : SameOutside l m 0 65536
+  pub kept : SameOutside l m nodesPart workSize
   pub exact
       : (j : Job) → JobHeld j l table finals states nodes → (long ≡ length (bytesFor j)) × (after ≡ sets before 0 (bytesFor j))

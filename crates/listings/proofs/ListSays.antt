@@ -12,7 +12,7 @@ use Rattle.laws.proofs.Tests.{fails-of, or-right}
 use Rattle.jobfile.specs.File.{Answer, accepted, turned}
 use Rattle.jobfile.proofs.SpellableLaws.{read-written}
 use Rattle.jobfile.proofs.ListingLength.{listing-in-buffer}
-use Rattle.joblines.specs.Layout.{workSize}
+use Rattle.buffer.specs.Layout.{workSize}
 use Rattle.plans.specs.Called.{admitted}
 use Rattle.plans.proofs.CalledLaws.{admitted-spells, admitted-reads, admitted-small, written-first}
 use Rattle.listings.specs.declared.list.Listed.the-variants.{Length, Refused}

@@ -1,6 +1,7 @@
 // The lines of the listing, written from what the work buffer holds.
 ghost use Prim.Native.Nat.{_+_, _<_, _≤_};
 ghost use lib.ListN.{length};
+ghost use Rattle.buffer.specs.Layout.{Lent};
 ghost use Rattle.tables.specs.Rows.{CellsBelow};
 ghost use Rattle.printing.specs.Printing.{PointsWritten, LinesWritten};
 use planning::passes::Counts;
@@ -16,7 +17,7 @@ fn write_points(
     states: usize,
     nodes: usize,
 ) -> usize
-    requires { ⌜ (65536 ≤ length (now work)) × ((nodes ≤ 512) × ((states ≤ 16) × (CellsBelow (now table) × (32768 ≤ length (now out))))) ⌝ }
+    requires { ⌜ (Lent (now work)) × ((nodes ≤ 512) × ((states ≤ 16) × (CellsBelow (now table) × (32768 ≤ length (now out))))) ⌝ }
     ensures { λ r. ⌜ PointsWritten (now (table .entry)) finals states nodes (now (work .entry)) (now (out .entry)) (now (out .exit)) r ⌝ }
 {
     let mut at = 0;
@@ -38,7 +39,7 @@ pub fn write_listing(
     nodes: usize,
     counts: Counts,
 ) -> usize
-    requires { ⌜ (65536 ≤ length (now work)) × ((nodes ≤ 512) × ((states ≤ 16) × (CellsBelow (now table) × ((32768 ≤ length (now out))
+    requires { ⌜ (Lent (now work)) × ((nodes ≤ 512) × ((states ≤ 16) × (CellsBelow (now table) × ((32768 ≤ length (now out))
         × ((counts .shadows < 1000000) × ((counts .enabled < 1000000) × (counts .passes < 1000000))))))) ⌝ }
     ensures { λ r. ⌜ LinesWritten (now (table .entry)) finals states nodes counts (now (work .entry)) (now (out .entry)) (now (out .exit)) r ⌝ }
 {

@@ -19,7 +19,7 @@ use Rattle.jobfile.proofs.RefusalLaws.{turned-says}
 use Rattle.jobfile.proofs.SpellableLaws.{read-written}
 use Rattle.jobfile.proofs.ListingLength.{refused-length, listing-in-buffer}
 use Rattle.jobfile.proofs.ListingFits.{listing-fits}
-use Rattle.joblines.specs.Layout.{workSize}
+use Rattle.buffer.specs.Layout.{workSize}
 use Rattle.plans.specs.Called.{admitted, workAfter}
 use Rattle.listings.specs.declared.list.Listed.{Listed}
 use Rattle.listings.specs.declared.list.Listed.the-variants.{Length, Refused}

@@ -1,5 +1,5 @@
 // The listing of standard input, on standard output.
-use joblines::layout::WORK;
+use buffer::WORK;
 use libc::STDIN_FILENO;
 use libc::STDOUT_FILENO;
 use listcall::ROOM;

@@ -20,7 +20,8 @@ use Rattle.lines.specs.Lines.{linesOf}
 use Rattle.jobfile.specs.File.{Answer, accepted, turned, maxFile, finalsOf, someEntry, readRest, readJob}
 use Rattle.jobfile.specs.FileTrials.{linesIn}
 use Rattle.jobfile.specs.ListingLines.{shadowsBytes, listingBytes}
-use Rattle.joblines.specs.Layout.{workSize, cleared}
+use Rattle.buffer.specs.Layout.{workSize}
+use Rattle.buffer.specs.Kept.{cleared}
 use Rattle.plans.specs.Called.{workAfter}
 use Rattle.plans.proofs.CalledLaws.{long-enough, admitted-read}
 use Rattle.listings.specs.ListCall.{listingSize, listedOf, listingAfter, bytesFor}

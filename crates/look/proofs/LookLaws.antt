@@ -17,11 +17,11 @@ use Rattle.laws.proofs.Tests.{fails-of}
 use Rattle.automaton.specs.Automaton.{next, final, cell}
 use Rattle.job.specs.Job.{event, call, Job, Node, nodeAt}
 use Rattle.job.specs.Plan.{Enabling, full, enables}
-use Rattle.joblines.specs.Layout.{nodeIn}
+use Rattle.buffer.specs.Layout.{Lent}
+use Rattle.buffer.specs.Views.{nodeIn, pairRowIn, classRowIn, enabledIn, Held}
 use Rattle.moves.specs.declared.Past.{Past}
 use Rattle.tables.specs.Rows.{CellsBelow, meets, callSet, isEvent}
 use Rattle.moves.specs.Past.{pastRow}
-use Rattle.tables.specs.Tables.{pairRowIn, classRowIn, enabledIn, Held}
 use Rattle.tables.specs.Held.{JobHeld, PlanHeld}
 use Rattle.spread.specs.Spreading.{WordFrom, Spread}
 use Rattle.look.specs.Looking.{pastNode, Follows, by-word, AlikePair, SplitPair, split-point, split-call, split-exit, LookedAt}
@@ -34,7 +34,7 @@ use Rattle.tables.proofs.KeptLaws.{grown-none, node-same, class-same, enabled-s
 
 -- the row is not empty, and the call set is read
 pub record RowRead (table : List (List ℕ)) (l : List ℕ) (n p s set : ℕ) : Type 0 where
-  pub long : 65536 ≤ length l
+  pub long : Lent l
   pub node : n < 512
   pub row : p < 16
   pub cells : CellsBelow table
@@ -275,7 +275,7 @@ look-word {m = m} read spread =
 module _ {table : List (List ℕ)} {finals : ℕ} {l m : List ℕ} {n p s set : ℕ} {past : Past}
     (moved : RowMoved table finals l m n p s set past) where
   -- the buffer is as long as it was
-  pub look-long : 65536 ≤ length m
+  pub look-long : Lent m
   look-long = omega (arith, moved .read .long, moved .spread .grown .kept .long)
 
   -- the state past the node is below 16

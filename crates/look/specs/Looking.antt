@@ -10,7 +10,8 @@ use Rattle.automaton.specs.Automaton.{Automaton, next, final}
 use Rattle.job.specs.Job.{Kind, plain, event, call, Job, nodeAt, leads}
 use Rattle.job.specs.Walk.{shadow}
 use Rattle.job.specs.Plan.{Enabling, full, enables, stateAt, alarmAt}
-use Rattle.tables.specs.Tables.{classRowIn, Held, HeldApart, Grown}
+use Rattle.buffer.specs.Views.{classRowIn, Held, HeldApart}
+use Rattle.tables.specs.Tables.{Grown}
 use Rattle.moves.specs.declared.Past.{Past}
 use Rattle.tables.specs.Held.{JobHeld, PlanHeld}
 

@@ -1,6 +1,7 @@
 // Looking at one row of pairs in the work buffer: what its call word leads to is joined, and a difference is told.
 ghost use Prim.Native.Nat.{_<_, _≤_};
 ghost use lib.ListN.{length};
+ghost use Rattle.buffer.specs.Layout.{Lent};
 ghost use Rattle.tables.specs.Rows.{CellsBelow};
 ghost use Rattle.look.specs.Looking.{LookedAt};
 use classrows::class_row;
@@ -15,7 +16,7 @@ use spread::spread;
 
 // Looks at row p of node n: the row past the node, and whether some pair alarms differently at an event that may come next.
 pub fn look(work: &mut [u8], table: &[[u8; 16]; 16], finals: u16, n: usize, p: usize) -> Past
-    requires { ⌜ (65536 ≤ length (now work)) × ((n < 512) × ((p < 16) × CellsBelow (now table))) ⌝ }
+    requires { ⌜ (Lent (now work)) × ((n < 512) × ((p < 16) × CellsBelow (now table))) ⌝ }
     ensures { λ r. ⌜ LookedAt (now (table .entry)) finals (now (work .entry)) (now (work .exit)) n p r ⌝ }
 {
     let s = pair_row(work, n, p);

@@ -1,14 +1,15 @@
 // The marks of the rows of pairs that may have grown.
 ghost use Prim.Native.Nat.{_<_, _≤_};
 ghost use lib.ListN.{length};
+ghost use Rattle.buffer.specs.Layout.{Lent};
 ghost use Rattle.tables.specs.Tables.{NextMarked, MarksTaken};
-use parts::MARKS;
+use buffer::MARKS;
 use stores::write16;
 use words::read16;
 
 // The first node from n on that has marks; `nodes` where none has.
 pub fn next_marked(work: &[u8], n: usize, nodes: usize) -> usize
-    requires { ⌜ (65536 ≤ length (now work)) × ((n ≤ nodes) × (nodes ≤ 512)) ⌝ }
+    requires { ⌜ (Lent (now work)) × ((n ≤ nodes) × (nodes ≤ 512)) ⌝ }
     ensures { λ r. ⌜ NextMarked (now (work .entry)) n nodes r ⌝ }
 {
     let mut next = n;
@@ -23,7 +24,7 @@ pub fn next_marked(work: &[u8], n: usize, nodes: usize) -> usize
 
 // Takes down the marks of node n: the rows that were marked.
 pub fn take_marks(work: &mut [u8], n: usize) -> u16
-    requires { ⌜ (65536 ≤ length (now work)) × (n < 512) ⌝ }
+    requires { ⌜ (Lent (now work)) × (n < 512) ⌝ }
     ensures { λ r. ⌜ MarksTaken (now (work .entry)) (now (work .exit)) n r ⌝ }
 {
     let at = MARKS + n * 2;

@@ -2,6 +2,7 @@
 ghost use mathlib.Core.Path.{_≡_};
 ghost use Prim.Native.Nat.{_<_, _≤_};
 ghost use lib.ListN.{length};
+ghost use Rattle.buffer.specs.Layout.{Lent};
 ghost use Rattle.tables.specs.Rows.{CellsBelow};
 ghost use Rattle.tables.specs.Held.{EdgesWithin};
 ghost use Rattle.classes.specs.Classes.{beforeRow, NextRow};
@@ -23,7 +24,7 @@ fn before_row(
     m: usize,
     p: usize,
 ) -> u16
-    requires { ⌜ (65536 ≤ length (now work)) × ((m < 512) × ((p < 16) × ((states ≤ 16) × CellsBelow (now table)))) ⌝ }
+    requires { ⌜ (Lent (now work)) × ((m < 512) × ((p < 16) × ((states ≤ 16) × CellsBelow (now table)))) ⌝ }
     ensures { λ r. ⌜ r ≡ beforeRow (now (table .entry)) finals states (now (work .entry)) m p ⌝ }
 {
     if is_shadow(work, m) {
@@ -44,7 +45,7 @@ pub fn successor_row(
     n: usize,
     p: usize,
 ) -> u16
-    requires { ⌜ (65536 ≤ length (now work)) × ((n < 512) × ((p < 16) × ((states ≤ 16) × (CellsBelow (now table) × EdgesWithin (now work) n)))) ⌝ }
+    requires { ⌜ (Lent (now work)) × ((n < 512) × ((p < 16) × ((states ≤ 16) × (CellsBelow (now table) × EdgesWithin (now work) n)))) ⌝ }
     ensures { λ r. ⌜ NextRow (now (table .entry)) finals states (now (work .entry)) n p r ⌝ }
 {
     let end = start_at(work, n + 1);

@@ -1,7 +1,7 @@
 // One P line, read into the work buffer.
 ghost use Prim.Native.Nat.{_<_, _≤_};
 ghost use lib.ListN.{length, drop};
-ghost use Rattle.joblines.specs.Layout.{workSize};
+ghost use Rattle.buffer.specs.Layout.{Lent};
 ghost use Rattle.joblines.specs.ReadLines.{NodeRead};
 use fields::field_in;
 use framing::framed;
@@ -21,7 +21,7 @@ pub fn node_line(
     symbols: u64,
     n: usize,
 ) -> Collected
-    requires { ⌜ (at ≤ length (now file)) × ((workSize ≤ length (now work)) × ((states ≤ 16) × ((symbols ≤ 16) × (n < 512)))) ⌝ }
+    requires { ⌜ (at ≤ length (now file)) × ((Lent (now work)) × ((states ≤ 16) × ((symbols ≤ 16) × (n < 512)))) ⌝ }
     ensures { λ r. ⌜ NodeRead states symbols n (drop at (now (file .entry))) (now (work .entry)) (now (work .exit)) r ⌝ }
 {
     let status = framed(file, at, 80, 6);

@@ -14,12 +14,14 @@ use Rattle.laws.proofs.Bounded.{sum-none, sum-more}
 use Rattle.lines.specs.declared.line.Collected.{Collected}
 use Rattle.lines.specs.Line.{lineOf, at}
 use Rattle.jobfile.specs.File.{nodeLine, nodeOf}
-use Rattle.joblines.specs.Layout.{startsPart, nodeIn, SameOutside}
+use Rattle.buffer.specs.Layout.{startsPart}
+use Rattle.buffer.specs.Views.{nodeIn}
+use Rattle.buffer.specs.Kept.{SameOutside}
 use Rattle.framing.specs.Framing.{collected}
 use Rattle.lines.specs.Places.{numbersOf, numbersAt, statusAt}
 use Rattle.joblines.specs.ReadLines.{NodeRead, NodesRead}
 use Rattle.lines.proofs.LinesLaws.{passed-more, read-all, read-stop, status-here, numbers-here}
-use Rattle.joblines.proofs.KeptLaws.{kept-none, kept-both, node-kept}
+use Rattle.buffer.proofs.KeptLaws.{kept-none, kept-both, node-kept}
 
 -- the first n lines are read, from l to m
 pub record NodesSoFar (s a : ℕ) (bytes l m : List ℕ) (n sum : ℕ) : Type 0 where

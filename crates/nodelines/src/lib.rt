@@ -1,7 +1,7 @@
 // The P lines, read into the work buffer.
 ghost use Prim.Native.Nat.{_≤_};
 ghost use lib.ListN.{length, drop};
-ghost use Rattle.joblines.specs.Layout.{workSize};
+ghost use Rattle.buffer.specs.Layout.{Lent};
 ghost use Rattle.joblines.specs.ReadLines.{NodesRead};
 use framing::refused;
 use lines::line::Collected;
@@ -16,7 +16,7 @@ pub fn node_lines(
     symbols: u64,
     nodes: usize,
 ) -> Collected
-    requires { ⌜ (at ≤ length (now file)) × ((workSize ≤ length (now work)) × ((states ≤ 16) × ((symbols ≤ 16) × (nodes ≤ 512)))) ⌝ }
+    requires { ⌜ (at ≤ length (now file)) × ((Lent (now work)) × ((states ≤ 16) × ((symbols ≤ 16) × (nodes ≤ 512)))) ⌝ }
     ensures { λ r. ⌜ NodesRead states symbols nodes (drop at (now (file .entry))) (now (work .entry)) (now (work .exit)) r ⌝ }
 {
     let mut sum: u64 = 0;

@@ -17,7 +17,9 @@ use Rattle.laws.proofs.Bytes.{number-cong, number-put, number-put-other, length
 use Rattle.laws.proofs.Bits.{shr-zero-says, below-says}
 use Rattle.laws.proofs.Tests.{fails-of, test-ext}
 use Rattle.jobfile.specs.File.{goodValue, goodNode, nodeOf}
-use Rattle.joblines.specs.Layout.{workSize, nodeIn, NodeStored}
+use Rattle.buffer.specs.Layout.{Lent}
+use Rattle.buffer.specs.Views.{nodeIn}
+use Rattle.joblines.specs.Stored.{NodeStored}
 use Rattle.jobfile.specs.Refusal.{NodeWithin}
 use Rattle.jobfile.proofs.WithinLaws.{value-says, node-says}
 
@@ -132,7 +134,7 @@ node-sizes s a place node kind value entries exits after t hs ha g v =
 number-set : (l : List ℕ) (i v j : ℕ) → j + 2 ≤ i → numberAt 2 (set l i v) j ≡ numberAt 2 l j
 number-set l i v j h = number-cong 2 (set l i v) l j j (λ k p. getD-set-other l i (j + k) v 0 (ne-of-lt (omega arith)))
 
-module _ (l : List ℕ) (n kind value entries exits after : ℕ) (h : n < 512) (long : workSize ≤ length l)
+module _ (l : List ℕ) (n kind value entries exits after : ℕ) (h : n < 512) (long : Lent l)
     (z : NodeSizes kind value entries exits after) where
   abbrev w1 : List ℕ
   w1 = putNumber 2 l (n * 8) value

@@ -4,7 +4,8 @@ ghost use mathlib.Core.List.{[], _∷_};
 ghost use Prim.Native.Nat.{_<_, _≤_};
 ghost use lib.ListN.{length};
 ghost use Rattle.jobfile.specs.File.{goodValue, goodNode, nodeOf};
-ghost use Rattle.joblines.specs.Layout.{workSize, NodeStored};
+ghost use Rattle.buffer.specs.Layout.{Lent};
+ghost use Rattle.joblines.specs.Stored.{NodeStored};
 use stores::write16;
 
 // Whether a value is 0, a symbol or a set of symbols, as its kind wants.
@@ -71,7 +72,7 @@ pub fn store_node(
     exits: u64,
     after: u64,
 )
-    requires { ⌜ (n < 512) × ((workSize ≤ length (now work)) × ((kind < 256) × ((value < 65536) × ((entries < 65536) × ((exits < 256) × (after < 65536)))))) ⌝ }
+    requires { ⌜ (n < 512) × ((Lent (now work)) × ((kind < 256) × ((value < 65536) × ((entries < 65536) × ((exits < 256) × (after < 65536)))))) ⌝ }
     ensures { λ _. ⌜ NodeStored (now (work .entry)) (now (work .exit)) n (nodeOf (n ∷ kind ∷ value ∷ entries ∷ exits ∷ after ∷ [])) ⌝ }
 {
     let at = n * 8;

@@ -1,14 +1,13 @@
-// The parts of the work buffer that the searches use: where they lie, and how they are cleared.
+// Clearing the parts of the work buffer that the searches use.
 ghost use Prim.Native.Nat.{_≤_};
 ghost use lib.ListN.{length};
+ghost use Rattle.buffer.specs.Layout.{pairPart, classPart, foundPart, marksPart, marksEnd, Lent};
 ghost use Rattle.tables.specs.Tables.{Zeroed};
-
-// Where the rows of pairs, the class rows and the marks lie.
-pub const PAIRS: usize = 9218;
-
-pub const CLASSES: usize = 25602;
-
-pub const MARKS: usize = 45314;
+use buffer::CLASSES;
+use buffer::FOUND;
+use buffer::MARKS;
+use buffer::MARKS_END;
+use buffer::PAIRS;
 
 // Makes the bytes from `from` up to `to` zero.
 fn clear_part(work: &mut [u8], from: usize, to: usize)
@@ -24,24 +23,24 @@ fn clear_part(work: &mut [u8], from: usize, to: usize)
 
 // Empties the rows of pairs.
 pub fn clear_pairs(work: &mut [u8])
-    requires { ⌜ 65536 ≤ length (now work) ⌝ }
-    ensures { λ _. ⌜ Zeroed (now (work .entry)) (now (work .exit)) 9218 25602 ⌝ }
+    requires { ⌜ Lent (now work) ⌝ }
+    ensures { λ _. ⌜ Zeroed (now (work .entry)) (now (work .exit)) pairPart classPart ⌝ }
 {
     clear_part(work, PAIRS, CLASSES);
 }
 
 // Takes down all marks.
 pub fn clear_marks(work: &mut [u8])
-    requires { ⌜ 65536 ≤ length (now work) ⌝ }
-    ensures { λ _. ⌜ Zeroed (now (work .entry)) (now (work .exit)) 45314 46338 ⌝ }
+    requires { ⌜ Lent (now work) ⌝ }
+    ensures { λ _. ⌜ Zeroed (now (work .entry)) (now (work .exit)) marksPart marksEnd ⌝ }
 {
-    clear_part(work, MARKS, MARKS + 1024);
+    clear_part(work, MARKS, MARKS_END);
 }
 
 // Empties the class rows.
 pub fn clear_classes(work: &mut [u8])
-    requires { ⌜ 65536 ≤ length (now work) ⌝ }
-    ensures { λ _. ⌜ Zeroed (now (work .entry)) (now (work .exit)) 25602 41986 ⌝ }
+    requires { ⌜ Lent (now work) ⌝ }
+    ensures { λ _. ⌜ Zeroed (now (work .entry)) (now (work .exit)) classPart foundPart ⌝ }
 {
-    clear_part(work, CLASSES, CLASSES + 16384);
+    clear_part(work, CLASSES, FOUND);
 }

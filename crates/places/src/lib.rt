@@ -4,17 +4,17 @@ ghost use mathlib.Core.Bool.{cond};
 ghost use Prim.Native.Nat.{ℕ, _%_, _≤_, _<_};
 ghost use lib.ListN.{length};
 ghost use Rattle.job.specs.Job.{event};
-ghost use Rattle.joblines.specs.Layout.{nodeIn, startIn, targetIn};
+ghost use Rattle.buffer.specs.Layout.{Lent};
+ghost use Rattle.buffer.specs.Views.{nodeIn, startIn, targetIn, enabledIn};
 ghost use Rattle.tables.specs.Rows.{callSet, isEvent};
-ghost use Rattle.tables.specs.Tables.{enabledIn};
-use joblines::layout::PLAN;
-use joblines::layout::STARTS;
-use joblines::layout::TARGETS;
+use buffer::PLAN;
+use buffer::STARTS;
+use buffer::TARGETS;
 use words::read16;
 
 // Whether node n is a shadow.
 pub fn is_shadow(work: &[u8], n: usize) -> bool
-    requires { ⌜ (65536 ≤ length (now work)) × (n < 512) ⌝ }
+    requires { ⌜ (Lent (now work)) × (n < 512) ⌝ }
     ensures { λ r. ⌜ r ≡ isEvent (nodeIn (now (work .entry)) n .kind) ⌝ }
 {
     work[n * 8 + 6] == 1
@@ -22,7 +22,7 @@ pub fn is_shadow(work: &[u8], n: usize) -> bool
 
 // The symbol of a shadow, as a number below 16; free at any other node.
 pub fn symbol_at(work: &[u8], n: usize) -> usize
-    requires { ⌜ (65536 ≤ length (now work)) × (n < 512) ⌝ }
+    requires { ⌜ (Lent (now work)) × (n < 512) ⌝ }
     ensures { λ r. ⌜ (r < 16) × ((a : ℕ) → nodeIn (now (work .entry)) n .kind ≡ event a → r ≡ a % 16) ⌝ }
 {
     (read16(work, n * 8) as usize) % 16
@@ -30,7 +30,7 @@ pub fn symbol_at(work: &[u8], n: usize) -> usize
 
 // The symbols of a call; none at any other node.
 pub fn call_set(work: &[u8], n: usize) -> u16
-    requires { ⌜ (65536 ≤ length (now work)) × (n < 512) ⌝ }
+    requires { ⌜ (Lent (now work)) × (n < 512) ⌝ }
     ensures { λ r. ⌜ r ≡ callSet (nodeIn (now (work .entry)) n .kind) ⌝ }
 {
     if work[n * 8 + 6] < 2 {
@@ -41,7 +41,7 @@ pub fn call_set(work: &[u8], n: usize) -> u16
 
 // The admitted start states of node n.
 pub fn entry_set(work: &[u8], n: usize) -> u16
-    requires { ⌜ (65536 ≤ length (now work)) × (n < 512) ⌝ }
+    requires { ⌜ (Lent (now work)) × (n < 512) ⌝ }
     ensures { λ r. ⌜ r ≡ nodeIn (now (work .entry)) n .entry ⌝ }
 {
     read16(work, n * 8 + 2)
@@ -49,7 +49,7 @@ pub fn entry_set(work: &[u8], n: usize) -> u16
 
 // The symbols of the word after an exit; none at any other node.
 pub fn after_set(work: &[u8], n: usize) -> u16
-    requires { ⌜ (65536 ≤ length (now work)) × (n < 512) ⌝ }
+    requires { ⌜ (Lent (now work)) × (n < 512) ⌝ }
     ensures { λ r. ⌜ r ≡ cond (nodeIn (now (work .entry)) n .exit) (nodeIn (now (work .entry)) n .after) 0 ⌝ }
 {
     if work[n * 8 + 7] != 1 {
@@ -60,7 +60,7 @@ pub fn after_set(work: &[u8], n: usize) -> u16
 
 // The index of the first edge of node n; at the number of nodes, the number of edges.
 pub fn start_at(work: &[u8], n: usize) -> usize
-    requires { ⌜ (65536 ≤ length (now work)) × (n ≤ 512) ⌝ }
+    requires { ⌜ (Lent (now work)) × (n ≤ 512) ⌝ }
     ensures { λ r. ⌜ r ≡ startIn (now (work .entry)) n ⌝ }
 {
     read16(work, STARTS + n * 2) as usize
@@ -68,7 +68,7 @@ pub fn start_at(work: &[u8], n: usize) -> usize
 
 // The end of edge i.
 pub fn target_at(work: &[u8], i: usize) -> usize
-    requires { ⌜ (65536 ≤ length (now work)) × (i < 2048) ⌝ }
+    requires { ⌜ (Lent (now work)) × (i < 2048) ⌝ }
     ensures { λ r. ⌜ r ≡ targetIn (now (work .entry)) i ⌝ }
 {
     read16(work, TARGETS + i * 2) as usize
@@ -76,7 +76,7 @@ pub fn target_at(work: &[u8], i: usize) -> usize
 
 // Whether node n is enabled in the plan.
 pub fn is_enabled(work: &[u8], n: usize) -> bool
-    requires { ⌜ (65536 ≤ length (now work)) × (n < 512) ⌝ }
+    requires { ⌜ (Lent (now work)) × (n < 512) ⌝ }
     ensures { λ r. ⌜ r ≡ enabledIn (now (work .entry)) n ⌝ }
 {
     work[PLAN + n] == 1

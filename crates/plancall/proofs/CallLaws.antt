@@ -9,7 +9,8 @@ use lib.Dec.{ltb}
 use lib.ListN.{length}
 use Rattle.jobfile.specs.File.{maxFile, readJob}
 use Rattle.joblines.specs.declared.head.Head.{Head}
-use Rattle.joblines.specs.Layout.{workSize, cleared}
+use Rattle.buffer.specs.Layout.{workSize, Lent}
+use Rattle.buffer.specs.Kept.{cleared}
 use Rattle.reader.specs.Rule.{ruleIn}
 use Rattle.joblines.specs.Reading.{JobRead}
 use Rattle.tables.specs.Held.{Usable}
@@ -42,7 +43,7 @@ module _ (file work plan : List ℕ) where
   pub plan-short-plan : length file ≤ maxFile → length plan < planSize → PlanEnds (Refused 2) work plan
   plan-short-plan h p = ends-short outcomeOf planAfter file work plan short h (short-other (length work) workSize (length plan) planSize p)
 
-  module _ (fits : length file ≤ maxFile) (w : workSize ≤ length work) (p : planSize ≤ length plan) (m : List ℕ) (r : Head)
+  module _ (fits : length file ≤ maxFile) (w : Lent work) (p : planSize ≤ length plan) (m : List ℕ) (r : Head)
       (read : JobRead (readJob file) work m r) where
     -- the lent buffers are long enough
     room : short ≡ false

@@ -3,7 +3,7 @@ ghost use mathlib.Core.Path.{_≡_};
 ghost use lib.ListN.{length};
 ghost use Rattle.plans.specs.Called.{workAfter};
 ghost use Rattle.plans.specs.PlanCall.{planAnswer, outcomeOf, planAfter};
-use joblines::layout::WORK;
+use buffer::WORK;
 use planheld::plan_held;
 use plans::plan::Outcome;
 use reader::clear::clear;

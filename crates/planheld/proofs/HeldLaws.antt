@@ -7,8 +7,9 @@ use native.Mathlib.Omega.{arith}
 use lib.ListN.{length, getD, set}
 use lib.Seq.{sets}
 use Rattle.laws.proofs.Sets.{sets-append}
-use Rattle.joblines.specs.Layout.{SameOutside}
-use Rattle.joblines.proofs.KeptLaws.{kept-none, kept-both}
+use Rattle.buffer.specs.Layout.{nodesPart, pairPart, classPart, foundPart, planPart, workSize, Lent}
+use Rattle.buffer.specs.Kept.{SameOutside}
+use Rattle.buffer.proofs.KeptLaws.{kept-none, kept-both}
 use Rattle.tables.specs.Held.{Usable}
 use Rattle.tables.proofs.JobKeptLaws.{front-kept, front-job}
 use Rattle.classes.specs.Backwards.{AfterWords}
@@ -26,10 +27,10 @@ copied-none work before = ap (sets before 0) (sym (plan-in-none work))
 
 -- one byte more
 pub copied-more
-    : (work before after : List ℕ) (n : ℕ) → 65536 ≤ length work → n < 512 → after ≡ sets before 0 (planIn work n)
-    → set after n (getD work (44034 + n) 0) ≡ sets before 0 (planIn work (n + 1))
+    : (work before after : List ℕ) (n : ℕ) → Lent work → n < 512 → after ≡ sets before 0 (planIn work n)
+    → set after n (getD work (planPart + n) 0) ≡ sets before 0 (planIn work (n + 1))
 copied-more work before after n long few e =
-    let byte = getD work (44034 + n) 0 in
+    let byte = getD work (planPart + n) 0 in
     let here : 0 + length (planIn work n) ≡ n = omega (arith, plan-in-length work n long (omega arith)) in
     ap (λ (p : List ℕ). set p n byte) e
     ∙ ap (λ (k : ℕ). set (sets before 0 (planIn work n)) k byte) (sym here)
@@ -38,10 +39,10 @@ copied-more work before after n long few e =
 -- ---- the plan of the job that the work buffer holds
 
 -- planning leaves the bytes past the first 65,536
-rest-kept : (l m k : List ℕ) → SameOutside l m 25602 41986 → PlanningKept m k → SameOutside l k 0 65536
+rest-kept : (l m k : List ℕ) → SameOutside l m classPart foundPart → PlanningKept m k → SameOutside l k nodesPart workSize
 rest-kept l m k a p =
-    kept-both l m k 0 65536 9218 65536
-    (kept-both l l m 0 65536 25602 41986 (kept-none l 0 65536) a (omega arith) (omega arith))
+    kept-both l m k nodesPart workSize pairPart workSize
+    (kept-both l l m nodesPart workSize classPart foundPart (kept-none l nodesPart workSize) a (omega arith) (omega arith))
     (planning-outside p) (omega arith) (omega arith)
 
 -- after words, planning and the copy of the plan

@@ -6,13 +6,14 @@ use Prim.Native.Nat.{ℕ}
 use lib.Seq.{sets}
 use Rattle.job.specs.Job.{Job}
 use Rattle.job.specs.Listing.{planOf}
-use Rattle.joblines.specs.Layout.{SameOutside}
+use Rattle.buffer.specs.Layout.{nodesPart, workSize}
+use Rattle.buffer.specs.Kept.{SameOutside}
 use Rattle.tables.specs.Held.{JobHeld}
 use Rattle.planning.specs.declared.passes.Counts.{Counts}
 use Rattle.planning.specs.Passes.{countsOf}
 
 -- the plan buffer holds the plan of every job that the work buffer holds; the work buffer's bytes past the first 65,536 are as they were
 pub record PlannedHeld (table : List (List ℕ)) (finals states nodes : ℕ) (l m before after : List ℕ) (counts : Counts) : Type 0 where
-  pub kept : SameOutside l m 0 65536
+  pub kept : SameOutside l m nodesPart workSize
   pub exact
       : (j : Job) → JobHeld j l table finals states nodes → (counts ≡ countsOf j) × (after ≡ sets before 0 (planOf j .plan))

@@ -3,19 +3,20 @@ ghost use mathlib.Core.Path.{_≡_};
 ghost use Prim.Native.Nat.{_≤_};
 ghost use lib.ListN.{length};
 ghost use lib.Seq.{sets};
+ghost use Rattle.buffer.specs.Layout.{Lent};
 ghost use Rattle.reader.specs.Rule.{ruleIn};
 ghost use Rattle.tables.specs.Held.{Usable};
 ghost use Rattle.planning.specs.Passes.{planIn};
 ghost use Rattle.planheld.specs.Held.{PlannedHeld};
 use afterwords::after_words;
-use joblines::layout::PLAN;
+use buffer::PLAN;
 use planmaking::make_plan;
 use planning::passes::Counts;
 use reader::table::table_in;
 
 // Copies the plan of the nodes to the plan buffer.
 fn copy_plan(work: &[u8], plan: &mut [u8], nodes: usize)
-    requires { ⌜ (65536 ≤ length (now work)) × ((nodes ≤ 512) × (512 ≤ length (now plan))) ⌝ }
+    requires { ⌜ (Lent (now work)) × ((nodes ≤ 512) × (512 ≤ length (now plan))) ⌝ }
     ensures { λ _. ⌜ now (plan .exit) ≡ sets (now (plan .entry)) 0 (planIn (now (work .entry)) nodes) ⌝ }
 {
     let mut n = 0;

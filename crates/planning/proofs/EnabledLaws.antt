@@ -10,6 +10,7 @@ use native.Mathlib.Numerals.{add-one}
 use native.Mathlib.Omega.{arith}
 use lib.ListN.{length, getD, set}
 use lib.Seq.{getD-set-same, getD-set-other, ext-getD}
+use Rattle.buffer.proofs.KeptLaws.{kept-same, kept-then}
 use Rattle.laws.specs.Bounded.{sumBelow}
 use Rattle.laws.proofs.Bounded.{sum-none, sum-more, sum-cong}
 use Rattle.job.specs.Job.{Kind, plain, event, call, Node, Job, nodeAt}
@@ -19,9 +20,10 @@ use Rattle.job.specs.Listing.{planOf}
 use Rattle.job.specs.Search.{faithful}
 use Rattle.job.proofs.PlanBytes.{count-says, all-enabled-byte, all-enabled-length, all-enabled-count}
 use Rattle.job.proofs.PlanningResult.{planned-plan}
-use Rattle.joblines.specs.Layout.{nodeIn, SameOutside}
+use Rattle.buffer.specs.Layout.{planPart, rulePart, Lent}
+use Rattle.buffer.specs.Views.{nodeIn, enabledIn}
+use Rattle.buffer.specs.Kept.{SameOutside}
 use Rattle.tables.specs.Rows.{isEvent}
-use Rattle.tables.specs.Tables.{enabledIn}
 use Rattle.tables.specs.Held.{Usable, JobHeld, AfterHeld}
 use Rattle.planning.specs.declared.passes.Counts.{Counts}
 use Rattle.planning.specs.Passes.{planIn, PlanningKept, AllEnabled, PassesMade, enabledTotal, countsOf, PlanMade}
@@ -60,8 +62,8 @@ markIn l n = shadowByte (nodeIn l n .kind)
 
 -- the plan bytes of the first n nodes are stored, and counted
 pub record EnabledSoFar (l m : List ℕ) (n count : ℕ) : Type 0 where
-  pub kept : SameOutside l m 44034 44546
-  pub marks : (k : ℕ) → k < n → getD m (44034 + k) 0 ≡ markIn l k
+  pub kept : SameOutside l m planPart rulePart
+  pub marks : (k : ℕ) → k < n → getD m (planPart + k) 0 ≡ markIn l k
   pub counted : count ≡ sumBelow n (markIn l)
   pub small : count ≤ n
 
@@ -69,7 +71,7 @@ pub record EnabledSoFar (l m : List ℕ) (n count : ℕ) : Type 0 where
 pub enabled-start : (l : List ℕ) → EnabledSoFar l l 0 0
 enabled-start l =
     record {
-      kept = record { long = refl; outside = λ k o. refl };
+      kept = kept-same l;
       marks = λ k h. absurd (omega arith);
       counted = sym (sum-none (markIn l));
       small = omega arith;
@@ -77,18 +79,18 @@ enabled-start l =
 
 -- one more
 pub enabled-more
-    : {l m : List ℕ} {n count mark : ℕ} → 65536 ≤ length m → n < 512 → EnabledSoFar l m n count
-    → mark ≡ shadowByte (nodeIn m n .kind) → EnabledSoFar l (set m (44034 + n) mark) (n + 1) (count + mark)
+    : {l m : List ℕ} {n count mark : ℕ} → Lent m → n < 512 → EnabledSoFar l m n count
+    → mark ≡ shadowByte (nodeIn m n .kind) → EnabledSoFar l (set m (planPart + n) mark) (n + 1) (count + mark)
 unfolding markIn
 enabled-more {l} {m} {n} {count} {mark} long h g e =
     let is : mark ≡ markIn l n = e ∙ ap (λ (x : Node). shadowByte (x .kind)) (node-kept (planning-plan (g .kept)) n h) in
     let stored = plan-stored m n mark h in
     record {
-      kept = record { long = stored .long ∙ g .kept .long; outside = λ k o. stored .outside k o ∙ g .kept .outside k o };
+      kept = kept-then (λ k o. (o, o)) (g .kept) stored;
       marks = λ k b.
           ⊎-elim
-          (λ (q : k ≡ n). rw q (getD-set-same m (44034 + n) mark 0 (omega arith) ∙ is))
-          (λ (b : k < n). getD-set-other m (44034 + n) (44034 + k) mark 0 (λ q. omega arith) ∙ g .marks k b)
+          (λ (q : k ≡ n). rw q (getD-set-same m (planPart + n) mark 0 (omega arith) ∙ is))
+          (λ (b : k < n). getD-set-other m (planPart + n) (planPart + k) mark 0 (λ q. omega arith) ∙ g .marks k b)
           (eq-or-lt-of-le (le-of-suc-le-suc (rw add-one at b)));
       counted = omega (arith, g .counted, is, sum-more n (markIn l));
       small = omega (arith, g .small, e, shadow-byte-le (nodeIn m n .kind));
@@ -96,7 +98,7 @@ enabled-more {l} {m} {n} {count} {mark} long h g e =
 
 -- all
 pub enabled-end
-    : {l m : List ℕ} {n nodes count : ℕ} → 65536 ≤ length l → nodes ≤ 512 → n ≡ nodes → EnabledSoFar l m n count
+    : {l m : List ℕ} {n nodes count : ℕ} → Lent l → nodes ≤ 512 → n ≡ nodes → EnabledSoFar l m n count
     → AllEnabled l m nodes count
 unfolding markIn
 enabled-end {l} {m} {n} {nodes} {count} long few is g′ =
@@ -144,7 +146,7 @@ total-end l is e = e ∙ ap (enabledTotal l) is
 
 -- the total is the count of a plan of 0 and 1
 total-count
-    : (j : Job) (l plan : List ℕ) (nodes : ℕ) → 65536 ≤ length l → nodes ≤ 512 → IsPlan j plan → planIn l nodes ≡ plan
+    : (j : Job) (l plan : List ℕ) (nodes : ℕ) → Lent l → nodes ≤ 512 → IsPlan j plan → planIn l nodes ≡ plan
     → enabledTotal l nodes ≡ enabledCount plan
 unfolding enabledTotal
 total-count j l plan nodes long few v e =

@@ -15,6 +15,7 @@ use Rattle.job.specs.Search.{faithful}
 use Rattle.job.proofs.PlanBytes.{count-sum}
 use Rattle.job.proofs.PassLaws.{Kept, passed-says, kept-none, kept-passed}
 use Rattle.job.proofs.PlanningLaws.{settled, Underway, underway-start, underway-more, underway-last}
+use Rattle.buffer.specs.Layout.{planPart, Lent}
 use Rattle.tables.specs.Held.{Usable, JobHeld, AfterHeld}
 use Rattle.planning.specs.Passes.{planIn, PlanningKept, TriedFrom, FirstGone, LastGone, PassMade, PassesMade}
 use Rattle.planning.proofs.PlanInLaws.{plan-in-byte, plan-in-length, planning-none, planning-both, job-kept, after-kept}
@@ -62,7 +63,7 @@ pass-some {nodes = nodes} {l = l} u ne g t =
 -- ---- passes
 
 -- the count of a plan of bytes is not large
-pub count-bounded : (l : List ℕ) (nodes : ℕ) → 65536 ≤ length l → nodes ≤ 512 → AreBytes l → enabledCount (planIn l nodes) ≤ 512 * 255
+pub count-bounded : (l : List ℕ) (nodes : ℕ) → Lent l → nodes ≤ 512 → AreBytes l → enabledCount (planIn l nodes) ≤ 512 * 255
 count-bounded l nodes long few bytes =
     let sum = sum-bound (length (planIn l nodes)) 255 (λ i. getD (planIn l nodes) i 0) byte in
     omega (arith, count-sum (planIn l nodes), sum, size)
@@ -71,7 +72,7 @@ count-bounded l nodes long few bytes =
     size = plan-in-length l nodes long few
 
     byte : (i : ℕ) → i < length (planIn l nodes) → getD (planIn l nodes) i 0 ≤ 255
-    byte i h = rw (plan-in-byte l nodes i (omega (arith, size))) (omega (arith, bytes (44034 + i) (omega (arith, size))))
+    byte i h = rw (plan-in-byte l nodes i (omega (arith, size))) (omega (arith, bytes (planPart + i) (omega (arith, size))))
 
 -- passes were made, each but one that ended them with a change; `first` is one past the last node that went, 0 where none did
 pub record Passing (table : List (List ℕ)) (finals states nodes : ℕ) (l m : List ℕ) (first count : ℕ) : Type 0 where

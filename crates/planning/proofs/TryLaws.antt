@@ -14,7 +14,8 @@ use Rattle.job.specs.Planning.{enabledCount}
 use Rattle.job.specs.Search.{faithful}
 use Rattle.job.proofs.PlanBytes.{set-back, count-set}
 use Rattle.job.proofs.PassLaws.{tried-disabled, tried-needed, tried-removed}
-use Rattle.tables.specs.Tables.{enabledIn}
+use Rattle.buffer.specs.Layout.{planPart}
+use Rattle.buffer.specs.Views.{enabledIn}
 use Rattle.tables.specs.Held.{Usable, JobHeld, AfterHeld}
 use Rattle.search.specs.Searched.{SearchedAt}
 use Rattle.planning.specs.Passes.{planIn, PlanningKept, TriedAt}
@@ -24,11 +25,11 @@ use Rattle.planning.proofs.PlanInLaws.{usable-kept, job-kept, after-kep
 
 module _ {table : List (List ℕ)} {states nodes n : ℕ} {l : List ℕ} (small : n < nodes) (u : Usable l table states nodes) where
   -- the store of a plan byte keeps the rest
-  cleared-kept : PlanningKept l (set l (44034 + n) 0)
+  cleared-kept : PlanningKept l (set l (planPart + n) 0)
   cleared-kept = planning-plan (plan-stored l n 0 (lt-of-lt-of-le small (u .few-nodes)))
 
   -- the buffer with the node disabled may be searched
-  pub cleared-usable : Usable (set l (44034 + n) 0) table states nodes
+  pub cleared-usable : Usable (set l (planPart + n) 0) table states nodes
   cleared-usable = usable-kept cleared-kept u
 
   -- a node that is not enabled
@@ -43,7 +44,7 @@ module _ {table : List (List ℕ)} {states nodes n : ℕ} {l : List ℕ} (small 
       }
 
   module _ {finals : ℕ} {m : List ℕ} {answer : Bool} (w : enabledIn l n ≡ true)
-      (s : SearchedAt table finals states nodes (set l (44034 + n) 0) m answer) where
+      (s : SearchedAt table finals states nodes (set l (planPart + n) 0) m answer) where
     -- the plan enables it
     enabled-here : enables (planIn l nodes) n ≡ true
     enabled-here = plan-in-enables l nodes n small ∙ w
@@ -51,14 +52,14 @@ module _ {table : List (List ℕ)} {states nodes n : ℕ} {l : List ℕ} (small 
     -- the search leaves the plan without the node
     plan-searched : planIn m nodes ≡ set (planIn l nodes) n 0
     plan-searched =
-        plan-in-same (set l (44034 + n) 0) m nodes (s .kept .long)
-        (λ k g h. s .kept .outside k (inr (inl (omega arith, omega arith)))) (cleared-usable .long) (u .few-nodes)
+        plan-in-same (set l (planPart + n) 0) m nodes (s .kept .long)
+        (λ k g h. s .kept .outside k (inr (omega arith), inl (omega arith))) (cleared-usable .long) (u .few-nodes)
         ∙ plan-in-set l nodes n 0 small
 
     -- its answer is that of the plan without the node
     answer-is : (j : Job) → JobHeld j l table finals states nodes → AfterHeld j l nodes → answer ≡ faithful j (set (planIn l nodes) n 0)
     answer-is j h a =
-        s .exact j (planIn (set l (44034 + n) 0) nodes) (job-kept cleared-kept u h) (plan-in-held (set l (44034 + n) 0) nodes)
+        s .exact j (planIn (set l (planPart + n) 0) nodes) (job-kept cleared-kept u h) (plan-in-held (set l (planPart + n) 0) nodes)
         (after-kept cleared-kept u h a)
         .exact
         ∙ ap (faithful j) (plan-in-set l nodes n 0 small)
@@ -80,12 +81,12 @@ module _ {table : List (List ℕ)} {states nodes n : ℕ} {l : List ℕ} (small 
         }
 
     -- the plan with it back
-    plan-back : planIn (set m (44034 + n) 1) nodes ≡ planIn l nodes
+    plan-back : planIn (set m (planPart + n) 1) nodes ≡ planIn l nodes
     plan-back =
         plan-in-set m nodes n 1 small ∙ ap (λ (p : List ℕ). set p n 1) plan-searched ∙ set-back (planIn l nodes) n enabled-here
 
     -- it is not: the node stays
-    pub try-needed : answer ≡ false → TriedAt table finals states nodes n l (set m (44034 + n) 1) 0
+    pub try-needed : answer ≡ false → TriedAt table finals states nodes n l (set m (planPart + n) 1) 0
     try-needed t =
         record {
           kept = planning-both searched-kept (planning-plan (plan-stored m n 1 (lt-of-lt-of-le small (u .few-nodes))));

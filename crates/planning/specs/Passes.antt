@@ -11,9 +11,10 @@ use Rattle.job.specs.Job.{Job}
 use Rattle.job.specs.Planning.{allEnabled, tried, passed, enabledCount}
 use Rattle.job.specs.Listing.{planOf}
 use Rattle.job.specs.Search.{faithful}
-use Rattle.joblines.specs.Layout.{SameOutside}
+use Rattle.buffer.specs.Layout.{pairPart, classPart, planPart, rulePart, marksEnd}
+use Rattle.buffer.specs.Views.{enabledIn}
+use Rattle.buffer.specs.Kept.{SameOutside, Kept, Outside}
 use Rattle.laws.specs.Bounded.{sumBelow}
-use Rattle.tables.specs.Tables.{planPart, enabledIn}
 use Rattle.tables.specs.Held.{JobHeld, AfterHeld}
 use Rattle.planning.specs.declared.passes.Counts.{Counts}
 
@@ -22,13 +23,12 @@ unfoldable pub planIn : List ℕ → ℕ → List ℕ
 planIn work nodes = take nodes (drop planPart work)
 
 -- the bytes apart from the rows of pairs, the plan and the marks are as they were
-pub record PlanningKept (l m : List ℕ) : Type 0 where
-  pub long : length m ≡ length l
-  pub outside : (k : ℕ) → (k < 9218) ⊎ (((25602 ≤ k) × (k < 44034)) ⊎ (46338 ≤ k)) → getD m k 0 ≡ getD l k 0
+abbrev pub PlanningKept : List ℕ → List ℕ → Type 0
+PlanningKept = Kept (λ k. Outside pairPart classPart k × Outside planPart marksEnd k)
 
 -- "all points start watched": the plan part holds 1 at each event node and 0 at any other
 pub record AllEnabled (l m : List ℕ) (nodes count : ℕ) : Type 0 where
-  pub kept : SameOutside l m 44034 44546
+  pub kept : SameOutside l m planPart rulePart
   pub exact
       : (j : Job) (table : List (List ℕ)) (finals states : ℕ) → JobHeld j l table finals states nodes
       → (planIn m nodes ≡ allEnabled j) × (count ≡ enabledCount (allEnabled j))

@@ -19,7 +19,8 @@ use Rattle.jobfile.specs.File.{Answer, accepted, turned, maxFile, readJob}
 use Rattle.jobfile.proofs.ListingFits.{listing-fits}
 use Rattle.jobfile.proofs.SpellableLaws.{read-written}
 use Rattle.joblines.specs.declared.head.Head.{Head}
-use Rattle.joblines.specs.Layout.{cleared, SameOutside}
+use Rattle.buffer.specs.Layout.{nodesPart, workSize}
+use Rattle.buffer.specs.Kept.{SameOutside, cleared}
 use Rattle.reader.specs.Rule.{ruleIn}
 use Rattle.joblines.specs.Reading.{JobRead}
 use Rattle.tables.specs.Held.{JobHeld}
@@ -151,7 +152,7 @@ module _ {X : Type 0} (outcome : Answer → X) (after : Answer → List ℕ → 
 
     -- the answer for the job that was read
     pub ends-accepted
-        : r .refusal ≡ 0 → (k : List ℕ) (x : X) (other′ : List ℕ) → SameOutside m k 0 65536
+        : r .refusal ≡ 0 → (k : List ℕ) (x : X) (other′ : List ℕ) → SameOutside m k nodesPart workSize
         → ((j : Job) → JobHeld j m (ruleIn m) (r .finals) (r .states) (r .nodes)
         → (x ≡ outcome (accepted j)) × (other′ ≡ after (accepted j) other))
         → Ends outcome after (admitted file short) work other x (cleared k) other′

@@ -17,7 +17,7 @@ use Rattle.job.specs.Search.{faithful}
 use Rattle.job.proofs.PlanningResult.{planned-plan, planned-counts}
 use Rattle.jobfile.specs.File.{Answer, accepted, turned, readJob}
 use Rattle.jobfile.proofs.SpellableLaws.{read-written}
-use Rattle.joblines.specs.Layout.{workSize}
+use Rattle.buffer.specs.Layout.{workSize}
 use Rattle.planning.specs.declared.passes.Counts.{Counts}
 use Rattle.planning.specs.Passes.{countsOf}
 use Rattle.plans.specs.declared.plan.Outcome.{Outcome}

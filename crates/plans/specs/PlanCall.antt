@@ -7,7 +7,7 @@ use lib.Dec.{ltb}
 use lib.Seq.{sets}
 use Rattle.job.specs.Listing.{planOf}
 use Rattle.jobfile.specs.File.{Answer, accepted, turned}
-use Rattle.joblines.specs.Layout.{workSize}
+use Rattle.buffer.specs.Layout.{workSize}
 use Rattle.planning.specs.Passes.{countsOf}
 use Rattle.plans.specs.Called.{admitted}
 use Rattle.plans.specs.declared.plan.Outcome.{Outcome}

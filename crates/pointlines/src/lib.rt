@@ -2,6 +2,7 @@
 ghost use mathlib.Core.Path.{_≡_};
 ghost use Prim.Native.Nat.{_+_, _<_, _≤_};
 ghost use lib.ListN.{length};
+ghost use Rattle.buffer.specs.Layout.{Lent};
 ghost use Rattle.tables.specs.Rows.{CellsBelow};
 ghost use Rattle.printing.specs.Printing.{byteOf, PointWritten};
 use beforesets::before_set;
@@ -32,7 +33,7 @@ pub fn write_point(
     states: usize,
     n: usize,
 ) -> usize
-    requires { ⌜ (65536 ≤ length (now work)) × ((n < 512) × ((states ≤ 16) × (CellsBelow (now table) × (at + 38 ≤ length (now out))))) ⌝ }
+    requires { ⌜ (Lent (now work)) × ((n < 512) × ((states ≤ 16) × (CellsBelow (now table) × (at + 38 ≤ length (now out))))) ⌝ }
     ensures { λ r. ⌜ PointWritten (now (table .entry)) finals states n at (now (work .entry)) (now (out .entry)) (now (out .exit)) r ⌝ }
 {
     if !is_shadow(work, n) {

@@ -4,6 +4,7 @@ ghost use mathlib.Core.Bool.{cond};
 ghost use Prim.Native.Nat.{_<_, _≤_};
 ghost use lib.ListN.{length};
 ghost use Rattle.laws.specs.Bounded.{sumBelow};
+ghost use Rattle.buffer.specs.Layout.{Lent};
 ghost use Rattle.tables.specs.Rows.{CellsBelow};
 ghost use Rattle.classes.specs.Backwards.{heldStates, isLowest, lowestStates, isNop};
 use classrows::class_row;
@@ -17,7 +18,7 @@ use sets::without_lowest;
 
 // The states whose rows at node n hold pairs.
 pub fn held_states(work: &[u8], n: usize, states: usize) -> u16
-    requires { ⌜ (65536 ≤ length (now work)) × ((n < 512) × (states ≤ 16)) ⌝ }
+    requires { ⌜ (Lent (now work)) × ((n < 512) × (states ≤ 16)) ⌝ }
     ensures { λ r. ⌜ r ≡ heldStates (now (work .entry)) n states ⌝ }
 {
     let mut out = 0;
@@ -33,7 +34,7 @@ pub fn held_states(work: &[u8], n: usize, states: usize) -> u16
 
 // The states of node n that are lowest in their class.
 pub fn lowest_states(work: &[u8], n: usize, states: usize) -> u16
-    requires { ⌜ (65536 ≤ length (now work)) × ((n < 512) × (states ≤ 16)) ⌝ }
+    requires { ⌜ (Lent (now work)) × ((n < 512) × (states ≤ 16)) ⌝ }
     ensures { λ r. ⌜ r ≡ lowestStates (now (work .entry)) n states ⌝ }
 {
     let mut out = 0;
@@ -49,7 +50,7 @@ pub fn lowest_states(work: &[u8], n: usize, states: usize) -> u16
 
 // The number of classes past node n.
 pub fn class_count(work: &[u8], n: usize, states: usize) -> u32
-    requires { ⌜ (65536 ≤ length (now work)) × ((n < 512) × (states ≤ 16)) ⌝ }
+    requires { ⌜ (Lent (now work)) × ((n < 512) × (states ≤ 16)) ⌝ }
     ensures { λ r. ⌜ r ≡ sumBelow states (λ q. cond (isLowest (now (work .entry)) n q) 1 0) ⌝ }
 {
     count(lowest_states(work, n, states))
@@ -64,7 +65,7 @@ pub fn is_nop(
     a: usize,
     before: u16,
 ) -> bool
-    requires { ⌜ (65536 ≤ length (now work)) × ((n < 512) × ((a < 16) × CellsBelow (now table))) ⌝ }
+    requires { ⌜ (Lent (now work)) × ((n < 512) × ((a < 16) × CellsBelow (now table))) ⌝ }
     ensures { λ r. ⌜ r ≡ isNop (now (table .entry)) finals (now (work .entry)) n a before ⌝ }
 {
     let mut rest = before;

@@ -25,9 +25,8 @@ use Rattle.job.proofs.PlanningResult.{planned-plan}
 use Rattle.lines.specs.Line.{line}
 use Rattle.jobfile.specs.ListingLines.{shadowNumbers, shadowBytes, shadowsBytes, totalBytes, listingBytes}
 use Rattle.jobfile.proofs.ListingLength.{shadows-length, total-length}
-use Rattle.joblines.specs.Layout.{nodeIn}
+use Rattle.buffer.specs.Views.{nodeIn, enabledIn}
 use Rattle.tables.specs.Rows.{isEvent}
-use Rattle.tables.specs.Tables.{enabledIn}
 use Rattle.classes.specs.Backwards.{isLowest, isNop}
 use Rattle.classes.proofs.FoundSays.{classes-found, nop-found}
 use Rattle.planning.specs.declared.passes.Counts.{Counts}

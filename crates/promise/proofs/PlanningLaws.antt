@@ -11,7 +11,7 @@ use Rattle.twomonitors.proofs.TwoMonitors.{plan-keeps-alarms}
 use Rattle.jobfile.specs.File.{maxFile, writeJob}
 use Rattle.jobfile.proofs.Longest.{longest-file}
 use Rattle.jobfile.proofs.SpellableLaws.{accepted-written, accepted-well-formed}
-use Rattle.joblines.specs.Layout.{workSize}
+use Rattle.buffer.specs.Layout.{workSize}
 use Rattle.plans.specs.Called.{admitted}
 use Rattle.plans.specs.PlanCall.{planSize}
 use Rattle.plans.proofs.PlanAfterLaws.{plan-answer-reads, plan-after-plan}

@@ -7,7 +7,8 @@ use native.Mathlib.Nat.{le-add-right}
 use lib.ListN.{length, getD, drop, set, replicate, length-drop}
 use lib.Seq.{ext-getD, getD-drop}
 use borrow.Author.Fill.{fill-none, fill-more}
-use Rattle.joblines.specs.Layout.{filled, cleared}
+use Rattle.buffer.specs.Layout.{workSize}
+use Rattle.buffer.specs.Kept.{filled, cleared}
 
 -- nothing is cleared yet
 pub filled-none : (l : List ℕ) → l ≡ filled 0 l
@@ -20,7 +21,7 @@ unfolding filled
 filled-more l w i h e = ap (λ (x : List ℕ). set x i 0) e ∙ fill-more i 0 l h
 
 -- the loop's end
-pub filled-end : (l w : List ℕ) (i : ℕ) → i ≡ 65536 → w ≡ filled i l → w ≡ cleared l
+pub filled-end : (l w : List ℕ) (i : ℕ) → i ≡ workSize → w ≡ filled i l → w ≡ cleared l
 unfolding cleared
 filled-end l w i e same = same ∙ ap (λ (n : ℕ). filled n l) e
 
@@ -35,6 +36,6 @@ filled-same n l m e h =
 
 -- so a buffer that differs in its first part alone is cleared to the same
 pub cleared-same
-    : (l m : List ℕ) → length m ≡ length l → ((k : ℕ) → 65536 ≤ k → getD m k 0 ≡ getD l k 0) → cleared m ≡ cleared l
+    : (l m : List ℕ) → length m ≡ length l → ((k : ℕ) → workSize ≤ k → getD m k 0 ≡ getD l k 0) → cleared m ≡ cleared l
 unfolding cleared
-cleared-same l m e h = filled-same 65536 l m e h
+cleared-same l m e h = filled-same workSize l m e h

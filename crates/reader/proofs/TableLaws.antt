@@ -11,7 +11,8 @@ use Rattle.laws.specs.Bounded.{tab}
 use Rattle.laws.proofs.Bounded.{getD-tab}
 use Rattle.automaton.specs.Automaton.{cell}
 use Rattle.automaton.specs.Table.{rowOf, tableOf}
-use Rattle.joblines.specs.Layout.{rulePart, cellIn, tableIn}
+use Rattle.buffer.specs.Layout.{rulePart}
+use Rattle.buffer.specs.Views.{cellIn, tableIn}
 use Rattle.reader.specs.Rule.{ruleIn, HandsOverRule}
 
 -- a cell of a table of bytes

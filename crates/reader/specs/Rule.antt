@@ -6,7 +6,8 @@ use lib.ListN.{drop, take}
 use Rattle.automaton.specs.Automaton.{automatonOf, SameRule}
 use Rattle.automaton.specs.Table.{tableOf}
 use Rattle.joblines.specs.declared.head.Head.{Head}
-use Rattle.joblines.specs.Layout.{rulePart, jobIn}
+use Rattle.buffer.specs.Layout.{rulePart}
+use Rattle.joblines.specs.Stored.{jobIn}
 
 -- the whole table, sixteen rows of sixteen
 unfoldable pub ruleIn : List ℕ → List (List ℕ)

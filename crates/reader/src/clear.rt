@@ -2,12 +2,13 @@
 ghost use mathlib.Core.Path.{_≡_};
 ghost use Prim.Native.Nat.{_≤_};
 ghost use lib.ListN.{length};
-ghost use Rattle.joblines.specs.Layout.{workSize, cleared};
-use joblines::layout::WORK;
+ghost use Rattle.buffer.specs.Layout.{Lent};
+ghost use Rattle.buffer.specs.Kept.{cleared};
+use buffer::WORK;
 
 // Makes the first 65,536 bytes zero and leaves the rest.
 pub fn clear(work: &mut [u8])
-    requires { ⌜ workSize ≤ length (now work) ⌝ }
+    requires { ⌜ Lent (now work) ⌝ }
     ensures { λ _. ⌜ now (work .exit) ≡ cleared (now (work .entry)) ⌝ }
 {
     let mut i = 0;

@@ -1,7 +1,7 @@
 // Reading a whole job file into the work buffer.
 ghost use Prim.Native.Nat.{_≤_};
 ghost use lib.ListN.{length};
-ghost use Rattle.joblines.specs.Layout.{workSize};
+ghost use Rattle.buffer.specs.Layout.{Lent};
 ghost use Rattle.joblines.specs.Reading.{FileRead};
 use joblines::head::Head;
 use joblines::head::head_line;
@@ -13,7 +13,7 @@ pub const LONGEST: usize = 49914;
 
 // Reads a job file: 1 or 3 to 10 beside zeros, or 0 beside the job's numbers, and the buffer holds the job.
 pub fn read_job(file: &[u8], work: &mut [u8]) -> Head
-    requires { ⌜ workSize ≤ length (now work) ⌝ }
+    requires { ⌜ Lent (now work) ⌝ }
     ensures { λ r. ⌜ FileRead (now (file .entry)) (now (work .entry)) (now (work .exit)) r ⌝ }
 {
     if LONGEST < file.len() {

@@ -2,15 +2,15 @@
 ghost use mathlib.Core.Path.{_≡_};
 ghost use Prim.Native.Nat.{_≤_};
 ghost use lib.ListN.{length};
-ghost use Rattle.joblines.specs.Layout.{workSize};
+ghost use Rattle.buffer.specs.Layout.{Lent};
 ghost use Rattle.reader.specs.Rule.{ruleIn};
-use joblines::layout::RULE;
-use joblines::layout::RULE_END;
+use buffer::MARKS;
+use buffer::RULE;
 
 // The sixteen rows of sixteen next states that the buffer holds.
 pub fn table_in(work: &[u8]) -> [[u8; 16]; 16]
-    requires { ⌜ workSize ≤ length (now work) ⌝ }
+    requires { ⌜ Lent (now work) ⌝ }
     ensures { λ r. ⌜ r ≡ ruleIn (now (work .entry)) ⌝ }
 {
-    ruletable::table_of(&work[RULE..RULE_END])
+    ruletable::table_of(&work[RULE..MARKS])
 }

@@ -9,7 +9,8 @@ use native.Mathlib.Omega.{arith}
 use lib.ListN.{length}
 use borrow.Author.Tests.{lt-ltb, le-ltb}
 use Rattle.jobfile.specs.File.{Answer, accepted, turned, maxFile, readJob}
-use Rattle.joblines.specs.Layout.{workSize, cleared}
+use Rattle.buffer.specs.Layout.{workSize}
+use Rattle.buffer.specs.Kept.{cleared}
 use Rattle.joblines.specs.Reading.{headOfAnswer, FileRead}
 use Rattle.joblines.specs.declared.head.Head.{Head}
 use Rattle.reader.proofs.ClearLaws.{cleared-same}
@@ -63,4 +64,4 @@ number-accepted file e =
 -- what the reader leaves is cleared to what the caller's buffer would be
 pub cleared-read : (file l m : List ℕ) (r : Head) → FileRead file l m r → cleared m ≡ cleared l
 cleared-read file l m r f =
-    cleared-same l m (f .read .kept .long) (λ k h. f .read .kept .outside k (inr (omega arith)))
+    cleared-same l m (f .read .kept .long) (λ k h. f .read .kept .outside k (inr (omega arith), inr (omega arith)))

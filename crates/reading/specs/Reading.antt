@@ -6,7 +6,8 @@ use Prim.Native.Nat.{ℕ, _^_}
 use lib.Dec.{ltb}
 use lib.ListN.{length}
 use Rattle.jobfile.specs.File.{Answer, accepted, turned, maxFile, readJob}
-use Rattle.joblines.specs.Layout.{workSize, cleared}
+use Rattle.buffer.specs.Layout.{workSize}
+use Rattle.buffer.specs.Kept.{cleared}
 
 -- the number of an answer: 2^48 for a job, "a refusal is its number"
 abbrev pub numberOf : Answer → ℕ

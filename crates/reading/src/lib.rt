@@ -1,7 +1,7 @@
 // Reading a job file as a call for C and Rust, by which the tests compare the reader with a second one.
 ghost use mathlib.Core.Path.{_≡_};
 ghost use Rattle.reading.specs.Reading.{readCall, workLeft};
-use joblines::layout::WORK;
+use buffer::WORK;
 use reader::read::LONGEST;
 
 // Returns 2^48 for a job, or the refusal's number; the work buffer is cleared unless it is 1 or 2.

@@ -15,7 +15,7 @@ use Rattle.laws.specs.Bounded.{sumBelow, tabFrom, tab}
 use Rattle.laws.proofs.Bounded.{sum-front, sum-cong, tab-cong, fill-done}
 use Rattle.lines.specs.Line.{at}
 use Rattle.jobfile.specs.File.{nodeOf, edgeOf, someEntry}
-use Rattle.joblines.specs.Layout.{nodeIn, startIn, targetIn, successorsIn, edge, edgesFrom, cellIn, tableIn}
+use Rattle.buffer.specs.Views.{nodeIn, startIn, targetIn, successorsIn, edge, edgesFrom, cellIn, tableIn}
 
 -- ---- lists of values
 

@@ -20,35 +20,30 @@ use Rattle.lines.specs.declared.line.Collected.{Collected}
 use Rattle.lines.specs.Line.{lineLength, at}
 use Rattle.lines.specs.Lines.{Kind, Lines, lines, refused, linesOf}
 use Rattle.jobfile.specs.File.{ruleLine, nodeLine, edgeLine, ruleOf, nodeOf, edgeOf, someEntry, Answer, accepted, turned, atEnd, readRest}
-use Rattle.joblines.specs.Layout.{startsPart, targetsEnd, rulePart, ruleEnd, nodeIn, cellIn, jobIn, SameOutside}
+use Rattle.buffer.specs.Layout.{startsPart, pairPart, rulePart, marksPart}
+use Rattle.buffer.specs.Views.{nodeIn, cellIn}
+use Rattle.buffer.specs.Kept.{SameOutside}
+use Rattle.joblines.specs.Stored.{jobIn}
 use Rattle.lines.specs.Places.{numbersAt, refusalIn, LinesRead}
 use Rattle.joblines.specs.Reading.{SameRest, JobRead}
 use Rattle.joblines.specs.ReadLines.{refusedHead, RulesRead, NodesRead, EdgesRead}
 use Rattle.lines.proofs.LinesLaws.{lines-all, passed-length}
-use Rattle.joblines.proofs.KeptLaws.{node-kept}
+use Rattle.buffer.proofs.KeptLaws.{kept-same, kept-then, kept-fewer, outside-part, node-kept}
 use Rattle.restlines.proofs.JobLaws.{map-tab, table-same, cell-past, nodes-same, entries-test, starts-ascend, edges-same}
 
 -- ---- the buffer
 
 -- what the R lines leave
-pub rest-rule : (l m : List ℕ) → SameOutside l m rulePart ruleEnd → SameRest l m
-rest-rule l m p = record { long = p .long; outside = λ k o. p .outside k (apart k o) }
-  where
-    apart : (k : ℕ) → ((targetsEnd ≤ k) × (k < rulePart)) ⊎ (ruleEnd ≤ k) → (k < rulePart) ⊎ (ruleEnd ≤ k)
-    apart k (inl o) = inl (o .1)
-    apart k (inr o) = inr o
+pub rest-rule : (l m : List ℕ) → SameOutside l m rulePart marksPart → SameRest l m
+rest-rule l m p = kept-fewer (λ k o. o .1) p
 
 -- what the P or F lines leave after them
-pub rest-then : (l m k : List ℕ) (i j : ℕ) → SameRest l m → SameOutside m k i j → j ≤ targetsEnd → SameRest l k
-rest-then l m k i j p q h = record { long = q .long ∙ p .long; outside = λ x o. q .outside x (inr (past x o)) ∙ p .outside x o }
-  where
-    past : (x : ℕ) → ((targetsEnd ≤ x) × (x < rulePart)) ⊎ (ruleEnd ≤ x) → j ≤ x
-    past x (inl o) = omega (arith, o .0)
-    past x (inr o) = omega arith
+pub rest-then : (l m k : List ℕ) (i j : ℕ) → SameRest l m → SameOutside m k i j → j ≤ pairPart → SameRest l k
+rest-then l m k i j p q h = kept-then (λ x o. (o, outside-part (omega arith) h x (o .0))) p q
 
 -- nothing is stored
 pub rest-same : (l : List ℕ) → SameRest l l
-rest-same l = record { long = refl; outside = λ k o. refl }
+rest-same l = kept-same l
 
 -- ---- the lines
 
@@ -186,7 +181,7 @@ module _ (s a n e : ℕ) (file : List ℕ) where
 
     -- the nodes are as the P lines left them
     node-is : (j : ℕ) → j < n → nodeIn m3 j ≡ nodeOf (places j)
-    node-is j h = node-kept m2 m3 startsPart targetsEnd (x3 .kept) j (inl (omega arith)) ∙ x2 .here z2 j h
+    node-is j h = node-kept m2 m3 startsPart pairPart (x3 .kept) j (inl (omega arith)) ∙ x2 .here z2 j h
 
     -- the numbers beside the job
     abbrev numbers : Head
@@ -204,7 +199,7 @@ module _ (s a n e : ℕ) (file : List ℕ) where
 
     -- the bytes past the job's parts are as before
     pub all-kept : SameRest l m3
-    all-kept = rest-then l m2 m3 startsPart targetsEnd (rest-then l m1 m2 0 startsPart (rest-rule l m1 (x1 .kept)) (x2 .kept) (omega arith)) (x3 .kept) (omega arith)
+    all-kept = rest-then l m2 m3 startsPart pairPart (rest-then l m1 m2 0 startsPart (rest-rule l m1 (x1 .kept)) (x2 .kept) (omega arith)) (x3 .kept) (omega arith)
 
     -- what an accepted job leaves
     job-read : answer ≡ accepted job → JobRead answer l m3 numbers

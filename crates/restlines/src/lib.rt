@@ -5,7 +5,7 @@ ghost use Prim.Native.Nat.{_≤_};
 ghost use lib.ListN.{length, drop};
 ghost use Rattle.lines.specs.Line.{lineLength};
 ghost use Rattle.jobfile.specs.File.{readRest};
-ghost use Rattle.joblines.specs.Layout.{workSize};
+ghost use Rattle.buffer.specs.Layout.{Lent};
 ghost use Rattle.joblines.specs.Reading.{JobRead};
 use edgelines::edge_lines;
 use joblines::head::Head;
@@ -15,7 +15,7 @@ use rulelines::rule_lines;
 
 // Reads the lines past the J line, whose numbers are given: 3, 4 or 6 to 10, or the job's numbers, and the job is stored.
 pub fn read_rest(file: &[u8], work: &mut [u8], head: Head) -> Head
-    requires { ⌜ (lineLength 4 ≤ length (now file)) × ((workSize ≤ length (now work)) × ((head .states ≤ 16) × ((head .symbols ≤ 16) × ((head .nodes ≤ 512) × ((head .edges ≤ 2048) × (head .refusal ≡ 0)))))) ⌝ }
+    requires { ⌜ (lineLength 4 ≤ length (now file)) × ((Lent (now work)) × ((head .states ≤ 16) × ((head .symbols ≤ 16) × ((head .nodes ≤ 512) × ((head .edges ≤ 2048) × (head .refusal ≡ 0)))))) ⌝ }
     ensures { λ r. ⌜ JobRead (readRest (head .states ∷ head .symbols ∷ head .nodes ∷ head .edges ∷ []) (drop (lineLength 4) (now (file .entry)))) (now (work .entry)) (now (work .exit)) r ⌝ }
 {
     let states = head.states;

@@ -20,7 +20,8 @@ use Rattle.automaton.specs.Automaton.{next}
 use Rattle.job.specs.Job.{Kind, plain, event, call, Job, nodeAt}
 use Rattle.job.specs.Plan.{Enabling, full, enables}
 use Rattle.moves.specs.declared.Past.{Past}
-use Rattle.tables.specs.Tables.{EdgeIn, Held, marksIn, markedIn, pairsLeft, SearchKept, Grown, NextMarked, MarksTaken}
+use Rattle.buffer.specs.Views.{marksIn, markedIn, EdgeIn, Held}
+use Rattle.tables.specs.Tables.{pairsLeft, SearchKept, Grown, NextMarked, MarksTaken}
 use Rattle.tables.specs.Held.{Usable, JobHeld, PlanHeld}
 use Rattle.rounds.specs.declared.Seen.{Seen}
 use Rattle.rounds.specs.declared.Seen.the-variants.{Nothing, Rows, Difference}

@@ -6,7 +6,8 @@ use mathlib.Core.List.{List}
 use Prim.Native.Nat.{ℕ, _<_}
 use Rattle.job.specs.Job.{Job}
 use Rattle.job.specs.Plan.{Enabling, enables}
-use Rattle.tables.specs.Tables.{marksIn, markedIn, Held, pairsLeft, SearchKept}
+use Rattle.buffer.specs.Views.{marksIn, markedIn, Held}
+use Rattle.tables.specs.Tables.{pairsLeft, SearchKept}
 use Rattle.tables.specs.Held.{JobHeld, PlanHeld}
 use Rattle.look.specs.Looking.{Follows, SplitPair, ClosedPair}
 use Rattle.rounds.specs.declared.Seen.{Seen}

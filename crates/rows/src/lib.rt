@@ -2,16 +2,18 @@
 ghost use mathlib.Core.Path.{_≡_};
 ghost use Prim.Native.Nat.{_<_, _≤_};
 ghost use lib.ListN.{length};
-ghost use Rattle.tables.specs.Tables.{pairRowIn, PairsJoined};
-use parts::MARKS;
-use parts::PAIRS;
+ghost use Rattle.buffer.specs.Layout.{Lent};
+ghost use Rattle.buffer.specs.Views.{pairRowIn};
+ghost use Rattle.tables.specs.Tables.{PairsJoined};
+use buffer::MARKS;
+use buffer::PAIRS;
 use sets::insert;
 use stores::write16;
 use words::read16;
 
 // Row p of the pairs of node n.
 pub fn pair_row(work: &[u8], n: usize, p: usize) -> u16
-    requires { ⌜ (65536 ≤ length (now work)) × ((n < 512) × (p < 16)) ⌝ }
+    requires { ⌜ (Lent (now work)) × ((n < 512) × (p < 16)) ⌝ }
     ensures { λ r. ⌜ r ≡ pairRowIn (now (work .entry)) n p ⌝ }
 {
     read16(work, PAIRS + (n * 16 + p) * 2)
@@ -19,7 +21,7 @@ pub fn pair_row(work: &[u8], n: usize, p: usize) -> u16
 
 // Joins a set into row p of node n, and marks the row where it grows.
 pub fn join_pairs(work: &mut [u8], n: usize, p: usize, s: u16)
-    requires { ⌜ (65536 ≤ length (now work)) × ((n < 512) × (p < 16)) ⌝ }
+    requires { ⌜ (Lent (now work)) × ((n < 512) × (p < 16)) ⌝ }
     ensures { λ _. ⌜ PairsJoined (now (work .entry)) (now (work .exit)) n p s ⌝ }
 {
     let at = PAIRS + (n * 16 + p) * 2;

@@ -16,14 +16,15 @@ use Rattle.laws.proofs.Tests.{fails-of}
 use Rattle.lines.specs.declared.line.Row.{Row}
 use Rattle.lines.specs.Line.{lineOf, rowOf, at}
 use Rattle.jobfile.specs.File.{goodRule, ruleLine}
-use Rattle.joblines.specs.Layout.{rulePart, RowStored}
+use Rattle.buffer.specs.Layout.{rulePart}
+use Rattle.joblines.specs.Stored.{RowStored}
 use Rattle.framing.specs.Framing.{collected}
 use Rattle.lines.specs.Places.{numbersOf}
 use Rattle.joblines.specs.ReadLines.{RuleRead}
 use Rattle.jobfile.specs.Refusal.{RuleWithin}
 use Rattle.jobfile.proofs.WithinLaws.{rule-says}
 use Rattle.lines.proofs.LinesLaws.{row-stops, row-passes, row-fails, row-number, row-long, due-length}
-use Rattle.joblines.proofs.KeptLaws.{kept-none}
+use Rattle.buffer.proofs.KeptLaws.{kept-none}
 
 module _ (s a q : ℕ) (bytes l : List ℕ) (r : Row) (e : r ≡ rowOf (lineOf 82 (a + 2) bytes)) where
   -- number k of the row

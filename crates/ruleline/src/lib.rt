@@ -1,7 +1,7 @@
 // One R line, read into the work buffer.
 ghost use Prim.Native.Nat.{_<_, _≤_};
 ghost use lib.ListN.{length, drop};
-ghost use Rattle.joblines.specs.Layout.{workSize};
+ghost use Rattle.buffer.specs.Layout.{Lent};
 ghost use Rattle.joblines.specs.ReadLines.{RuleRead};
 use duelines::due_line;
 use framing::refused;
@@ -18,7 +18,7 @@ pub fn rule_line(
     symbols: usize,
     q: usize,
 ) -> Collected
-    requires { ⌜ (at ≤ length (now file)) × ((workSize ≤ length (now work)) × ((states ≤ 16) × ((symbols ≤ 16) × (q < 16)))) ⌝ }
+    requires { ⌜ (at ≤ length (now file)) × ((Lent (now work)) × ((states ≤ 16) × ((symbols ≤ 16) × (q < 16)))) ⌝ }
     ensures { λ r. ⌜ RuleRead states symbols q (drop at (now (file .entry))) (now (work .entry)) (now (work .exit)) r ⌝ }
 {
     let row = due_line(file, at, 82, symbols + 2);

@@ -17,12 +17,15 @@ use Rattle.laws.proofs.Bits.{has-or, has-empty, same-set, one-shl}
 use Rattle.lines.specs.declared.line.Collected.{Collected}
 use Rattle.lines.specs.Line.{lineLength, lineOf, at}
 use Rattle.jobfile.specs.File.{ruleLine, finalsOf}
-use Rattle.joblines.specs.Layout.{rulePart, ruleEnd, cellIn, SameOutside, RuleCleared}
+use Rattle.buffer.specs.Layout.{rulePart, marksPart}
+use Rattle.buffer.specs.Views.{cellIn}
+use Rattle.buffer.specs.Kept.{SameOutside}
+use Rattle.joblines.specs.Stored.{RuleCleared}
 use Rattle.framing.specs.Framing.{collected}
 use Rattle.lines.specs.Places.{numbersOf, numbersAt, statusAt}
 use Rattle.joblines.specs.ReadLines.{RuleRead, RulesRead}
 use Rattle.lines.proofs.LinesLaws.{passed-more, read-all, read-stop, status-here, numbers-here}
-use Rattle.joblines.proofs.KeptLaws.{kept-none, kept-both}
+use Rattle.buffer.proofs.KeptLaws.{kept-none, kept-both}
 
 -- ---- the final states
 
@@ -83,7 +86,7 @@ pub record RulesSoFar (s a : ℕ) (bytes l m : List ℕ) (q finals : ℕ) : Type
   pub here : (p c : ℕ) → p < q → c < 16 → cellIn m p c ≡ at (numbersAt (ruleLine s a) bytes p) (c + 2)
   pub past : (p c : ℕ) → q ≤ p → p < 16 → c < 16 → cellIn m p c ≡ 0
   pub within : q * lineLength (a + 2) ≤ length bytes
-  pub kept : SameOutside l m rulePart ruleEnd
+  pub kept : SameOutside l m rulePart marksPart
 
 -- none is read yet
 pub rules-none : (s a : ℕ) (bytes k l : List ℕ) → RuleCleared k l → RulesSoFar s a bytes l l 0 0
@@ -94,7 +97,7 @@ rules-none s a bytes k l z = record {
   here = λ p c h. absurd (not-suc-le-zero h);
   past = λ p c x h g. let i : rulePart + p * 16 + c ≡ rulePart + (p * 16 + c) = omega arith in rw i (z .here (p * 16 + c) (omega arith));
   within = omega (arith, zero-mul (lineLength (a + 2)));
-  kept = kept-none l rulePart ruleEnd;
+  kept = kept-none l rulePart marksPart;
 }
 
 -- a cell of another row
@@ -115,8 +118,8 @@ module _ (s a : ℕ) (file : List ℕ) (start : ℕ) (l m k : List ℕ) (q final
   own-numbers = numbers-here (ruleLine s a) file start q
 
   -- what is left of the buffer
-  all-kept : SameOutside l k rulePart ruleEnd
-  all-kept = kept-both l m k rulePart ruleEnd (rulePart + q * 16) (rulePart + q * 16 + 16) (so .kept) (x .kept) (omega arith) (omega arith)
+  all-kept : SameOutside l k rulePart marksPart
+  all-kept = kept-both l m k rulePart marksPart (rulePart + q * 16) (rulePart + q * 16 + 16) (so .kept) (x .kept) (omega arith) (omega arith)
 
   -- one line more
   pub rules-more : r .status ≡ 0 → RulesSoFar s a (drop start file) l k (q + 1) (bitOr finals ((r .number * 2 ^ q) % 2 ^ 64))
@@ -148,7 +151,7 @@ module _ (s a : ℕ) (file : List ℕ) (start : ℕ) (l m k : List ℕ) (q final
     number = λ z. absurd (b z);
     here = λ z. absurd (b z);
     past = λ z. absurd (b z);
-    kept = kept-both o l k rulePart ruleEnd rulePart ruleEnd (w .kept) all-kept (omega arith) (omega arith);
+    kept = kept-both o l k rulePart marksPart rulePart marksPart (w .kept) all-kept (omega arith) (omega arith);
   }
 
 -- all lines are read
@@ -161,5 +164,5 @@ rules-end s a bytes o l m q finals e w so = record {
   number = λ z. so .number ∙ ap (λ (i : ℕ). finalsOf 0 (tab i (numbersAt (ruleLine s a) bytes))) e;
   here = λ z p c g h. so .here p c (omega arith) h;
   past = λ z p c y g h. so .past p c (omega arith) g h;
-  kept = kept-both o l m rulePart ruleEnd rulePart ruleEnd (w .kept) (so .kept) (omega arith) (omega arith);
+  kept = kept-both o l m rulePart marksPart rulePart marksPart (w .kept) (so .kept) (omega arith) (omega arith);
 }

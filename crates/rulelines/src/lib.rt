@@ -1,7 +1,7 @@
 // The R lines, read into the work buffer.
 ghost use Prim.Native.Nat.{_≤_};
 ghost use lib.ListN.{length, drop};
-ghost use Rattle.joblines.specs.Layout.{workSize};
+ghost use Rattle.buffer.specs.Layout.{Lent};
 ghost use Rattle.joblines.specs.ReadLines.{RulesRead};
 use framing::refused;
 use lines::line::Collected;
@@ -10,7 +10,7 @@ use rulerows::clear_rule;
 
 // Reads the R lines from `at` on: 3, 4 or 6, or the set of final states, and the rule is stored.
 pub fn rule_lines(file: &[u8], at: usize, work: &mut [u8], states: u64, symbols: usize) -> Collected
-    requires { ⌜ (at ≤ length (now file)) × ((workSize ≤ length (now work)) × ((states ≤ 16) × (symbols ≤ 16))) ⌝ }
+    requires { ⌜ (at ≤ length (now file)) × ((Lent (now work)) × ((states ≤ 16) × (symbols ≤ 16))) ⌝ }
     ensures { λ r. ⌜ RulesRead states symbols (drop at (now (file .entry))) (now (work .entry)) (now (work .exit)) r ⌝ }
 {
     clear_rule(work);

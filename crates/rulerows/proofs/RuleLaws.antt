@@ -9,8 +9,11 @@ use native.Mathlib.Numerals.{add-one}
 use native.Mathlib.Omega.{arith}
 use lib.ListN.{length, getD, set}
 use lib.Seq.{getD-set-same, getD-set-other}
-use Rattle.joblines.specs.Layout.{rulePart, workSize, cellIn, SameOutside, RowStored}
-use Rattle.joblines.proofs.KeptLaws.{kept-none, kept-both, kept-set}
+use Rattle.buffer.specs.Layout.{rulePart, Lent}
+use Rattle.buffer.specs.Views.{cellIn}
+use Rattle.buffer.specs.Kept.{SameOutside}
+use Rattle.joblines.specs.Stored.{RowStored}
+use Rattle.buffer.proofs.KeptLaws.{kept-none, kept-both, kept-set}
 
 -- bytes from a place on are right, one more by each store
 pub bytes-more
@@ -38,7 +41,7 @@ cells-none l q ns = record { here = λ j h. absurd (not-suc-le-zero h); kept = k
 
 -- one cell more
 pub cells-more
-    : (l m : List ℕ) (q : ℕ) (ns : List ℕ) (c v : ℕ) → c < 16 → q < 16 → workSize ≤ length l → CellsStored l m q ns c → v ≡ getD ns (c + 2) 0
+    : (l m : List ℕ) (q : ℕ) (ns : List ℕ) (c v : ℕ) → c < 16 → q < 16 → Lent l → CellsStored l m q ns c → v ≡ getD ns (c + 2) 0
     → CellsStored l (set m (rulePart + q * 16 + c) v) q ns (c + 1)
 cells-more l m q ns c v h g long s e = record {
   here = bytes-more m (rulePart + q * 16) c v (λ j. getD ns (j + 2) 0) (omega (arith, s .kept .long)) (s .here) e;

@@ -4,8 +4,9 @@ ghost use Prim.Native.Nat.{ℕ, _+_, _<_, _≤_};
 ghost use lib.Dec.{ltb};
 ghost use lib.ListN.{length, getD};
 ghost use Rattle.laws.specs.Bounded.{allBelow};
-ghost use Rattle.joblines.specs.Layout.{workSize, RowStored, RuleCleared};
-use joblines::layout::RULE;
+ghost use Rattle.buffer.specs.Layout.{Lent};
+ghost use Rattle.joblines.specs.Stored.{RowStored, RuleCleared};
+use buffer::RULE;
 
 // Whether the next states among a line's numbers are below S.
 pub fn are_below(numbers: &[u64; 18], states: u64, symbols: usize) -> bool
@@ -24,7 +25,7 @@ pub fn are_below(numbers: &[u64; 18], states: u64, symbols: usize) -> bool
 
 // Makes the rule's part zero.
 pub fn clear_rule(work: &mut [u8])
-    requires { ⌜ workSize ≤ length (now work) ⌝ }
+    requires { ⌜ Lent (now work) ⌝ }
     ensures { λ _. ⌜ RuleCleared (now (work .entry)) (now (work .exit)) ⌝ }
 {
     let mut k = 0;
@@ -36,7 +37,7 @@ pub fn clear_rule(work: &mut [u8])
 
 // Stores the row of state q.
 pub fn store_row(work: &mut [u8], q: usize, numbers: &[u64; 18])
-    requires { ⌜ (q < 16) × ((workSize ≤ length (now work)) × ((c : ℕ) → c < 16 → getD (now numbers) (c + 2) 0 < 256)) ⌝ }
+    requires { ⌜ (q < 16) × ((Lent (now work)) × ((c : ℕ) → c < 16 → getD (now numbers) (c + 2) 0 < 256)) ⌝ }
     ensures { λ _. ⌜ RowStored (now (work .entry)) (now (work .exit)) q (now (numbers .entry)) ⌝ }
 {
     let mut c = 0;

@@ -26,7 +26,8 @@ use Rattle.job.proofs.Rules.{pair-different, faithful-true, arrives-true, arriv
 use Rattle.job.proofs.Nodes.{Table, NoEvent, plain-no-event, call-no-event, PastNode, past-silent, past-event, Spelt, no-word, one-more, past-map}
 use Rattle.job.proofs.Nodes.{PairAt, pair-at-start, pair-at-event, pair-at-silent, past-pair, pair-at-edge, pair-at-word, pair-at-within}
 use Rattle.job.proofs.Nodes.{ReachedIn, NodeKept, NodeInvariant, node-kept, node-invariant, word-apart}
-use Rattle.tables.specs.Tables.{Held, pairRowIn, classRowIn, SearchKept}
+use Rattle.buffer.specs.Views.{pairRowIn, classRowIn, Held}
+use Rattle.tables.specs.Tables.{SearchKept}
 use Rattle.tables.specs.Held.{Usable, JobHeld, PlanHeld, AfterHeld}
 use Rattle.look.specs.Looking.{pastState, pastNode, Follows, over-edge, by-word, ClosedPair, SplitPair, split-point, split-call, split-exit}
 use Rattle.rounds.specs.Rounds.{ClosedAt, Following, held-first, follows, Settled, Rounded, RoundedAt}

@@ -8,7 +8,8 @@ use lib.Dec.{eqb}
 use Rattle.job.specs.Job.{event, Job, nodeAt, WellFormedJob}
 use Rattle.job.specs.Planning.{allEnabled}
 use Rattle.job.specs.Search.{faithful, arrives}
-use Rattle.tables.specs.Tables.{pairRowIn, SearchKept}
+use Rattle.buffer.specs.Views.{pairRowIn}
+use Rattle.tables.specs.Tables.{SearchKept}
 use Rattle.tables.specs.Held.{JobHeld, PlanHeld, AfterHeld}
 
 -- the answer is the definition's; where it is faithful, the rows of an event node that hold pairs are those of the states that arrive

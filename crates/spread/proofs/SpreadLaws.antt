@@ -15,7 +15,8 @@ use Rattle.laws.proofs.Walk.{Rest, rest-start, rest-low, rest-lt, rest-next, me
 use Rattle.automaton.specs.Automaton.{cell}
 use Rattle.job.specs.Search.{unlike}
 use Rattle.tables.specs.Rows.{CellsBelow, meets, unlikeStates, imageOf}
-use Rattle.tables.specs.Tables.{Held, Grown, PairsJoined}
+use Rattle.buffer.specs.Views.{Held}
+use Rattle.tables.specs.Tables.{Grown, PairsJoined}
 use Rattle.spread.specs.Spreading.{WordFrom, Spread}
 use Rattle.tables.proofs.RowLaws.{meets-says, meets-none, has-unlike, has-image-of}
 use Rattle.tables.proofs.KeptLaws.{grown-none, grown-both}

@@ -7,7 +7,8 @@ use mathlib.Core.List.{List}
 use Prim.Native.Nat.{ℕ, _<_}
 use Rattle.laws.specs.Bits.{has}
 use Rattle.automaton.specs.Automaton.{cell}
-use Rattle.tables.specs.Tables.{Held, Grown}
+use Rattle.buffer.specs.Views.{Held}
+use Rattle.tables.specs.Tables.{Grown}
 
 -- a symbol of the set and a state of the row: the pair that they lead to, at node n
 pub record WordFrom (table : List (List ℕ)) (set p s : ℕ) (k l : ℕ) : Type 0 where

@@ -1,6 +1,7 @@
 // A row of pairs moved by the symbols of a call word.
 ghost use Prim.Native.Nat.{_<_, _≤_};
 ghost use lib.ListN.{length};
+ghost use Rattle.buffer.specs.Layout.{Lent};
 ghost use Rattle.tables.specs.Rows.{CellsBelow};
 ghost use Rattle.spread.specs.Spreading.{Spread};
 use moves::image_under;
@@ -20,7 +21,7 @@ pub fn spread(
     s: u16,
     set: u16,
 ) -> bool
-    requires { ⌜ (65536 ≤ length (now work)) × ((n < 512) × ((p < 16) × CellsBelow (now table))) ⌝ }
+    requires { ⌜ (Lent (now work)) × ((n < 512) × ((p < 16) × CellsBelow (now table))) ⌝ }
     ensures { λ r. ⌜ Spread (now (table .entry)) finals (now (work .entry)) (now (work .exit)) n p s set r ⌝ }
 {
     let mut rest = set;

@@ -10,14 +10,16 @@ use native.Mathlib.Omega.{arith}
 use lib.Bits.{bitAnd}
 use lib.Count.{trailingZeros}
 use lib.ListN.{getD}
+use Rattle.buffer.proofs.KeptLaws.{kept-then}
 use Rattle.laws.specs.Bits.{has, with}
 use Rattle.laws.specs.Bytes.{AreBytes, numberAt}
 use Rattle.laws.proofs.Bytes.{number-lt}
 use Rattle.laws.proofs.Bits.{has-empty, has-below, has-with-same, has-with-other}
 use Rattle.laws.proofs.Walk.{Rest, rest-start, rest-from, rest-lt, rest-low, rest-next, members-more, members-end}
 use Rattle.job.specs.Job.{Node}
-use Rattle.joblines.specs.Layout.{nodeIn}
-use Rattle.tables.specs.Tables.{Held, pairRowIn, Zeroed, SearchKept, Grown, PairsJoined}
+use Rattle.buffer.specs.Layout.{pairPart, classPart, marksPart, marksEnd}
+use Rattle.buffer.specs.Views.{nodeIn, pairRowIn, Held}
+use Rattle.tables.specs.Tables.{Zeroed, SearchKept, Grown, PairsJoined}
 use Rattle.starts.specs.Started.{StartedNode, Started}
 use Rattle.tables.proofs.RowLaws.{has-nothing}
 use Rattle.tables.proofs.KeptLaws.{search-kept-both, grown-none, grown-both, node-same}
@@ -136,32 +138,20 @@ starting-more {l} {m} {k} {n} ln i bytes s =
     same : nodeIn m n ≡ nodeIn l n
     same = node-same (i .grown .kept) n ln
 
-module _ {l k m : List ℕ} (rows : Zeroed l k 9218 25602) (marks : Zeroed k m 45314 46338) where
+module _ {l k m : List ℕ} (rows : Zeroed l k pairPart classPart) (marks : Zeroed k m marksPart marksEnd) where
   -- the parts that were cleared are those of the search
   zeroed-kept : SearchKept l m
-  zeroed-kept =
-      record {
-        long = marks .long ∙ rows .long;
-        outside = λ i h.
-            ⊎-elim
-            (λ (a : i < 9218). marks .outside i (inl (omega arith)) ∙ rows .outside i (inl a))
-            (λ (b : ((25602 ≤ i) × (i < 45314)) ⊎ (46338 ≤ i)).
-            ⊎-elim
-            (λ (d : (25602 ≤ i) × (i < 45314)). marks .outside i (inl (d .1)) ∙ rows .outside i (inr (d .0)))
-            (λ (d : 46338 ≤ i). marks .outside i (inr d) ∙ rows .outside i (inr (omega arith)))
-            b)
-            h;
-      }
+  zeroed-kept = kept-then (λ i o. o) (rows .kept) (marks .kept)
 
   -- a byte of the rows is zero
-  zeroed-byte : (i : ℕ) → 9218 ≤ i → i < 25602 → getD m i 0 ≡ 0
-  zeroed-byte i a b = marks .outside i (inl (omega arith)) ∙ rows .zeros i a b
+  zeroed-byte : (i : ℕ) → pairPart ≤ i → i < classPart → getD m i 0 ≡ 0
+  zeroed-byte i a b = marks .kept .outside i (inl (omega arith)) ∙ rows .zeros i a b
 
   -- so are the rows
   zeroed-row : (n p : ℕ) → n < 512 → p < 16 → pairRowIn m n p ≡ 0
   unfolding pairRowIn numberAt
   zeroed-row n p ln lp =
-      let at = 9218 + (n * 16 + p) * 2 in
+      let at = pairPart + (n * 16 + p) * 2 in
       let first = zeroed-byte at (omega arith) (omega arith) in
       let second = zeroed-byte (suc at) (omega arith) (omega arith) in
       omega (arith, first, second)

@@ -6,8 +6,8 @@ use mathlib.Core.Bool.{true, false}
 use mathlib.Core.List.{List}
 use Prim.Native.Nat.{ℕ, _<_}
 use Rattle.laws.specs.Bits.{has}
-use Rattle.joblines.specs.Layout.{nodeIn}
-use Rattle.tables.specs.Tables.{pairRowIn, markedIn, Held, SearchKept, Grown}
+use Rattle.buffer.specs.Views.{nodeIn, pairRowIn, markedIn, Held}
+use Rattle.tables.specs.Tables.{SearchKept, Grown}
 
 -- the admitted states of node n were joined, each with itself
 pub record StartedNode (l m : List ℕ) (n : ℕ) : Type 0 where

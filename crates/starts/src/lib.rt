@@ -1,6 +1,7 @@
 // The starts of a search in the rows of pairs.
 ghost use Prim.Native.Nat.{_≤_, _<_};
 ghost use lib.ListN.{length};
+ghost use Rattle.buffer.specs.Layout.{Lent};
 ghost use Rattle.starts.specs.Started.{StartedNode, Started};
 use parts::clear_marks;
 use parts::clear_pairs;
@@ -12,7 +13,7 @@ use sets::without_lowest;
 
 // Joins the pairs of the admitted states of node n with themselves.
 fn start_node(work: &mut [u8], n: usize)
-    requires { ⌜ (65536 ≤ length (now work)) × (n < 512) ⌝ }
+    requires { ⌜ (Lent (now work)) × (n < 512) ⌝ }
     ensures { λ _. ⌜ StartedNode (now (work .entry)) (now (work .exit)) n ⌝ }
 {
     let mut rest = entry_set(work, n);
@@ -25,7 +26,7 @@ fn start_node(work: &mut [u8], n: usize)
 
 // The rows of pairs hold the starts of all nodes and nothing else.
 pub fn start(work: &mut [u8], nodes: usize)
-    requires { ⌜ (65536 ≤ length (now work)) × (nodes ≤ 512) ⌝ }
+    requires { ⌜ (Lent (now work)) × (nodes ≤ 512) ⌝ }
     ensures { λ _. ⌜ Started (now (work .entry)) (now (work .exit)) nodes ⌝ }
 {
     clear_pairs(work);

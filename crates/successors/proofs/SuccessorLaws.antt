@@ -11,8 +11,8 @@ use native.Mathlib.Numerals.{add-one}
 use native.Mathlib.Omega.{arith}
 use lib.ListN.{getD}
 use Rattle.laws.specs.Bits.{has}
-use Rattle.joblines.specs.Layout.{startIn, targetIn}
-use Rattle.tables.specs.Tables.{EdgeIn, Held, Grown, PairsJoined}
+use Rattle.buffer.specs.Views.{startIn, targetIn, EdgeIn, Held}
+use Rattle.tables.specs.Tables.{Grown, PairsJoined}
 use Rattle.tables.specs.Held.{EdgesWithin}
 use Rattle.successors.specs.Joined.{InRows, RowsJoined, JoinedPast}
 use Rattle.tables.proofs.KeptLaws.{grown-none, grown-both, target-same}

@@ -7,7 +7,8 @@ use mathlib.Core.List.{List}
 use Prim.Native.Nat.{ℕ, _<_}
 use lib.ListN.{getD}
 use Rattle.laws.specs.Bits.{has}
-use Rattle.tables.specs.Tables.{EdgeIn, Held, Grown}
+use Rattle.buffer.specs.Views.{EdgeIn, Held}
+use Rattle.tables.specs.Tables.{Grown}
 
 -- the pair is in sixteen rows
 abbrev pub InRows : List ℕ → ℕ → ℕ → Type 0

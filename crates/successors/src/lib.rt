@@ -1,6 +1,7 @@
 // Sixteen rows of pairs joined at a node, and at the successors of a node.
 ghost use Prim.Native.Nat.{_<_, _≤_};
 ghost use lib.ListN.{length};
+ghost use Rattle.buffer.specs.Layout.{Lent};
 ghost use Rattle.tables.specs.Held.{EdgesWithin};
 ghost use Rattle.successors.specs.Joined.{RowsJoined, JoinedPast};
 use places::start_at;
@@ -9,7 +10,7 @@ use rows::join_pairs;
 
 // Joins sixteen rows into those of node n.
 fn join_rows(work: &mut [u8], n: usize, rows: &[u16; 16])
-    requires { ⌜ (65536 ≤ length (now work)) × (n < 512) ⌝ }
+    requires { ⌜ (Lent (now work)) × (n < 512) ⌝ }
     ensures { λ _. ⌜ RowsJoined (now (work .entry)) (now (work .exit)) n (now (rows .entry)) ⌝ }
 {
     let mut p = 0;
@@ -21,7 +22,7 @@ fn join_rows(work: &mut [u8], n: usize, rows: &[u16; 16])
 
 // Joins sixteen rows into those of every successor of node n.
 pub fn join_successors(work: &mut [u8], n: usize, rows: &[u16; 16])
-    requires { ⌜ (65536 ≤ length (now work)) × ((n < 512) × EdgesWithin (now work) n) ⌝ }
+    requires { ⌜ (Lent (now work)) × ((n < 512) × EdgesWithin (now work) n) ⌝ }
     ensures { λ _. ⌜ JoinedPast (now (work .entry)) (now (work .exit)) n (now (rows .entry)) ⌝ }
 {
     let end = start_at(work, n + 1);

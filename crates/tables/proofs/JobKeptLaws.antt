@@ -1,5 +1,5 @@
--- Where the first 9,218 bytes of the buffer are as they were, so are the nodes and edges that they hold; where its class rows are, so are
--- the after words.
+-- Where the bytes in front of the rows of pairs are as they were, so are the nodes and edges that they hold; where the class rows are, so
+-- are the after words.
 -- Assumes nothing.
 use mathlib.Core.Path.{_≡_, sym, _∙_}
 use mathlib.Core.Logic.{_↔_, inl}
@@ -8,26 +8,31 @@ use Prim.Native.Nat.{ℕ, suc, _+_, _*_, _≤_, _<_}
 use native.Mathlib.Nat.{lt-of-lt-of-le}
 use native.Mathlib.Omega.{arith}
 use lib.ListN.{length, getD}
+use Rattle.buffer.proofs.KeptLaws.{kept-fewer}
 use Rattle.laws.specs.Bytes.{numberAt}
 use Rattle.laws.proofs.Bytes.{number-cong}
 use Rattle.job.specs.Job.{Job, WellFormedJob}
-use Rattle.joblines.specs.Layout.{nodeIn, startIn, targetIn, SameOutside}
-use Rattle.tables.specs.Tables.{classRowIn, EdgeIn}
+use Rattle.buffer.specs.Layout.{startsPart, targetsPart, pairPart, classPart, foundPart}
+use Rattle.buffer.specs.Views.{nodeIn, startIn, targetIn, classRowIn, EdgeIn}
+use Rattle.buffer.specs.Kept.{SameOutside, Kept}
 use Rattle.tables.specs.Held.{EdgesWithin, Usable, JobHeld, AfterHeld}
 
 -- the nodes and edges are as they were, and so is the length
-pub record FrontKept (l m : List ℕ) : Type 0 where
-  pub long : length m ≡ length l
-  pub front : (k : ℕ) → k < 9218 → getD m k 0 ≡ getD l k 0
+abbrev pub FrontKept : List ℕ → List ℕ → Type 0
+FrontKept = Kept (λ k. k < pairPart)
+
+-- the class rows are
+abbrev pub ClassesKept : List ℕ → List ℕ → Type 0
+ClassesKept = Kept (λ k. (classPart ≤ k) × (k < foundPart))
 
 -- a store past them leaves them
-pub front-kept : {l m : List ℕ} {i j : ℕ} → 9218 ≤ i → SameOutside l m i j → FrontKept l m
-front-kept h s = record { long = s .long; front = λ k g. s .outside k (inl (lt-of-lt-of-le g h)) }
+pub front-kept : {l m : List ℕ} {i j : ℕ} → pairPart ≤ i → SameOutside l m i j → FrontKept l m
+front-kept h s = kept-fewer (λ k g. inl (lt-of-lt-of-le g h)) s
 
 module _ {l m : List ℕ} (s : FrontKept l m) where
   -- a number of two bytes
-  number-front : (i : ℕ) → i + 2 ≤ 9218 → numberAt 2 m i ≡ numberAt 2 l i
-  number-front i h = number-cong 2 m l i i (λ k g. s .front (i + k) (omega arith))
+  number-front : (i : ℕ) → i + 2 ≤ pairPart → numberAt 2 m i ≡ numberAt 2 l i
+  number-front i h = number-cong 2 m l i i (λ k g. s .outside (i + k) (omega arith))
 
   -- a node
   pub front-node : (n : ℕ) → n < 512 → nodeIn m n ≡ nodeIn l n
@@ -37,19 +42,19 @@ module _ {l m : List ℕ} (s : FrontKept l m) where
         number-front (n * 8) (omega arith),
         number-front (n * 8 + 2) (omega arith),
         number-front (n * 8 + 4) (omega arith),
-        s .front (n * 8 + 6) (omega arith),
-        s .front (n * 8 + 7) (omega arith),
+        s .outside (n * 8 + 6) (omega arith),
+        s .outside (n * 8 + 7) (omega arith),
       )
 
   -- where the edges of a node start
   front-start : (n : ℕ) → n ≤ 512 → startIn m n ≡ startIn l n
   unfolding startIn
-  front-start n h = number-front (4096 + n * 2) (omega arith)
+  front-start n h = number-front (startsPart + n * 2) (omega arith)
 
   -- where an edge ends
   pub front-target : (i : ℕ) → i < 2048 → targetIn m i ≡ targetIn l i
   unfolding targetIn
-  front-target i h = number-front (5122 + i * 2) (omega arith)
+  front-target i h = number-front (targetsPart + i * 2) (omega arith)
 
   -- an edge
   front-edge : (n k : ℕ) → n < 512 → EdgesWithin l n → EdgeIn l n k ↔ EdgeIn m n k
@@ -109,13 +114,13 @@ module _ {l m : List ℕ} (s : FrontKept l m) where
         (λ d. e .0 (h .edges x y g .0 d), λ d. h .edges x y g .1 (e .1 d));
   }
 
-module _ (l m : List ℕ) (s : (k : ℕ) → 25602 ≤ k → k < 41986 → getD m k 0 ≡ getD l k 0) where
+module _ (l m : List ℕ) (s : ClassesKept l m) where
   -- a class row
   pub class-row-kept : (n p : ℕ) → n < 512 → p < 16 → classRowIn m n p ≡ classRowIn l n p
   unfolding classRowIn
   class-row-kept n p h k =
-      number-cong 2 m l (25602 + (n * 16 + p) * 2) (25602 + (n * 16 + p) * 2)
-      (λ i g. s (25602 + (n * 16 + p) * 2 + i) (omega arith) (omega arith))
+      number-cong 2 m l (classPart + (n * 16 + p) * 2) (classPart + (n * 16 + p) * 2)
+      (λ i g. s .outside (classPart + (n * 16 + p) * 2 + i) (omega arith, omega arith))
 
   -- the after words
   pub after-words-kept : {j : Job} {nodes : ℕ} → WellFormedJob j → nodes ≤ 512 → AfterHeld j l nodes → AfterHeld j m nodes

@@ -8,21 +8,23 @@ use native.Mathlib.Nat.{le-refl}
 use native.Mathlib.Omega.{arith}
 use lib.Dec.{eqb}
 use lib.ListN.{getD}
+use Rattle.buffer.proofs.KeptLaws.{kept-same, kept-then, kept-fewer}
 use Rattle.job.specs.Job.{Job}
-use Rattle.joblines.specs.Layout.{nodeIn, targetIn}
-use Rattle.tables.specs.Tables.{classRowIn, enabledIn, SearchKept, Grown}
+use Rattle.buffer.specs.Layout.{planPart}
+use Rattle.buffer.specs.Views.{nodeIn, targetIn, classRowIn, enabledIn}
+use Rattle.tables.specs.Tables.{SearchKept, Grown}
 use Rattle.tables.specs.Held.{Usable, JobHeld, PlanHeld}
-use Rattle.tables.proofs.JobKeptLaws.{FrontKept, front-node, front-target, front-usable, front-job, class-row-kept}
+use Rattle.tables.proofs.JobKeptLaws.{FrontKept, ClassesKept, front-node, front-target, front-usable, front-job, class-row-kept}
 
 -- ---- composition
 
 -- nothing is stored
 pub search-kept-none : (l : List ℕ) → SearchKept l l
-search-kept-none l = record { long = refl; outside = λ k o. refl }
+search-kept-none l = kept-same l
 
 -- one after another
 pub search-kept-both : {l m k : List ℕ} → SearchKept l m → SearchKept m k → SearchKept l k
-search-kept-both a b = record { long = b .long ∙ a .long; outside = λ x o. b .outside x o ∙ a .outside x o }
+search-kept-both a b = kept-then (λ k o. (o, o)) a b
 
 -- nothing has grown
 pub grown-none : (l : List ℕ) → Grown l l
@@ -50,7 +52,7 @@ grown-both a b = record {
 module _ {l m : List ℕ} (s : SearchKept l m) where
   -- the nodes and edges
   front : FrontKept l m
-  front = record { long = s .long; front = λ k h. s .outside k (inl h) }
+  front = kept-fewer (λ k h. (inl h, inl (omega arith))) s
 
   -- a node
   pub node-same : (n : ℕ) → n < 512 → nodeIn m n ≡ nodeIn l n
@@ -61,8 +63,8 @@ module _ {l m : List ℕ} (s : SearchKept l m) where
   target-same = front-target front
 
   -- the class rows
-  classes : (k : ℕ) → 25602 ≤ k → k < 41986 → getD m k 0 ≡ getD l k 0
-  classes k g h = s .outside k (inr (inl (g, omega arith)))
+  classes : ClassesKept l m
+  classes = kept-fewer (λ k h. (inr (h .0), inl (omega arith))) s
 
   -- a class row
   pub class-same : (n p : ℕ) → n < 512 → p < 16 → classRowIn m n p ≡ classRowIn l n p
@@ -71,7 +73,7 @@ module _ {l m : List ℕ} (s : SearchKept l m) where
   -- the plan
   pub enabled-same : (n : ℕ) → n < 512 → enabledIn m n ≡ enabledIn l n
   unfolding enabledIn
-  enabled-same n h = ap (λ (x : ℕ). eqb x 1) (s .outside (44034 + n) (inr (inl (omega arith, omega arith))))
+  enabled-same n h = ap (λ (x : ℕ). eqb x 1) (s .outside (planPart + n) (inr (omega arith), inl (omega arith)))
 
   -- the bounds of all
   pub usable-same : {table : List (List ℕ)} {states nodes : ℕ} → Usable l table states nodes → Usable m table states nodes
@@ -85,4 +87,4 @@ module _ {l m : List ℕ} (s : SearchKept l m) where
 
   -- the plan that is held
   pub plan-same : (plan : List ℕ) {nodes : ℕ} → nodes ≤ 512 → PlanHeld plan l nodes → PlanHeld plan m nodes
-  plan-same plan h p n g = s .outside (44034 + n) (inr (inl (omega arith, omega arith))) ∙ p n g
+  plan-same plan h p n g = s .outside (planPart + n) (inr (omega arith), inl (omega arith)) ∙ p n g

@@ -13,6 +13,9 @@ use lib.Pow.{pow-lt}
 use lib.ListN.{length, set, length-set}
 use lib.Seq.{getD-set-same, getD-set-other}
 use borrow.Author.Tests.{eq-eqb, ne-eqb}
+use Rattle.buffer.specs.Layout.{pairPart, classPart, marksPart, marksEnd, Lent}
+use Rattle.buffer.specs.Views.{pairRowIn, classRowIn, marksIn, markedIn, Held}
+use Rattle.buffer.specs.Kept.{Outside}
 use Rattle.laws.specs.Bounded.{sumBelow}
 use Rattle.laws.specs.Bits.{has, with}
 use Rattle.laws.specs.Bytes.{AreBytes, numberAt, putNumber}
@@ -20,8 +23,8 @@ use Rattle.laws.proofs.Bounded.{sum-cong, sum-change}
 use Rattle.laws.proofs.Bits.{has-or, has-pow}
 use Rattle.laws.proofs.Bytes.{number-lt, number-put, number-put-other, put-number, length-put, getD-put-outside}
 use Rattle.laws.proofs.Tests.{fails-of, or-left, or-right, or-passes}
-use Rattle.joblines.proofs.KeptLaws.{kept-none, kept-put}
-use Rattle.tables.specs.Tables.{pairRowIn, classRowIn, marksIn, markedIn, Held, joined, unmarked, apartJoined, Zeroed, pairsLeft, apartLeft, SearchKept, PairsJoined, NextMarked, MarksTaken, ApartGrown}
+use Rattle.buffer.proofs.KeptLaws.{kept-then, outside-part, kept-none, kept-set, kept-put}
+use Rattle.tables.specs.Tables.{joined, unmarked, apartJoined, Zeroed, pairsLeft, apartLeft, SearchKept, PairsJoined, NextMarked, MarksTaken, ApartGrown}
 use Rattle.tables.proofs.KeptLaws.{grown-none}
 
 -- ---- a number of two bytes stored in a table
@@ -49,15 +52,15 @@ room-falls l m b k d h same g f =
 
 -- ---- rows of states told apart
 
-module _ (l : List ℕ) (n p s : ℕ) (long : 65536 ≤ length l) (few : n < 512) (small : p < 16) (bytes : AreBytes l) (fits : s < 65536) where
+module _ (l : List ℕ) (n p s : ℕ) (long : Lent l) (few : n < 512) (small : p < 16) (bytes : AreBytes l) (fits : s < 65536) where
   -- a set that the row holds, in the shape of the code
-  pub apart-same : (old : ℕ) → old ≡ numberAt 2 l (25602 + (n * 16 + p) * 2) → bitOr old s ≡ old → ApartGrown l l n p s 0
+  pub apart-same : (old : ℕ) → old ≡ numberAt 2 l (classPart + (n * 16 + p) * 2) → bitOr old s ≡ old → ApartGrown l l n p s 0
   unfolding apartJoined classRowIn apartLeft
   apart-same old e h =
-      let g : bitOr (numberAt 2 l (25602 + (n * 16 + p) * 2)) s ≡ numberAt 2 l (25602 + (n * 16 + p) * 2) = rw e at h in
+      let g : bitOr (numberAt 2 l (classPart + (n * 16 + p) * 2)) s ≡ numberAt 2 l (classPart + (n * 16 + p) * 2) = rw e at h in
       record {
-        exact = rw g (sym (put-number 2 l (25602 + (n * 16 + p) * 2) bytes));
-        kept = kept-none l (25602 + (n * 16 + p) * 2) (25602 + (n * 16 + p) * 2 + 2);
+        exact = rw g (sym (put-number 2 l (classPart + (n * 16 + p) * 2) bytes));
+        kept = kept-none l (classPart + (n * 16 + p) * 2) (classPart + (n * 16 + p) * 2 + 2);
         row = sym g;
         others = λ k r x y z. refl;
         none = λ z. refl;
@@ -66,24 +69,24 @@ module _ (l : List ℕ) (n p s : ℕ) (long : 65536 ≤ length l) (few : n < 512
 
   -- a set that makes the row grow, in the shape of the code
   pub apart-grows
-      : (m : List ℕ) (old : ℕ) → old ≡ numberAt 2 l (25602 + (n * 16 + p) * 2) → (bitOr old s ≡ old → ⊥)
-      → m ≡ putNumber 2 l (25602 + (n * 16 + p) * 2) (bitOr old s) → ApartGrown l m n p s 1
+      : (m : List ℕ) (old : ℕ) → old ≡ numberAt 2 l (classPart + (n * 16 + p) * 2) → (bitOr old s ≡ old → ⊥)
+      → m ≡ putNumber 2 l (classPart + (n * 16 + p) * 2) (bitOr old s) → ApartGrown l m n p s 1
   unfolding apartJoined classRowIn apartLeft
   apart-grows m old e h d =
-      let o : old < 65536 = rw e (number-lt 2 l (25602 + (n * 16 + p) * 2) bytes) in
+      let o : old < 65536 = rw e (number-lt 2 l (classPart + (n * 16 + p) * 2) bytes) in
       let a = or-above old s in
       let b = or-lt 16 old s o fits in
-      let here : numberAt 2 m (25602 + (n * 16 + p) * 2) ≡ bitOr old s =
-      rw d (number-put 2 l (25602 + (n * 16 + p) * 2) (bitOr old s) b (omega arith)) in
-      let other : (i : ℕ) → (i ≡ n * 16 + p → ⊥) → numberAt 2 m (25602 + i * 2) ≡ numberAt 2 l (25602 + i * 2) =
-      λ i g. rw d (number-row l 25602 i (n * 16 + p) (bitOr old s) g) in
+      let here : numberAt 2 m (classPart + (n * 16 + p) * 2) ≡ bitOr old s =
+      rw d (number-put 2 l (classPart + (n * 16 + p) * 2) (bitOr old s) b (omega arith)) in
+      let other : (i : ℕ) → (i ≡ n * 16 + p → ⊥) → numberAt 2 m (classPart + i * 2) ≡ numberAt 2 l (classPart + i * 2) =
+      λ i g. rw d (number-row l classPart i (n * 16 + p) (bitOr old s) g) in
       record {
         exact = rw (← e) d;
-        kept = kept-put l m (25602 + (n * 16 + p) * 2) (bitOr old s) d;
+        kept = kept-put l m (classPart + (n * 16 + p) * 2) (bitOr old s) d;
         row = rw (← e) here;
         others = λ k r x y z. other (k * 16 + r) (λ q. z (omega arith, omega arith));
         none = λ z. absurd (omega arith);
-        left = room-falls l m 25602 (n * 16 + p) 1 (omega arith) (λ i x. other i) (omega arith) (omega arith);
+        left = room-falls l m classPart (n * 16 + p) 1 (omega arith) (λ i x. other i) (omega arith) (omega arith);
       }
 
 -- ---- marks
@@ -95,48 +98,46 @@ marks-change
 marks-change l m n a b h same c = sum-change 512 (λ k. marksIn m k) (λ k. marksIn l k) n a b h (λ i x. same i) c
 
 -- the marks of another node
-marks-other : (l : List ℕ) (n v k : ℕ) → (k ≡ n → ⊥) → marksIn (putNumber 2 l (45314 + n * 2) v) k ≡ marksIn l k
+marks-other : (l : List ℕ) (n v k : ℕ) → (k ≡ n → ⊥) → marksIn (putNumber 2 l (marksPart + n * 2) v) k ≡ marksIn l k
 unfolding marksIn
-marks-other l n v k h = number-row l 45314 k n v h
+marks-other l n v k h = number-row l marksPart k n v h
 
 -- the marks that are stored
 marks-here
-    : (l : List ℕ) (n v : ℕ) → 65536 ≤ length l → n < 512 → v < 65536 → marksIn (putNumber 2 l (45314 + n * 2) v) n ≡ v
+    : (l : List ℕ) (n v : ℕ) → Lent l → n < 512 → v < 65536 → marksIn (putNumber 2 l (marksPart + n * 2) v) n ≡ v
 unfolding marksIn
-marks-here l n v long h fits = number-put 2 l (45314 + n * 2) v fits (omega arith)
+marks-here l n v long h fits = number-put 2 l (marksPart + n * 2) v fits (omega arith)
 
 -- a byte that a search keeps is none of the marks
 not-marks
-    : (n : ℕ) → n < 512 → (k : ℕ) → (k < 9218) ⊎ (((25602 ≤ k) × (k < 45314)) ⊎ (46338 ≤ k))
-    → (k < 45314 + n * 2) ⊎ (45314 + n * 2 + 2 ≤ k)
-not-marks n h k (inl o) = inl (omega arith)
-not-marks n h k (inr (inl o)) = inl (omega arith)
-not-marks n h k (inr (inr o)) = inr (omega arith)
+    : (n : ℕ) → n < 512 → (k : ℕ) → Outside pairPart classPart k × Outside marksPart marksEnd k
+    → Outside (marksPart + n * 2) (marksPart + n * 2 + 2) k
+not-marks n h k o = outside-part (omega arith) (omega arith) k (o .1)
 
 -- the numbers in front of the marks
-number-front : (l : List ℕ) (n v i : ℕ) → i + 2 ≤ 45314 → numberAt 2 (putNumber 2 l (45314 + n * 2) v) i ≡ numberAt 2 l i
-number-front l n v i h = number-put-other 2 2 l (45314 + n * 2) i v (inl (omega arith))
+number-front : (l : List ℕ) (n v i : ℕ) → i + 2 ≤ marksPart → numberAt 2 (putNumber 2 l (marksPart + n * 2) v) i ≡ numberAt 2 l i
+number-front l n v i h = number-put-other 2 2 l (marksPart + n * 2) i v (inl (omega arith))
 
 -- marks taken down, in the shape of the code
 pub marks-taken
-    : (l m : List ℕ) (n due : ℕ) → 65536 ≤ length l → n < 512 → due ≡ numberAt 2 l (45314 + n * 2) → m ≡ putNumber 2 l (45314 + n * 2) 0
+    : (l m : List ℕ) (n due : ℕ) → Lent l → n < 512 → due ≡ numberAt 2 l (marksPart + n * 2) → m ≡ putNumber 2 l (marksPart + n * 2) 0
     → MarksTaken l m n due
 unfolding unmarked pairRowIn marksIn pairsLeft
 marks-taken l m n due long few were d =
     let here : marksIn m n ≡ 0 = rw d (marks-here l n 0 long few (omega arith)) in
     let others : (k : ℕ) → (k ≡ n → ⊥) → marksIn m k ≡ marksIn l k = λ k x. rw d (marks-other l n 0 k x) in
-    let row : (i : ℕ) → i + 2 ≤ 45314 → numberAt 2 m i ≡ numberAt 2 l i = λ i x. rw d (number-front l n 0 i x) in
-    let rows = sum-cong 8192 (λ i. 65535 - numberAt 2 m (9218 + i * 2)) (λ i. 65535 - numberAt 2 l (9218 + i * 2))
-    (λ i x. ap (λ (z : ℕ). 65535 - z) (row (9218 + i * 2) (omega arith))) in
+    let row : (i : ℕ) → i + 2 ≤ marksPart → numberAt 2 m i ≡ numberAt 2 l i = λ i x. rw d (number-front l n 0 i x) in
+    let rows = sum-cong 8192 (λ i. 65535 - numberAt 2 m (pairPart + i * 2)) (λ i. 65535 - numberAt 2 l (pairPart + i * 2))
+    (λ i x. ap (λ (z : ℕ). 65535 - z) (row (pairPart + i * 2) (omega arith))) in
     let marks = marks-change l m n due 0 few others (omega (arith, here, were)) in
     record {
       exact = d;
       were = were;
       kept = record {
-        long = rw d (length-put 2 l (45314 + n * 2) 0);
-        outside = λ k o. rw d (getD-put-outside 2 l (45314 + n * 2) 0 k 0 (not-marks n few k o));
+        long = rw d (length-put 2 l (marksPart + n * 2) 0);
+        outside = λ k o. rw d (getD-put-outside 2 l (marksPart + n * 2) 0 k 0 (not-marks n few k o));
       };
-      rows = λ k p x y. row (9218 + (k * 16 + p) * 2) (omega arith);
+      rows = λ k p x y. row (pairPart + (k * 16 + p) * 2) (omega arith);
       here = here;
       others = others;
       left = omega arith;
@@ -154,7 +155,7 @@ unmarked-start work n nodes h = record { from = le-refl n; within = h; none = λ
 
 module _ {work : List ℕ} {n nodes next : ℕ} (u : Unmarked work n nodes next) where
   -- a node more
-  pub unmarked-more : {marks : ℕ} → next < nodes → marks ≡ numberAt 2 work (45314 + next * 2) → marks ≡ 0 → Unmarked work n nodes (next + 1)
+  pub unmarked-more : {marks : ℕ} → next < nodes → marks ≡ numberAt 2 work (marksPart + next * 2) → marks ≡ 0 → Unmarked work n nodes (next + 1)
   unfolding marksIn
   unmarked-more less is zero-is = record {
     from = omega (arith, u .from);
@@ -166,7 +167,7 @@ module _ {work : List ℕ} {n nodes next : ℕ} (u : Unmarked work n nodes next)
   }
 
   -- a node with marks
-  pub next-here : {marks : ℕ} → marks ≡ numberAt 2 work (45314 + next * 2) → (marks ≡ 0 → ⊥) → NextMarked work n nodes next
+  pub next-here : {marks : ℕ} → marks ≡ numberAt 2 work (marksPart + next * 2) → (marks ≡ 0 → ⊥) → NextMarked work n nodes next
   unfolding marksIn
   next-here is some = record { from = u .from; within = u .within; none = u .none; some = λ h. rw (← is) (omega arith) }
 
@@ -188,11 +189,11 @@ pub record MarksJoined (l m : List ℕ) (n marks : ℕ) : Type 0 where
   pub rise : sumBelow 512 (λ k. marksIn m k) ≤ sumBelow 512 (λ k. marksIn l k) + 65535
   pub unmarked-row : (k r : ℕ) → markedIn m k r ≡ false → (markedIn l k r ≡ false) × ((k ≡ n) → has marks r ≡ false)
 
-module _ (wide place v : ℕ) (l w : List ℕ) (n due marks : ℕ) (from : 9218 ≤ place) (within : place + wide ≤ 25602) (long : 65536 ≤ length l)
-    (few : n < 512) (bytes : AreBytes l) (were : due ≡ numberAt 2 l (45314 + n * 2)) (d : w ≡ putNumber wide l place v) (fits : marks < 65536) where
+module _ (wide place v : ℕ) (l w : List ℕ) (n due marks : ℕ) (from : pairPart ≤ place) (within : place + wide ≤ classPart) (long : Lent l)
+    (few : n < 512) (bytes : AreBytes l) (were : due ≡ numberAt 2 l (marksPart + n * 2)) (d : w ≡ putNumber wide l place v) (fits : marks < 65536) where
   -- the buffer after the two stores
   abbrev stored : List ℕ
-  stored = putNumber 2 w (45314 + n * 2) (bitOr due marks)
+  stored = putNumber 2 w (marksPart + n * 2) (bitOr due marks)
 
   -- the first store keeps the length
   first-long : length w ≡ length l
@@ -200,7 +201,7 @@ module _ (wide place v : ℕ) (l w : List ℕ) (n due marks : ℕ) (from : 9218 
 
   -- the marks have two bytes
   due-fits : bitOr due marks < 65536
-  due-fits = or-lt 16 due marks (rw were (number-lt 2 l (45314 + n * 2) bytes)) fits
+  due-fits = or-lt 16 due marks (rw were (number-lt 2 l (marksPart + n * 2) bytes)) fits
 
   -- the marks of the node
   node-marks : marksIn stored n ≡ bitOr due marks
@@ -215,13 +216,11 @@ module _ (wide place v : ℕ) (l w : List ℕ) (n due marks : ℕ) (from : 9218 
   other-marks : (k : ℕ) → (k ≡ n → ⊥) → marksIn stored k ≡ marksIn l k
   unfolding marksIn
   other-marks k x =
-      marks-other w n (bitOr due marks) k x ∙ rw d (number-put-other wide 2 l place (45314 + k * 2) v (inr (omega arith)))
+      marks-other w n (bitOr due marks) k x ∙ rw d (number-put-other wide 2 l place (marksPart + k * 2) v (inr (omega arith)))
 
   -- a byte that a search keeps is none of the rows that were stored
-  not-rows : (k : ℕ) → (k < 9218) ⊎ (((25602 ≤ k) × (k < 45314)) ⊎ (46338 ≤ k)) → (k < place) ⊎ (place + wide ≤ k)
-  not-rows k (inl o) = inl (omega arith)
-  not-rows k (inr (inl o)) = inr (omega arith)
-  not-rows k (inr (inr o)) = inr (omega arith)
+  not-rows : (k : ℕ) → Outside pairPart classPart k × Outside marksPart marksEnd k → Outside place (place + wide) k
+  not-rows k o = outside-part from within k (o .0)
 
   -- a row that is not marked was not, and is none of those that are marked
   row-unmarked : (k r : ℕ) → markedIn stored k r ≡ false → (markedIn l k r ≡ false) × ((k ≡ n) → has marks r ≡ false)
@@ -236,12 +235,12 @@ module _ (wide place v : ℕ) (l w : List ℕ) (n due marks : ℕ) (from : 9218 
       (λ (c : k ≡ n → ⊥). (ap (λ (x : ℕ). has x r) (sym (other-marks k c)) ∙ z, λ y. absurd (c y)))
 
   -- all of it
-  pub marks-joined : MarksJoined l (putNumber 2 w (45314 + n * 2) (bitOr due marks)) n marks
+  pub marks-joined : MarksJoined l (putNumber 2 w (marksPart + n * 2) (bitOr due marks)) n marks
   marks-joined = record {
     kept = record {
-      long = length-put 2 w (45314 + n * 2) (bitOr due marks) ∙ first-long;
+      long = length-put 2 w (marksPart + n * 2) (bitOr due marks) ∙ first-long;
       outside = λ k o.
-          getD-put-outside 2 w (45314 + n * 2) (bitOr due marks) k 0 (not-marks n few k o)
+          getD-put-outside 2 w (marksPart + n * 2) (bitOr due marks) k 0 (not-marks n few k o)
           ∙ rw d (getD-put-outside wide l place v k 0 (not-rows k o));
     };
     rise = omega (arith, marks-change l stored n 0 65535 few other-marks (omega (arith, node-marks, due-fits)));
@@ -250,53 +249,53 @@ module _ (wide place v : ℕ) (l w : List ℕ) (n due marks : ℕ) (from : 9218 
 
 -- ---- rows of pairs
 
-module _ (l : List ℕ) (n p s : ℕ) (long : 65536 ≤ length l) (few : n < 512) (small : p < 16) (bytes : AreBytes l) (fits : s < 65536) where
+module _ (l : List ℕ) (n p s : ℕ) (long : Lent l) (few : n < 512) (small : p < 16) (bytes : AreBytes l) (fits : s < 65536) where
   -- a set that the row holds, in the shape of the code
-  pub pairs-same : (old : ℕ) → old ≡ numberAt 2 l (9218 + (n * 16 + p) * 2) → bitOr old s ≡ old → PairsJoined l l n p s
+  pub pairs-same : (old : ℕ) → old ≡ numberAt 2 l (pairPart + (n * 16 + p) * 2) → bitOr old s ≡ old → PairsJoined l l n p s
   unfolding joined pairRowIn
   pairs-same old e h =
-      let g : bitOr (numberAt 2 l (9218 + (n * 16 + p) * 2)) s ≡ numberAt 2 l (9218 + (n * 16 + p) * 2) = rw e at h in
+      let g : bitOr (numberAt 2 l (pairPart + (n * 16 + p) * 2)) s ≡ numberAt 2 l (pairPart + (n * 16 + p) * 2) = rw e at h in
       record {
-        exact = rw (eq-eqb (bitOr (numberAt 2 l (9218 + (n * 16 + p) * 2)) s) (numberAt 2 l (9218 + (n * 16 + p) * 2)) g);
+        exact = rw (eq-eqb (bitOr (numberAt 2 l (pairPart + (n * 16 + p) * 2)) s) (numberAt 2 l (pairPart + (n * 16 + p) * 2)) g);
         grown = grown-none l;
         here = λ q x.
-            ap (λ (z : ℕ). has z q) (sym g) ∙ has-or (numberAt 2 l (9218 + (n * 16 + p) * 2)) s q
-            ∙ or-right (has (numberAt 2 l (9218 + (n * 16 + p) * 2)) q) (has s q) x;
+            ap (λ (z : ℕ). has z q) (sym g) ∙ has-or (numberAt 2 l (pairPart + (n * 16 + p) * 2)) s q
+            ∙ or-right (has (numberAt 2 l (pairPart + (n * 16 + p) * 2)) q) (has s q) x;
         new = λ k r q x y z. inl z;
       }
 
-  module _ (w : List ℕ) (old due : ℕ) (e : old ≡ numberAt 2 l (9218 + (n * 16 + p) * 2)) (h : bitOr old s ≡ old → ⊥)
-      (were : due ≡ numberAt 2 l (45314 + n * 2)) (d : w ≡ putNumber 2 l (9218 + (n * 16 + p) * 2) (bitOr old s)) where
+  module _ (w : List ℕ) (old due : ℕ) (e : old ≡ numberAt 2 l (pairPart + (n * 16 + p) * 2)) (h : bitOr old s ≡ old → ⊥)
+      (were : due ≡ numberAt 2 l (marksPart + n * 2)) (d : w ≡ putNumber 2 l (pairPart + (n * 16 + p) * 2) (bitOr old s)) where
     -- the buffer after the two stores
     abbrev m : List ℕ
-    m = putNumber 2 w (45314 + n * 2) (with due p)
+    m = putNumber 2 w (marksPart + n * 2) (with due p)
 
     -- what they leave of the marks
     joined-marks : MarksJoined l m n (2 ^ p)
     joined-marks =
-        marks-joined 2 (9218 + (n * 16 + p) * 2) (bitOr old s) l w n due (2 ^ p) (omega arith) (omega arith) long few bytes were d (pow-lt small)
+        marks-joined 2 (pairPart + (n * 16 + p) * 2) (bitOr old s) l w n due (2 ^ p) (omega arith) (omega arith) long few bytes were d (pow-lt small)
 
     -- the union has two bytes
     new-fits : bitOr old s < 65536
-    new-fits = or-lt 16 old s (rw e (number-lt 2 l (9218 + (n * 16 + p) * 2) bytes)) fits
+    new-fits = or-lt 16 old s (rw e (number-lt 2 l (pairPart + (n * 16 + p) * 2) bytes)) fits
 
     -- the row joined
-    row-here : numberAt 2 m (9218 + (n * 16 + p) * 2) ≡ bitOr old s
+    row-here : numberAt 2 m (pairPart + (n * 16 + p) * 2) ≡ bitOr old s
     row-here =
-        number-front w n (with due p) (9218 + (n * 16 + p) * 2) (omega arith)
-        ∙ rw d (number-put 2 l (9218 + (n * 16 + p) * 2) (bitOr old s) new-fits (omega arith))
+        number-front w n (with due p) (pairPart + (n * 16 + p) * 2) (omega arith)
+        ∙ rw d (number-put 2 l (pairPart + (n * 16 + p) * 2) (bitOr old s) new-fits (omega arith))
 
     -- another row
-    row-other : (i : ℕ) → i < 8192 → (i ≡ n * 16 + p → ⊥) → numberAt 2 m (9218 + i * 2) ≡ numberAt 2 l (9218 + i * 2)
+    row-other : (i : ℕ) → i < 8192 → (i ≡ n * 16 + p → ⊥) → numberAt 2 m (pairPart + i * 2) ≡ numberAt 2 l (pairPart + i * 2)
     row-other i x y =
-        number-front w n (with due p) (9218 + i * 2) (omega arith) ∙ rw d (number-row l 9218 i (n * 16 + p) (bitOr old s) y)
+        number-front w n (with due p) (pairPart + i * 2) (omega arith) ∙ rw d (number-row l pairPart i (n * 16 + p) (bitOr old s) y)
 
     -- the room falls by one at least, which counts for more than the mark
     less : pairsLeft m ≤ pairsLeft l
     unfolding pairsLeft
     less =
         let a = or-above old s in
-        let rows = room-falls l m 9218 (n * 16 + p) 1 (omega arith) row-other (omega (arith, row-here)) (omega (arith, row-here, new-fits)) in
+        let rows = room-falls l m pairPart (n * 16 + p) 1 (omega arith) row-other (omega (arith, row-here)) (omega (arith, row-here, new-fits)) in
         omega (arith, joined-marks .rise)
 
     -- a pair that was held
@@ -341,7 +340,7 @@ module _ (l : List ℕ) (n p s : ℕ) (long : 65536 ≤ length l) (few : n < 512
     grows = record {
       exact =
           rw (
-            ne-eqb (bitOr (numberAt 2 l (9218 + (n * 16 + p) * 2)) s) (numberAt 2 l (9218 + (n * 16 + p) * 2)) (rw e at h),
+            ne-eqb (bitOr (numberAt 2 l (pairPart + (n * 16 + p) * 2)) s) (numberAt 2 l (pairPart + (n * 16 + p) * 2)) (rw e at h),
             ← e,
             ← were,
             ← d,
@@ -352,31 +351,22 @@ module _ (l : List ℕ) (n p s : ℕ) (long : 65536 ≤ length l) (few : n < 512
     }
 
     -- in the shape of the code
-    pub pairs-grow : (o : List ℕ) (v : ℕ) → v ≡ with due p → o ≡ putNumber 2 w (45314 + n * 2) v → PairsJoined l o n p s
+    pub pairs-grow : (o : List ℕ) (v : ℕ) → v ≡ with due p → o ≡ putNumber 2 w (marksPart + n * 2) v → PairsJoined l o n p s
     pairs-grow o v is last =
-        subst (λ (x : List ℕ). PairsJoined l x n p s) (sym (last ∙ ap (λ (x : ℕ). putNumber 2 w (45314 + n * 2) x) is)) grows
+        subst (λ (x : List ℕ). PairsJoined l x n p s) (sym (last ∙ ap (λ (x : ℕ). putNumber 2 w (marksPart + n * 2) x) is)) grows
 
 -- ---- clearing
 
 -- nothing is zero yet
 pub zeroed-none : (l : List ℕ) (i : ℕ) → Zeroed l l i i
-zeroed-none l i = record { long = refl; zeros = λ k x y. absurd (omega arith); outside = λ k o. refl }
+zeroed-none l i = record { kept = kept-none l i i; zeros = λ k x y. absurd (omega arith) }
 
 -- one more byte
 pub zeroed-more : (l m : List ℕ) (i j : ℕ) → i ≤ j → j < length l → Zeroed l m i j → Zeroed l (set m j 0) i (j + 1)
 zeroed-more l m i j h g z = record {
-  long = length-set m j 0 ∙ z .long;
+  kept = kept-then (λ k o. (outside-part (le-refl i) (omega arith) k o, outside-part h (le-refl (j + 1)) k o)) (z .kept) (kept-set m j 0);
   zeros = λ k x y.
       by-cases (ℕ-discrete k j)
-      (λ (e : k ≡ j). rw e (getD-set-same m j 0 0 (omega (arith, z .long))))
+      (λ (e : k ≡ j). rw e (getD-set-same m j 0 0 (omega (arith, z .kept .long))))
       (λ (e : k ≡ j → ⊥). getD-set-other m j k 0 0 e ∙ z .zeros k x (omega arith));
-  outside = λ k o. getD-set-other m j k 0 0 (apart k o) ∙ z .outside k (wider k o);
 }
-  where
-    apart : (k : ℕ) → (k < i) ⊎ (j + 1 ≤ k) → k ≡ j → ⊥
-    apart k (inl o) e = absurd (omega arith)
-    apart k (inr o) e = absurd (omega arith)
-
-    wider : (k : ℕ) → (k < i) ⊎ (j + 1 ≤ k) → (k < i) ⊎ (j ≤ k)
-    wider k (inl o) = inl o
-    wider k (inr o) = inr (omega arith)

@@ -9,9 +9,9 @@ use lib.ListN.{length, getD}
 use Rattle.automaton.specs.Automaton.{next, cell}
 use Rattle.job.specs.Job.{Job, nodeAt, leads, WellFormedJob}
 use Rattle.job.specs.Words.{WordApart}
-use Rattle.joblines.specs.Layout.{nodeIn, startIn, targetIn}
+use Rattle.buffer.specs.Layout.{planPart, Lent}
+use Rattle.buffer.specs.Views.{nodeIn, startIn, targetIn, EdgeIn, HeldApart}
 use Rattle.tables.specs.Rows.{CellsBelow}
-use Rattle.tables.specs.Tables.{EdgeIn, HeldApart, planPart}
 
 -- the edges of node n lie within their part, and end at nodes
 pub record EdgesWithin (work : List ℕ) (n : ℕ) : Type 0 where
@@ -21,7 +21,7 @@ pub record EdgesWithin (work : List ℕ) (n : ℕ) : Type 0 where
 
 -- what the searches need of buffer and table to stay within them
 pub record Usable (work : List ℕ) (table : List (List ℕ)) (states nodes : ℕ) : Type 0 where
-  pub long : 65536 ≤ length work
+  pub long : Lent work
   pub few-states : states ≤ 16
   pub few-nodes : nodes ≤ 512
   pub cells : CellsBelow table

@@ -1,4 +1,4 @@
--- The tables of the searches in the work buffer: where each part lies, and what it holds.
+-- The tables of the searches in the work buffer: what the functions on them ask and leave.
 -- Assumes nothing.
 use mathlib.Core.Path.{_≡_}
 use mathlib.Core.Logic.{_⊎_}
@@ -11,74 +11,9 @@ use lib.ListN.{length, getD}
 use Rattle.laws.specs.Bounded.{sumBelow}
 use Rattle.laws.specs.Bits.{has, with}
 use Rattle.laws.specs.Bytes.{numberAt, putNumber}
-use Rattle.joblines.specs.Layout.{startIn, targetIn, SameOutside}
-
--- ---- the parts, by their first bytes
-
--- sixteen rows of pairs for each node, two bytes a row: before an event node, past any other
-abbrev pub pairPart : ℕ
-pairPart = 9218
-
--- sixteen rows of states told apart past each node, two bytes a row
-abbrev pub classPart : ℕ
-classPart = 25602
-
--- what was found at each point, four bytes a node
-abbrev pub foundPart : ℕ
-foundPart = 41986
-
--- the plan, a byte a node
-abbrev pub planPart : ℕ
-planPart = 44034
-
--- the first byte past it
-abbrev pub planEnd : ℕ
-planEnd = 44546
-
--- the marks of the rows of pairs that may have grown, two bytes a node
-abbrev pub marksPart : ℕ
-marksPart = 45314
-
--- the first byte past them
-abbrev pub marksEnd : ℕ
-marksEnd = 46338
-
--- ---- what they hold
-
--- row p of the pairs of node n: the states of the residual monitor beside state p of the full one
-unfoldable pub pairRowIn : List ℕ → ℕ → ℕ → ℕ
-pairRowIn work n p = numberAt 2 work (pairPart + (n * 16 + p) * 2)
-
--- row p of node n: the states told apart from p past it
-unfoldable pub classRowIn : List ℕ → ℕ → ℕ → ℕ
-classRowIn work n p = numberAt 2 work (classPart + (n * 16 + p) * 2)
-
--- node n is enabled in the plan
-unfoldable pub enabledIn : List ℕ → ℕ → Bool
-enabledIn work n = eqb (getD work (planPart + n) 0) 1
-
--- the marks of node n, a bit a row
-unfoldable pub marksIn : List ℕ → ℕ → ℕ
-marksIn work n = numberAt 2 work (marksPart + n * 2)
-
--- row p of node n is marked: it may have grown since it was last looked at
-abbrev pub markedIn : List ℕ → ℕ → ℕ → Bool
-markedIn work n p = has (marksIn work n) p
-
--- an edge from m to n
-pub record EdgeIn (work : List ℕ) (m n : ℕ) : Type 0 where
-  pub index : ℕ
-  pub first : startIn work m ≤ index
-  pub last : index < startIn work (suc m)
-  pub target : targetIn work index ≡ n
-
--- the pair is held at node n
-abbrev pub Held : List ℕ → ℕ → ℕ → ℕ → Type 0
-Held work n p q = has (pairRowIn work n p) q ≡ true
-
--- the pair is held as told apart past node n
-abbrev pub HeldApart : List ℕ → ℕ → ℕ → ℕ → Type 0
-HeldApart work n p q = has (classRowIn work n p) q ≡ true
+use Rattle.buffer.specs.Layout.{pairPart, classPart, marksPart, marksEnd}
+use Rattle.buffer.specs.Views.{pairRowIn, classRowIn, marksIn, markedIn, Held}
+use Rattle.buffer.specs.Kept.{SameOutside, Kept, Outside}
 
 -- ---- what stores leave
 
@@ -100,9 +35,8 @@ apartJoined work n p s = putNumber 2 work (classPart + (n * 16 + p) * 2) (bitOr 
 
 -- the bytes from i up to j are zero, and the others as they were
 pub record Zeroed (l m : List ℕ) (i j : ℕ) : Type 0 where
-  pub long : length m ≡ length l
+  pub kept : SameOutside l m i j
   pub zeros : (k : ℕ) → i ≤ k → k < j → getD m k 0 ≡ 0
-  pub outside : (k : ℕ) → (k < i) ⊎ (j ≤ k) → getD m k 0 ≡ getD l k 0
 
 -- ---- measures
 
@@ -118,10 +52,9 @@ apartLeft work = sumBelow 8192 (λ i. 65535 - numberAt 2 work (classPart + i * 2
 
 -- ---- one buffer after another
 
--- the bytes apart from the rows of pairs and the marks are as they were
-pub record SearchKept (l m : List ℕ) : Type 0 where
-  pub long : length m ≡ length l
-  pub outside : (k : ℕ) → (k < pairPart) ⊎ (((classPart ≤ k) × (k < marksPart)) ⊎ (marksEnd ≤ k)) → getD m k 0 ≡ getD l k 0
+-- only the rows of pairs and the marks are touched
+abbrev pub SearchKept : List ℕ → List ℕ → Type 0
+SearchKept = Kept (λ k. Outside pairPart classPart k × Outside marksPart marksEnd k)
 
 -- the rows have grown; a row that is not marked was not, and is as it was
 pub record Grown (l m : List ℕ) : Type 0 where

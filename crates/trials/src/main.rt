@@ -3,11 +3,11 @@
 // A job that is cut within a line has that line's end in place of the first empty line.
 mod jobs; // jobs.rt: the jobs, as files
 
+use buffer::WORK;
 use checkcall::check_plan;
 use checking::check::Verdict;
 use counterjob::HEAD;
 use counterjob::write_counter;
-use joblines::layout::WORK;
 use jobs::CUT;
 use jobs::EDGE_TWICE;
 use jobs::LOOP;

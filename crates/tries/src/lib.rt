@@ -2,7 +2,7 @@
 ghost use Prim.Native.Nat.{_<_, _≤_};
 ghost use Rattle.tables.specs.Held.{Usable};
 ghost use Rattle.planning.specs.Passes.{TriedAt, FirstGone, LastGone};
-use joblines::layout::PLAN;
+use buffer::PLAN;
 use places::is_enabled;
 use search::search::is_faithful;
 

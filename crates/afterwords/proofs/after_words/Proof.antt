@@ -28,14 +28,14 @@ after-set-requires : tie.Need-after-set-requires Inv-loop μ-loop
 after-set-requires c κs =
     let pre = c .before .before .before .before .before .before .before .before .pre in
     let long = c .before .before .loop .inv .kept .long in
-    let cleared = c .before .before .before .before .before .clear-classes .ensures .long in
+    let cleared = c .before .before .before .before .before .clear-classes .ensures .kept .long in
     (omega (arith, pre .long), omega (arith, pre .few-nodes))
 
 close-words-requires : tie.Need-close-words-requires Inv-loop μ-loop
 close-words-requires c κs =
     let pre = c .before .before .before .before .before .before .before .before .before .before .pre in
     let long = c .before .before .before .before .loop .inv .kept .long in
-    let cleared = c .before .before .before .before .before .before .before .clear-classes .ensures .long in
+    let cleared = c .before .before .before .before .before .before .before .clear-classes .ensures .kept .long in
     (omega (arith, pre .long), (omega (arith, pre .few-nodes), (pre .few-states, pre .cells)))
 
 add-n : tie.Need-add-n Inv-loop μ-loop
@@ -58,7 +58,7 @@ loop-again c =
 same-length : tie.Need-same-length Inv-loop μ-loop
 same-length c =
     let long = c .before .loop .inv .kept .long in
-    let cleared = c .before .before .before .before .clear-classes .ensures .long in
+    let cleared = c .before .before .before .before .clear-classes .ensures .kept .long in
     omega arith
 
 returns : tie.Need-returns Inv-loop μ-loop

@@ -6,7 +6,7 @@ use Prim.Native.Nat.{ℕ}
 use native.Mathlib.Omega.{arith}
 use borrow.Author.Needs.{needs}
 use Rattle.laws.proofs.Walk.{rest-lt, clear-lt}
-use Rattle.tables.specs.Tables.{classRowIn}
+use Rattle.buffer.specs.Views.{classRowIn}
 use Rattle.classes.specs.Backwards.{apartBy}
 use Rattle.classes.proofs.WordLaws.{WalkedRow, walked-start, word-turn, word-done}
 use Rattle.afterwords.proofs.word_row.Statement.{statement}

@@ -1,7 +1,7 @@
 -- `classrows::class_row` meets its contract: the row is the number in its two bytes.
 -- Assumes nothing.
 use borrow.Author.Needs.{needs}
-use Rattle.tables.specs.Tables.{classRowIn}
+use Rattle.buffer.specs.Views.{classRowIn}
 use Rattle.classrows.proofs.class_row.Statement.{statement}
 use Rattle.classrows.proofs.class_row.Tie as tie
 

@@ -2,7 +2,7 @@
 -- Assumes nothing.
 use mathlib.Core.Path.{sym, _∙_}
 use borrow.Author.Needs.{needs}
-use Rattle.joblines.specs.Layout.{nodeIn}
+use Rattle.buffer.specs.Views.{nodeIn}
 use Rattle.planning.proofs.EnabledLaws.{shadow-byte-one, shadow-byte-zero}
 use Rattle.enabling.proofs.first_mark.Statement.{statement}
 use Rattle.enabling.proofs.first_mark.Tie as tie

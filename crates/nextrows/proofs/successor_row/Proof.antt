@@ -6,7 +6,7 @@ use Prim.Native.Nat.{suc, _-_, _<_, _≤_}
 use native.Mathlib.Numerals.{add-one}
 use native.Mathlib.Omega.{arith}
 use borrow.Author.Needs.{needs}
-use Rattle.joblines.specs.Layout.{startIn}
+use Rattle.buffer.specs.Views.{startIn}
 use Rattle.classes.proofs.ClassLaws.{NextSoFar, next-start, next-more, next-end}
 use Rattle.nextrows.proofs.successor_row.Statement.{statement}
 use Rattle.nextrows.proofs.successor_row.Tie as tie

@@ -22,7 +22,7 @@ loop-holds : tie.Need-loop-holds Inv-loop μ-loop
 loop-holds c = (le-refl (c .args .from), search needs, search needs, zeroed-none (c .args .work .now) (c .args .from))
 
 slice-write-work : tie.Need-slice-write-work Inv-loop μ-loop
-slice-write-work c = search (needs, c .before .loop .inv .3 .long)
+slice-write-work c = search (needs, c .before .loop .inv .3 .kept .long)
 
 add-i : tie.Need-add-i Inv-loop μ-loop
 add-i c = search needs
@@ -40,7 +40,7 @@ loop-again c =
     )
 
 same-length : tie.Need-same-length Inv-loop μ-loop
-same-length c = c .before .loop .inv .3 .long
+same-length c = c .before .loop .inv .3 .kept .long
 
 returns : tie.Need-returns Inv-loop μ-loop
 returns c =

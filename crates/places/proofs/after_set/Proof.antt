@@ -4,7 +4,7 @@ use Prim.Native.Nat.{_+_, _*_}
 use lib.ListN.{getD}
 use borrow.Author.Tests.{eq-eqb, ne-eqb}
 use borrow.Author.Needs.{needs}
-use Rattle.joblines.specs.Layout.{nodeIn}
+use Rattle.buffer.specs.Views.{nodeIn}
 use Rattle.places.proofs.after_set.Statement.{statement}
 use Rattle.places.proofs.after_set.Tie as tie
 

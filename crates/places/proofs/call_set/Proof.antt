@@ -6,8 +6,8 @@ use native.Mathlib.Omega.{arith}
 use lib.ListN.{getD}
 use borrow.Author.Needs.{needs}
 use Rattle.laws.specs.Bytes.{numberAt}
-use Rattle.jobfile.specs.File.{kindOf}
-use Rattle.joblines.specs.Layout.{nodeIn}
+use Rattle.job.specs.Job.{kindOf}
+use Rattle.buffer.specs.Views.{nodeIn}
 use Rattle.tables.specs.Rows.{callSet}
 use Rattle.places.proofs.call_set.Statement.{statement}
 use Rattle.places.proofs.call_set.Tie as tie

@@ -1,7 +1,7 @@
 -- `places::entry_set` meets its contract: the set is the number in its two bytes.
 -- Assumes nothing.
 use borrow.Author.Needs.{needs}
-use Rattle.joblines.specs.Layout.{nodeIn}
+use Rattle.buffer.specs.Views.{nodeIn}
 use Rattle.places.proofs.entry_set.Statement.{statement}
 use Rattle.places.proofs.entry_set.Tie as tie
 

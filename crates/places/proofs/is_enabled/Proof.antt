@@ -2,7 +2,7 @@
 -- Assumes nothing.
 use mathlib.Core.Path.{refl}
 use borrow.Author.Needs.{needs}
-use Rattle.tables.specs.Tables.{enabledIn}
+use Rattle.buffer.specs.Views.{enabledIn}
 use Rattle.places.proofs.is_enabled.Statement.{statement}
 use Rattle.places.proofs.is_enabled.Tie as tie
 

@@ -8,8 +8,8 @@ use lib.ListN.{getD}
 use borrow.Author.Tests.{ne-eqb}
 use borrow.Author.Needs.{needs}
 use Rattle.laws.specs.Bytes.{numberAt}
-use Rattle.jobfile.specs.File.{kindOf}
-use Rattle.joblines.specs.Layout.{nodeIn}
+use Rattle.job.specs.Job.{kindOf}
+use Rattle.buffer.specs.Views.{nodeIn}
 use Rattle.tables.specs.Rows.{isEvent}
 use Rattle.places.proofs.is_shadow.Statement.{statement}
 use Rattle.places.proofs.is_shadow.Tie as tie

@@ -1,7 +1,7 @@
 -- `places::start_at` meets its contract: the index is the number in its two bytes.
 -- Assumes nothing.
 use borrow.Author.Needs.{needs}
-use Rattle.joblines.specs.Layout.{startIn}
+use Rattle.buffer.specs.Views.{startIn}
 use Rattle.places.proofs.start_at.Statement.{statement}
 use Rattle.places.proofs.start_at.Tie as tie
 

@@ -7,8 +7,8 @@ use lib.ListN.{getD}
 use borrow.Author.Needs.{needs}
 use Rattle.laws.specs.Bytes.{numberAt}
 use Rattle.job.specs.Job.{event}
-use Rattle.jobfile.specs.File.{kindOf}
-use Rattle.joblines.specs.Layout.{nodeIn}
+use Rattle.job.specs.Job.{kindOf}
+use Rattle.buffer.specs.Views.{nodeIn}
 use Rattle.places.proofs.symbol_at.Statement.{statement}
 use Rattle.places.proofs.symbol_at.Tie as tie
 

@@ -1,7 +1,7 @@
 -- `places::target_at` meets its contract: the end is the number in its two bytes.
 -- Assumes nothing.
 use borrow.Author.Needs.{needs}
-use Rattle.joblines.specs.Layout.{targetIn}
+use Rattle.buffer.specs.Views.{targetIn}
 use Rattle.places.proofs.target_at.Statement.{statement}
 use Rattle.places.proofs.target_at.Tie as tie
 

@@ -2,7 +2,7 @@
 -- Assumes nothing.
 use mathlib.Core.Path.{sym, _∙_}
 use borrow.Author.Needs.{needs}
-use Rattle.joblines.specs.Layout.{nodeIn}
+use Rattle.buffer.specs.Views.{nodeIn}
 use Rattle.checking.proofs.PlanLaws.{mark-shadow, mark-other}
 use Rattle.planmarks.proofs.is_mark.Statement.{statement}
 use Rattle.planmarks.proofs.is_mark.Tie as tie

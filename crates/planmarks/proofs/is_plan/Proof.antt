@@ -11,7 +11,7 @@ use borrow.Author.Tests.{not-true, not-false}
 use lib.ListN.{getD}
 use Rattle.laws.specs.Bounded.{allBelow}
 use Rattle.laws.proofs.Bounded.{all-none, all-more, all-end, all-fails}
-use Rattle.joblines.specs.Layout.{nodeIn}
+use Rattle.buffer.specs.Views.{nodeIn}
 use Rattle.checking.specs.Checking.{goodMark}
 use Rattle.planmarks.proofs.is_plan.Statement.{statement}
 use Rattle.planmarks.proofs.is_plan.Tie as tie

@@ -6,13 +6,14 @@ use Prim.Native.Nat.{ℕ, _-_, _≤_}
 use native.Mathlib.Omega.{arith}
 use lib.ListN.{length}
 use borrow.Author.Needs.{needs}
+use Rattle.buffer.specs.Layout.{Lent}
 use Rattle.checking.specs.Checking.{PlanStored}
 use Rattle.checking.proofs.PlanLaws.{plan-none, plan-more}
 use Rattle.planmarks.proofs.store_plan.Statement.{statement}
 use Rattle.planmarks.proofs.store_plan.Tie as tie
 
 abbrev Inv-loop : tie.InvT-loop
-Inv-loop plan work₀ nodes n₀ work n = (n ≤ nodes) × (65536 ≤ length work) × (PlanStored plan work₀ work n)
+Inv-loop plan work₀ nodes n₀ work n = (n ≤ nodes) × (Lent work) × (PlanStored plan work₀ work n)
 
 abbrev μ-loop : tie.MeasureT-loop
 μ-loop plan work₀ nodes n₀ work n = nodes - n

@@ -13,7 +13,7 @@ use lib.Dec.{eqb}
 use lib.Bits.{or-zero-r}
 use Rattle.laws.specs.Bits.{with}
 use Rattle.job.specs.Found.{setOf}
-use Rattle.tables.specs.Tables.{pairRowIn}
+use Rattle.buffer.specs.Views.{pairRowIn}
 use Rattle.classes.specs.Backwards.{heldStates}
 use Rattle.tables.proofs.SetLaws.{set-of-none, set-of-more}
 use Rattle.points.proofs.held_states.Statement.{statement}

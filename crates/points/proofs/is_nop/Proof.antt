@@ -17,7 +17,7 @@ use Rattle.laws.proofs.Tests.{passes-or-fails}
 use Rattle.laws.proofs.Bounded.{all-of, all-fails}
 use Rattle.laws.proofs.Walk.{Rest, rest-start, rest-low, rest-lt, rest-next, members-more, members-end, clear-lt}
 use Rattle.automaton.specs.Automaton.{cell}
-use Rattle.tables.specs.Tables.{classRowIn}
+use Rattle.buffer.specs.Views.{classRowIn}
 use Rattle.classes.specs.Backwards.{isNop}
 use Rattle.classes.proofs.FoundLaws.{mark, mark-other}
 use Rattle.points.proofs.is_nop.Statement.{statement}

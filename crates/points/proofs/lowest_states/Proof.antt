@@ -15,7 +15,7 @@ use Rattle.laws.specs.Bits.{has}
 use Rattle.laws.proofs.Bounded.{all-none}
 use Rattle.laws.proofs.Bits.{has-empty, has-and}
 use Rattle.job.specs.Found.{setOf}
-use Rattle.tables.specs.Tables.{classRowIn}
+use Rattle.buffer.specs.Views.{classRowIn}
 use Rattle.classes.specs.Backwards.{isLowest, lowestStates}
 use Rattle.tables.proofs.Complement.{has-complement}
 use Rattle.tables.proofs.SetLaws.{set-of-none, set-of-more, kept-bit}

@@ -6,6 +6,7 @@ use mathlib.Core.List.{[], _∷_}
 use native.Mathlib.Omega.{arith}
 use borrow.Author.Needs.{needs}
 use lib.ListN.{drop, length-drop}
+use Rattle.buffer.specs.Layout.{startsPart, pairPart}
 use Rattle.jobfile.specs.File.{ruleLine, nodeLine, edgeLine, readRest}
 use Rattle.restlines.proofs.RestLaws.{rest-rule, rest-then, read-zero, turned-read, answer-rules, answer-nodes, answer-edges, answer-more, answer-entry, answer-job, accepted-read}
 use Rattle.restlines.proofs.read_rest.Statement.{statement}
@@ -59,7 +60,7 @@ returns-2 c = let x = c .before .before .before .before .before .before .before 
     turned-read (readRest (x .head .states ∷ x .head .symbols ∷ x .head .nodes ∷ x .head .edges ∷ []) (drop 26 (x .file .now))) (r2 .result .status) (x .work .now) _ (c .turned-back2 .result)
     (answer-nodes (x .head .states) (x .head .symbols) (x .head .nodes) (x .head .edges) (x .file .now) (read-zero (ruleLine (x .head .states) (x .head .symbols)) (drop 26 (x .file .now)) (x .head .states) (r1 .result .status) (r1 .ensures .lines) (c .before .before .before .before .before .before .if1 .left)) (r2 .result .status) (r2 .ensures .lines) (c .before .if2 .taken))
     (c .before .if2 .taken) (c .turned-back2 .ensures)
-    (rest-then (x .work .now) _ _ 0 4096 (rest-rule (x .work .now) _ (r1 .ensures .kept)) (r2 .ensures .kept) (omega arith))
+    (rest-then (x .work .now) _ _ 0 startsPart (rest-rule (x .work .now) _ (r1 .ensures .kept)) (r2 .ensures .kept) (omega arith))
 
 mul-third : tie.Need-mul-third
 mul-third c = search needs
@@ -95,7 +96,7 @@ returns-3 c = let x = c .before .before .before .before .before .before .before 
     turned-read (readRest (x .head .states ∷ x .head .symbols ∷ x .head .nodes ∷ x .head .edges ∷ []) (drop 26 (x .file .now))) r3 (x .work .now) _ (c .turned-back3 .result)
     (answer-edges (x .head .states) (x .head .symbols) (x .head .nodes) (x .head .edges) (x .file .now) (read-zero (ruleLine (x .head .states) (x .head .symbols)) (drop 26 (x .file .now)) (x .head .states) (r1 .result .status) (r1 .ensures .lines) (c .before .before .before .before .before .before .before .before .before .before .before .if1 .left)) (read-zero (nodeLine (x .head .states) (x .head .symbols)) (drop (26 + x .head .states * ((x .head .symbols + 2) * 6 + 2)) (x .file .now)) (x .head .nodes) (r2 .result .status) (r2 .ensures .lines) (c .before .before .before .before .before .before .if2 .left)) r3 (y3 .lines) (c .before .if3 .taken))
     (c .before .if3 .taken) (c .turned-back3 .ensures)
-    (rest-then (x .work .now) _ _ 4096 9218 (rest-then (x .work .now) _ _ 0 4096 (rest-rule (x .work .now) _ (r1 .ensures .kept)) (r2 .ensures .kept) (omega arith)) (y3 .kept) (omega arith))
+    (rest-then (x .work .now) _ _ startsPart pairPart (rest-then (x .work .now) _ _ 0 startsPart (rest-rule (x .work .now) _ (r1 .ensures .kept)) (r2 .ensures .kept) (omega arith)) (y3 .kept) (omega arith))
 
 mul-if4 : tie.Need-mul-if4
 mul-if4 c = search needs
@@ -127,7 +128,7 @@ returns-4 c = let x = c .before .before .before .before .before .before .before 
     turned-read (readRest (x .head .states ∷ x .head .symbols ∷ x .head .nodes ∷ x .head .edges ∷ []) (drop 26 (x .file .now))) 9 (x .work .now) _ (c .turned-back4 .result)
     (answer-more (x .head .states) (x .head .symbols) (x .head .nodes) (x .head .edges) (x .file .now) (read-zero (ruleLine (x .head .states) (x .head .symbols)) (drop 26 (x .file .now)) (x .head .states) (r1 .result .status) (r1 .ensures .lines) (c .before .before .before .before .before .before .before .before .before .before .before .before .if1 .left)) (read-zero (nodeLine (x .head .states) (x .head .symbols)) (drop (26 + x .head .states * ((x .head .symbols + 2) * 6 + 2)) (x .file .now)) (x .head .nodes) (r2 .result .status) (r2 .ensures .lines) (c .before .before .before .before .before .before .before .if2 .left)) (read-zero (edgeLine (x .head .nodes)) (drop ((26 + x .head .states * ((x .head .symbols + 2) * 6 + 2)) + x .head .nodes * 38) (x .file .now)) (x .head .edges) r3 (y3 .lines) (c .before .before .if3 .left)) (c .before .if4 .taken))
     (λ z. absurd (omega arith)) (c .turned-back4 .ensures)
-    (rest-then (x .work .now) _ _ 4096 9218 (rest-then (x .work .now) _ _ 0 4096 (rest-rule (x .work .now) _ (r1 .ensures .kept)) (r2 .ensures .kept) (omega arith)) (y3 .kept) (omega arith))
+    (rest-then (x .work .now) _ _ startsPart pairPart (rest-then (x .work .now) _ _ 0 startsPart (rest-rule (x .work .now) _ (r1 .ensures .kept)) (r2 .ensures .kept) (omega arith)) (y3 .kept) (omega arith))
 
 turned-back-requires-5 : tie.Need-turned-back-requires-5
 turned-back-requires-5 c κs = search needs
@@ -144,7 +145,7 @@ returns-5 c = let x = c .before .before .before .before .before .before .before 
     turned-read (readRest (x .head .states ∷ x .head .symbols ∷ x .head .nodes ∷ x .head .edges ∷ []) (drop 26 (x .file .now))) 10 (x .work .now) _ (c .turned-back5 .result)
     (answer-entry (x .head .states) (x .head .symbols) (x .head .nodes) (x .head .edges) (x .file .now) (read-zero (ruleLine (x .head .states) (x .head .symbols)) (drop 26 (x .file .now)) (x .head .states) (r1 .result .status) (r1 .ensures .lines) (c .before .before .before .before .before .before .before .before .before .before .before .before .before .if1 .left)) (read-zero (nodeLine (x .head .states) (x .head .symbols)) (drop (26 + x .head .states * ((x .head .symbols + 2) * 6 + 2)) (x .file .now)) (x .head .nodes) (r2 .result .status) (r2 .ensures .lines) (c .before .before .before .before .before .before .before .before .if2 .left)) (read-zero (edgeLine (x .head .nodes)) (drop ((26 + x .head .states * ((x .head .symbols + 2) * 6 + 2)) + x .head .nodes * 38) (x .file .now)) (x .head .edges) r3 (y3 .lines) (c .before .before .before .if3 .left)) (r2 .result .number) (c .before .before .if4 .left) (r2 .ensures .number (c .before .before .before .before .before .before .before .before .if2 .left)) (c .before .if5 .taken))
     (λ z. absurd (omega arith)) (c .turned-back5 .ensures)
-    (rest-then (x .work .now) _ _ 4096 9218 (rest-then (x .work .now) _ _ 0 4096 (rest-rule (x .work .now) _ (r1 .ensures .kept)) (r2 .ensures .kept) (omega arith)) (y3 .kept) (omega arith))
+    (rest-then (x .work .now) _ _ startsPart pairPart (rest-then (x .work .now) _ _ 0 startsPart (rest-rule (x .work .now) _ (r1 .ensures .kept)) (r2 .ensures .kept) (omega arith)) (y3 .kept) (omega arith))
 
 same-length-6 : tie.Need-same-length-6
 same-length-6 c = c .before .before .before .before .before .edge-lines .ensures .kept .long ∙ c .before .before .before .before .before .before .before .before .before .before .node-lines .ensures .kept .long ∙ c .before .before .before .before .before .before .before .before .before .before .before .before .before .before .before .rule-lines .ensures .kept .long

@@ -1,7 +1,7 @@
 -- `rows::pair_row` meets its contract: the row is the number in its two bytes.
 -- Assumes nothing.
 use borrow.Author.Needs.{needs}
-use Rattle.tables.specs.Tables.{pairRowIn}
+use Rattle.buffer.specs.Views.{pairRowIn}
 use Rattle.rows.proofs.pair_row.Statement.{statement}
 use Rattle.rows.proofs.pair_row.Tie as tie
 

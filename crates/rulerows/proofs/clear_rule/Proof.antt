@@ -7,20 +7,21 @@ use native.Mathlib.Nat.{not-suc-le-zero}
 use native.Mathlib.Omega.{arith}
 use borrow.Author.Needs.{needs}
 use lib.ListN.{length, getD}
-use Rattle.joblines.specs.Layout.{SameOutside}
-use Rattle.joblines.proofs.KeptLaws.{kept-none}
+use Rattle.buffer.specs.Layout.{rulePart, marksPart, Lent}
+use Rattle.buffer.specs.Kept.{SameOutside}
+use Rattle.buffer.proofs.KeptLaws.{kept-none}
 use Rattle.rulerows.proofs.RuleLaws.{bytes-more, part-more}
 use Rattle.rulerows.proofs.clear_rule.Statement.{statement}
 use Rattle.rulerows.proofs.clear_rule.Tie as tie
 
 abbrev Inv-loop : tie.InvT-loop
-Inv-loop work₀ k₀ work k = (k ≤ 256) × (65536 ≤ length work₀) × SameOutside work₀ work 45058 45314 × ((j : ℕ) → j < k → getD work (45058 + j) 0 ≡ 0)
+Inv-loop work₀ k₀ work k = (k ≤ 256) × (Lent work₀) × SameOutside work₀ work rulePart marksPart × ((j : ℕ) → j < k → getD work (rulePart + j) 0 ≡ 0)
 
 abbrev μ-loop : tie.MeasureT-loop
 μ-loop work₀ k₀ work k = 256 - k
 
 loop-holds : tie.Need-loop-holds Inv-loop μ-loop
-loop-holds c = (search needs, c .pre, kept-none (c .args .work .now) 45058 45314, λ j h. absurd (not-suc-le-zero h))
+loop-holds c = (search needs, c .pre, kept-none (c .args .work .now) rulePart marksPart, λ j h. absurd (not-suc-le-zero h))
 
 add-work : tie.Need-add-work Inv-loop μ-loop
 add-work c = search needs
@@ -38,8 +39,8 @@ loop-again : tie.Need-loop-again Inv-loop μ-loop
 loop-again c = let l = c .before .loop in (
   search needs,
   l .inv .1,
-  part-more (c .before .before .args .work .now) (l .work) 45058 45314 (45058 + l .k) 0 (l .inv .2) (omega arith) (omega arith),
-  bytes-more (l .work) 45058 (l .k) 0 (λ j. 0) (omega (arith, l .inv .2 .long)) (l .inv .3) refl,
+  part-more (c .before .before .args .work .now) (l .work) rulePart marksPart (rulePart + l .k) 0 (l .inv .2) (omega arith) (omega arith),
+  bytes-more (l .work) rulePart (l .k) 0 (λ j. 0) (omega (arith, l .inv .2 .long)) (l .inv .3) refl,
 )
 
 same-length : tie.Need-same-length Inv-loop μ-loop

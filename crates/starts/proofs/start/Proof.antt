@@ -21,7 +21,7 @@ clear-pairs-requires c κs = search needs
 
 clear-marks-requires : tie.Need-clear-marks-requires Inv-loop μ-loop
 clear-marks-requires c κs =
-    omega (arith, c .before .before .before .clear-pairs .ensures .long, c .before .before .before .before .before .before .pre)
+    omega (arith, c .before .before .before .clear-pairs .ensures .kept .long, c .before .before .before .before .before .before .pre)
 
 loop-holds : tie.Need-loop-holds Inv-loop μ-loop
 loop-holds c = (omega arith, starting-none _)
@@ -31,7 +31,7 @@ start-node-requires c κs =
     let p = c .before .before .before .before .before .before .before .before .before .before .before .before .pre in
     let rows = c .before .before .before .before .before .before .before .before .before .clear-pairs .ensures in
     let marks = c .before .before .before .before .before .clear-marks .ensures in
-    (omega (arith, c .before .before .loop .inv .1 .grown .kept .long, rows .long, marks .long, p), omega (arith, p))
+    (omega (arith, c .before .before .loop .inv .1 .grown .kept .long, rows .kept .long, marks .kept .long, p), omega (arith, p))
 
 add-n : tie.Need-add-n Inv-loop μ-loop
 add-n c = search needs
@@ -51,8 +51,8 @@ loop-again c =
 
 same-length : tie.Need-same-length Inv-loop μ-loop
 same-length c =
-    c .before .loop .inv .1 .grown .kept .long ∙ c .before .before .before .before .clear-marks .ensures .long
-    ∙ c .before .before .before .before .before .before .before .before .clear-pairs .ensures .long
+    c .before .loop .inv .1 .grown .kept .long ∙ c .before .before .before .before .clear-marks .ensures .kept .long
+    ∙ c .before .before .before .before .before .before .before .before .clear-pairs .ensures .kept .long
 
 returns : tie.Need-returns Inv-loop μ-loop
 returns c =

@@ -6,6 +6,7 @@ use native.Mathlib.Omega.{arith}
 use lib.ListN.{length-set}
 use borrow.Author.Tests.{not-true, not-false}
 use borrow.Author.Needs.{needs}
+use Rattle.buffer.specs.Layout.{planPart}
 use Rattle.planning.proofs.TryLaws.{cleared-usable, try-disabled, try-removed, try-needed}
 use Rattle.tries.proofs.try_node.Statement.{statement}
 use Rattle.tries.proofs.try_node.Tie as tie
@@ -33,7 +34,7 @@ is-faithful-requires c κs = let p = c .before .before .before .before .before .
 same-length-2 : tie.Need-same-length-2
 same-length-2 c =
     let a = c .before .before .before .before .before .before .before .before .before .args in
-    c .before .before .before .is-faithful .ensures .kept .long ∙ length-set (a .work .now) (44034 + a .n) 0
+    c .before .before .before .is-faithful .ensures .kept .long ∙ length-set (a .work .now) (planPart + a .n) 0
 
 returns-2 : tie.Need-returns-2
 returns-2 c =
@@ -49,13 +50,13 @@ slice-write-work-2 c =
     let a = c .before .before .before .before .before .before .before .before .before .args in
     let p = c .before .before .before .before .before .before .before .before .before .pre in
     let kept = c .before .before .before .is-faithful .ensures .kept in
-    omega (arith, kept .long, length-set (a .work .now) (44034 + a .n) 0, p .0, p .1 .long, p .1 .few-nodes)
+    omega (arith, kept .long, length-set (a .work .now) (planPart + a .n) 0, p .0, p .1 .long, p .1 .few-nodes)
 
 same-length-3 : tie.Need-same-length-3
 same-length-3 c =
     let a = c .before .before .before .before .before .before .before .before .before .args in
     let f = c .before .before .before .is-faithful in
-    length-set (f .last .0) (44034 + a .n) 1 ∙ f .ensures .kept .long ∙ length-set (a .work .now) (44034 + a .n) 0
+    length-set (f .last .0) (planPart + a .n) 1 ∙ f .ensures .kept .long ∙ length-set (a .work .now) (planPart + a .n) 0
 
 returns-3 : tie.Need-returns-3
 returns-3 c =

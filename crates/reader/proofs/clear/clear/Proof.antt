@@ -6,16 +6,17 @@ use mathlib.Core.Path.{_≡_, _∙_}
 use native.Mathlib.Omega.{arith}
 use borrow.Author.Needs.{needs}
 use lib.ListN.{length, length-set}
-use Rattle.joblines.specs.Layout.{filled}
+use Rattle.buffer.specs.Layout.{workSize, Lent}
+use Rattle.buffer.specs.Kept.{filled}
 use Rattle.reader.proofs.ClearLaws.{filled-none, filled-more, filled-end}
 use Rattle.reader.proofs.clear.clear.Statement.{statement}
 use Rattle.reader.proofs.clear.clear.Tie as tie
 
 abbrev Inv-loop : tie.InvT-loop
-Inv-loop work₀ i₀ work i = (i ≤ 65536) × (65536 ≤ length work₀) × (length work ≡ length work₀) × (work ≡ filled i work₀)
+Inv-loop work₀ i₀ work i = (i ≤ workSize) × (Lent work₀) × (length work ≡ length work₀) × (work ≡ filled i work₀)
 
 abbrev μ-loop : tie.MeasureT-loop
-μ-loop work₀ i₀ work i = 65536 - i
+μ-loop work₀ i₀ work i = workSize - i
 
 loop-holds : tie.Need-loop-holds Inv-loop μ-loop
 loop-holds c = (search needs, c .pre, search needs, filled-none (c .args .work .now))

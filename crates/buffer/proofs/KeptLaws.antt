@@ -9,23 +9,38 @@ use lib.ListN.{set, length-set}
 use lib.Seq.{getD-set-other}
 use Rattle.laws.specs.Bytes.{numberAt, putNumber}
 use Rattle.laws.proofs.Bytes.{number-cong, length-put, getD-put-outside}
-use Rattle.joblines.specs.Layout.{nodeIn, SameOutside}
+use Rattle.buffer.specs.Views.{nodeIn}
+use Rattle.buffer.specs.Kept.{Outside, Kept, SameOutside}
 
 -- nothing is stored
+pub kept-same : {Place : ℕ → Type 0} (l : List ℕ) → Kept Place l l
+kept-same l = record { long = refl; outside = λ k p. refl }
+
+-- one store after another: what both leave is as it was
+pub kept-then
+    : {P Q R : ℕ → Type 0} {l m n : List ℕ} → ((k : ℕ) → R k → P k × Q k) → Kept P l m → Kept Q m n → Kept R l n
+kept-then f p q = record {
+  long = q .long ∙ p .long;
+  outside = λ k r. q .outside k (f k r .1) ∙ p .outside k (f k r .0);
+}
+
+-- fewer places are as they were
+pub kept-fewer : {P Q : ℕ → Type 0} {l m : List ℕ} → ((k : ℕ) → Q k → P k) → Kept P l m → Kept Q l m
+kept-fewer f p = kept-then (λ k q. (f k q, q)) p (kept-same _)
+
+-- what is outside a part is outside each part of it
+pub outside-part : {i j a b : ℕ} → i ≤ a → b ≤ j → (k : ℕ) → Outside i j k → Outside a b k
+outside-part h g k (inl o) = inl (omega arith)
+outside-part h g k (inr o) = inr (omega arith)
+
+-- nothing is stored in a part
 pub kept-none : (l : List ℕ) (i j : ℕ) → SameOutside l l i j
-kept-none l i j = record { long = refl; outside = λ k p. refl }
+kept-none l i j = kept-same l
 
 -- a store after another, in a wider part
 pub kept-both
     : (l m k : List ℕ) (i j a b : ℕ) → SameOutside l m i j → SameOutside m k a b → i ≤ a → b ≤ j → SameOutside l k i j
-kept-both l m k i j a b p q h g = record {
-  long = q .long ∙ p .long;
-  outside = λ x o. q .outside x (wider x o) ∙ p .outside x o;
-}
-  where
-    wider : (x : ℕ) → (x < i) ⊎ (j ≤ x) → (x < a) ⊎ (b ≤ x)
-    wider x (inl o) = inl (omega arith)
-    wider x (inr o) = inr (omega arith)
+kept-both l m k i j a b p q h g = kept-then (λ x o. (o, outside-part h g x o)) p q
 
 -- one byte is stored
 pub kept-set : (l : List ℕ) (i v : ℕ) → SameOutside l (set l i v) i (i + 1)

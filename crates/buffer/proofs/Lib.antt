@@ -1,0 +1,3 @@
+-- Laws of what stores leave of the work buffer.
+-- Assumes nothing.
+pub mod KeptLaws

@@ -1,0 +1,53 @@
+-- Where the parts of the lent work buffer lie, each by the part before it and that part's size.
+-- Assumes nothing.
+use mathlib.Core.List.{List}
+use Prim.Native.Nat.{ℕ, _+_, _*_, _≤_}
+use lib.ListN.{length}
+
+-- the nodes: 512 of eight bytes
+abbrev pub nodesPart : ℕ
+nodesPart = 0
+
+-- the index of each node's first edge, and after the last node the number of edges: 513 numbers of two bytes
+abbrev pub startsPart : ℕ
+startsPart = nodesPart + 512 * 8
+
+-- the ends of the edges, by source: 2,048 numbers of two bytes
+abbrev pub targetsPart : ℕ
+targetsPart = startsPart + 513 * 2
+
+-- sixteen rows of pairs for each node, two bytes a row: before an event node, past any other
+abbrev pub pairPart : ℕ
+pairPart = targetsPart + 2048 * 2
+
+-- sixteen rows of states told apart past each node, two bytes a row
+abbrev pub classPart : ℕ
+classPart = pairPart + 512 * 32
+
+-- what was found at each point, four bytes a node
+abbrev pub foundPart : ℕ
+foundPart = classPart + 512 * 32
+
+-- the plan, a byte a node
+abbrev pub planPart : ℕ
+planPart = foundPart + 512 * 4
+
+-- the rule's rows: 256 bytes in row order
+abbrev pub rulePart : ℕ
+rulePart = planPart + 512
+
+-- the marks of the rows of pairs that may have grown, two bytes a node
+abbrev pub marksPart : ℕ
+marksPart = rulePart + 256
+
+-- the first byte past them
+abbrev pub marksEnd : ℕ
+marksEnd = marksPart + 512 * 2
+
+-- the bytes that a call may use
+abbrev pub workSize : ℕ
+workSize = 65536
+
+-- these bytes have room for all of them
+abbrev pub Lent : List ℕ → Type 0
+Lent work = workSize ≤ length work

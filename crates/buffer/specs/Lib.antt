@@ -1,0 +1,5 @@
+-- The lent work buffer.
+-- Assumes nothing.
+pub mod Layout
+pub mod Views
+pub mod Kept
