@@ -1,7 +1,7 @@
 //! Small jobs by hand, and what the two readers say of one file.
 use crate::memory::read;
 use crate::second::{Answer, Second};
-use reading::Refusal;
+use dapohiru::Refusal;
 use walks::call::WORK;
 use walks::job::{Job, Line, Node};
 

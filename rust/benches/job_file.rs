@@ -1,8 +1,8 @@
-//! Milliseconds to read 300 job files of full size: the library's call beside a plain Rust reader
-//! that makes the same tests on the same bytes, decodes the job and clears as many bytes.
-//! `cargo bench --offline` runs it.
+//! Milliseconds to read 300 job files of full size: the library's check of a plan of no bytes, which reads
+//! the file and no more, beside a plain Rust reader that makes the same tests on the same bytes, decodes
+//! the job and clears as many bytes. `cargo bench --offline --bench job_file` runs it.
+use dapohiru::{check, Refusal};
 use plain::read::Decoded;
-use reading::{read, Refusal};
 use std::hint::black_box;
 use std::time::Instant;
 use walks::job::{Job, Node};
@@ -49,6 +49,16 @@ fn holds(decoded: &Decoded, job: &Job) -> bool {
         edges: edges.collect(),
     };
     held.edges.len() == decoded.edge_count && held == *job
+}
+
+/// Reads a file by the library: where nothing is wrong with it the plan of no bytes is refused as 11.
+#[inline]
+fn read(file: &[u8], work: &mut [u8]) -> Result<(), Refusal> {
+    match check(file, &[], work) {
+        Err(Refusal(11)) => Ok(()),
+        Err(refusal) => Err(refusal),
+        Ok(verdict) => panic!("{verdict:?} for a plan of no bytes"),
+    }
 }
 
 /// Reads a file in plain Rust.
@@ -117,6 +127,6 @@ fn main() {
     println!(
         "milliseconds for {FILES} files of full size ({bytes} bytes), median of {REPETITIONS} repetitions"
     );
-    println!("  reading_job   plain Rust   ratio");
-    println!("{ours:>13.2}   {theirs:>10.2}   {:>5.2}", ours / theirs);
+    println!("  dapohiru_check   plain Rust   ratio");
+    println!("{ours:>16.2}   {theirs:>10.2}   {:>5.2}", ours / theirs);
 }

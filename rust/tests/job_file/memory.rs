@@ -1,15 +1,24 @@
 //! Calls of the library with every byte that they could reach looked at, and counts of their answers.
 use crate::cases::Case;
 use crate::second::{Answer, Outcome, Second};
-use reading::Refusal;
+use dapohiru::Refusal;
 use walks::call::WORK;
 use walks::guarded::lend;
 use walks::memory::{Counts, Lent};
 use walks::random::{self, Random};
 
-/// [`reading::read`], on guarded buffers too.
+/// Whether a file is a job, or its refusal: the check of a plan of no bytes, on guarded buffers too. Every
+/// job has a node, so that the plan is refused as 11 exactly where nothing is wrong with the file.
 pub fn read(file: &[u8], work: &mut [u8]) -> Result<(), Refusal> {
-    lend([file], [work], |[file], [work]| reading::read(file, work))
+    lend(
+        [file, &[]],
+        [work],
+        |[file, plan], [work]| match dapohiru::check(file, plan, work) {
+            Err(Refusal(11)) => Ok(()),
+            Err(refusal @ Refusal(1..=10)) => Err(refusal),
+            answer => panic!("{answer:?} for a plan of no bytes"),
+        },
+    )
 }
 
 /// The greatest length of a work buffer in these tests.

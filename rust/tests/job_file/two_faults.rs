@@ -2,7 +2,7 @@
 use crate::cases::Case;
 use crate::memory::{words, Memory};
 use crate::samples::{answer, little};
-use reading::Refusal;
+use dapohiru::Refusal;
 use std::collections::BTreeMap;
 use walks::call::LONGEST;
 use walks::faults::{faulty, Fault};

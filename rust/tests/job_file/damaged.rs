@@ -3,7 +3,7 @@ use crate::cases::Case;
 use crate::damage;
 use crate::memory::{compare_all, Memory};
 use crate::samples::{answer, least, small};
-use reading::Refusal;
+use dapohiru::Refusal;
 use walks::call::WORK;
 use walks::job::spell;
 use walks::memory::Counts;

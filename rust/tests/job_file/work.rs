@@ -2,7 +2,7 @@
 use crate::cases::Cases;
 use crate::memory::{read, words, Memory};
 use crate::samples::little;
-use reading::Refusal;
+use dapohiru::Refusal;
 use walks::call::WORK;
 use walks::faults::{faulty, Fault};
 use walks::job::{spell, Job};

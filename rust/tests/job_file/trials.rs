@@ -2,7 +2,7 @@
 use crate::cases::Case;
 use crate::memory::words;
 use crate::samples::{answer, least, rich, second_job, PAIR};
-use reading::Refusal;
+use dapohiru::Refusal;
 use walks::call::LONGEST;
 use walks::job::Job;
 use walks::random::Random;
