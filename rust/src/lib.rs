@@ -33,7 +33,7 @@
 //!
 //! // The plan: one byte for each node, here 0 to 2.
 //! let mut bytes = [0; PLAN_LEN];
-//! let counts = plan(job, &mut bytes, &mut work)?;
+//! let counts = plan(job, &mut work, &mut bytes)?;
 //! assert_eq!(counts, Counts { points: 3, watched: 2, passes: 2 });
 //! let plan = &bytes[..3];
 //! assert_eq!(plan, [0, 1, 1]);
@@ -161,7 +161,7 @@ pub const RECORD_LEN: usize = 16;
 /// 11 and 12 for the plan, 13 for the rule, 14 for the symbol, 15 for the record.
 ///
 /// ```
-/// let refusal = dapohiru::plan(b"", &mut [0; 512], &mut [0; 65_536]).unwrap_err();
+/// let refusal = dapohiru::plan(b"", &mut [0; 65_536], &mut [0; 512]).unwrap_err();
 /// assert_eq!(refusal, dapohiru::Refusal(3));
 /// assert_eq!(refusal.to_string(), "refused 3");
 /// ```
@@ -224,17 +224,17 @@ pub enum Report {
 /// R     0     0     0
 /// P     0     1     0     1     0     0
 /// ";
-/// let counts = plan(job, &mut bytes, &mut work).unwrap();
+/// let counts = plan(job, &mut work, &mut bytes).unwrap();
 /// assert_eq!((counts.points, counts.watched, counts.passes), (1, 0, 2));
 /// assert_eq!(bytes[..2], [0, 7]);
 /// assert!(work.iter().all(|&byte| byte == 0));
 ///
 /// // a cut line is refused as 4, and the plan stays
-/// assert_eq!(plan(&job[..9], &mut bytes, &mut work), Err(Refusal(4)));
+/// assert_eq!(plan(&job[..9], &mut work, &mut bytes), Err(Refusal(4)));
 /// assert_eq!(bytes[..2], [0, 7]);
 /// ```
 #[inline]
-pub fn plan(job: &[u8], plan: &mut [u8], work: &mut [u8]) -> Result<Counts, Refusal> {
+pub fn plan(job: &[u8], work: &mut [u8], plan: &mut [u8]) -> Result<Counts, Refusal> {
     let number = numbers::plan(job, work, plan);
     match number >> 48 {
         1 => Ok(Counts {
@@ -264,7 +264,7 @@ pub fn plan(job: &[u8], plan: &mut [u8], work: &mut [u8]) -> Result<Counts, Refu
 /// R     0     0     0
 /// P     0     1     0     1     0     0
 /// ";
-/// let len = list(job, &mut listing, &mut work).unwrap();
+/// let len = list(job, &mut work, &mut listing).unwrap();
 /// let lines = b"\
 /// W     0     0     1     1     1     0
 /// T     1     0     2
@@ -272,10 +272,10 @@ pub fn plan(job: &[u8], plan: &mut [u8], work: &mut [u8]) -> Result<Counts, Refu
 /// assert_eq!(&listing[..len], lines);
 /// assert_eq!(listing[len], b'?');
 ///
-/// assert_eq!(list(job, &mut listing[1..], &mut work), Err(Refusal(2)));
+/// assert_eq!(list(job, &mut work, &mut listing[1..]), Err(Refusal(2)));
 /// ```
 #[inline]
-pub fn list(job: &[u8], listing: &mut [u8], work: &mut [u8]) -> Result<usize, Refusal> {
+pub fn list(job: &[u8], work: &mut [u8], listing: &mut [u8]) -> Result<usize, Refusal> {
     let number = numbers::list(job, work, listing);
     match number.checked_sub(numbers::ACCEPTED) {
         Some(len) if len <= listing.len() as u64 => Ok(len as usize),

@@ -5,4 +5,3 @@ pub mod check;
 pub mod event;
 pub mod plan;
 pub mod read;
-mod spelled;
