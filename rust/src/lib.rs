@@ -236,7 +236,7 @@ pub enum Report {
 #[inline]
 pub fn plan(job: &[u8], work: &mut [u8], plan: &mut [u8]) -> Result<Counts, Refusal> {
     let number = numbers::plan(job, work, plan);
-    match number >> 48 {
+    match number / numbers::ACCEPTED {
         1 => Ok(Counts {
             points: number >> 32 & 0xffff,
             watched: number >> 16 & 0xffff,

@@ -16,13 +16,6 @@ pub struct Planned {
     pub passes: u64,
 }
 
-impl Planned {
-    /// The number of accepted planning.
-    pub fn number(&self) -> u64 {
-        (1 << 48) + (self.points << 32) + (self.watched << 16) + self.passes
-    }
-}
-
 /// The plan of a job, with the slip that its walks have.
 pub fn plan(walks: &Walks) -> Planned {
     let job = walks.job;

@@ -62,11 +62,21 @@ pub struct Call<'a> {
     pub lent_len: usize,
 }
 
-/// What a call leaves: the number that it returns, the bytes that it writes from the start of the plan
-/// or listing buffer on, and how many bytes of the work buffer are zero from its start on.
+/// The answer to a call.
+#[derive(Clone, Copy, Debug, PartialEq, Eq)]
+pub enum Answer {
+    /// With the counts of event nodes, watched points and passes.
+    Planned([u64; 3]),
+    /// With the length of the text.
+    Listed(usize),
+    Refused(u64),
+}
+
+/// What a call leaves: its answer, the bytes that it writes from the start of the plan or listing buffer
+/// on, and how many bytes of the work buffer are zero from its start on.
 #[derive(Clone, Debug, PartialEq, Eq)]
 pub struct Outcome {
-    pub number: u64,
+    pub answer: Answer,
     /// Up to the last byte written; nothing for a byte that is as it was.
     pub written: Vec<Option<u8>>,
     pub cleared: usize,
@@ -76,9 +86,12 @@ pub struct Outcome {
 /// given for the job.
 pub fn serve(call: &Call, slip: Option<Slip>) -> Outcome {
     let refused = refusal(call, slip);
-    let (number, mut written) = match (refused, call.held) {
+    let (answer, mut written) = match (refused, call.held) {
         (None, Ok(given)) => accepted(call, given, slip),
-        (refused, _) => (refused.expect("an unread file is refused"), Vec::new()),
+        (refused, _) => {
+            let number = refused.expect("an unread file is refused");
+            (Answer::Refused(number), Vec::new())
+        }
     };
     let by_file = matches!(refused, Some(3..));
     if by_file && slip == Some(Slip::RefusalClearsLent) {
@@ -95,7 +108,7 @@ pub fn serve(call: &Call, slip: Option<Slip>) -> Outcome {
         _ => WORK.min(call.work_len),
     };
     Outcome {
-        number,
+        answer,
         written,
         cleared,
     }
@@ -122,12 +135,17 @@ fn refusal(call: &Call, slip: Option<Slip>) -> Option<u64> {
     tests.into_iter().flatten().next()
 }
 
-/// The number of an accepted call, and what it writes.
-fn accepted(call: &Call, given: &Given, slip: Option<Slip>) -> (u64, Vec<Option<u8>>) {
-    let planned = &given.planned;
-    let (number, bytes) = match call.service {
-        Service::Plan => (planned.number(), &planned.plan),
-        Service::List => ((1 << 48) + given.listing.len() as u64, &given.listing),
+/// The answer of an accepted call, and what it writes.
+fn accepted(call: &Call, given: &Given, slip: Option<Slip>) -> (Answer, Vec<Option<u8>>) {
+    let Planned {
+        plan,
+        points,
+        watched,
+        passes,
+    } = &given.planned;
+    let (answer, bytes) = match call.service {
+        Service::Plan => (Answer::Planned([*points, *watched, *passes]), plan),
+        Service::List => (Answer::Listed(given.listing.len()), &given.listing),
     };
     let mut written: Vec<_> = bytes.iter().copied().map(Some).collect();
     match slip {
@@ -141,5 +159,5 @@ fn accepted(call: &Call, given: &Given, slip: Option<Slip>) -> (u64, Vec<Option<
         }
         _ => {}
     }
-    (number, written)
+    (answer, written)
 }

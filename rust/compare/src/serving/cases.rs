@@ -1,10 +1,10 @@
 //! Random calls of planning and listing: jobs with buffers that are long enough, and calls with faults.
-use super::memory::{Memory, Said, MOST_LENT, MOST_WORK};
+use super::memory::{Memory, Said, Seen, MOST_LENT, MOST_WORK};
 use dapohiru_generators::faults::{refused, NUMBERS};
 use dapohiru_generators::random::Random;
 use dapohiru_second::job::Job;
 use dapohiru_second::reading::{LONGEST, WORK};
-use dapohiru_second::serving::{serve, Call, Given, Outcome, Service};
+use dapohiru_second::serving::{serve, Call, Given, Service};
 use dapohiru_second::slip::Slip;
 
 /// One call: a file of a job or one like it with a fault, and the lengths of the buffers.
@@ -56,8 +56,8 @@ impl Case {
         self
     }
 
-    /// What the second implementation leaves, with one slip or with none.
-    pub fn wanted(&self, given: &Given, slip: Option<Slip>) -> Outcome {
+    /// What the second implementation wants to be seen, with one slip or with none.
+    pub fn wanted(&self, given: &Given, slip: Option<Slip>) -> Seen {
         let call = Call {
             service: self.service,
             file_len: self.file.len(),
@@ -65,12 +65,12 @@ impl Case {
             work_len: self.work_len,
             lent_len: self.lent_len,
         };
-        serve(&call, slip)
+        Seen::wanted(serve(&call, slip))
     }
 
     /// What is seen of the library, or in words how it differs from the second implementation with the
     /// slip that what is given has.
-    pub fn compare(&self, memory: &mut Memory, given: &Given) -> Result<Outcome, String> {
+    pub fn compare(&self, memory: &mut Memory, given: &Given) -> Result<Seen, String> {
         let wanted = self.wanted(given, given.slip);
         match memory.call(self.service, &self.file, self.work_len, self.lent_len) {
             Ok(seen) if seen == wanted => Ok(seen),
@@ -85,7 +85,7 @@ impl Case {
     }
 
     /// What a call that leaves this answers.
-    pub fn said(&self, seen: &Outcome) -> Said {
+    pub fn said(&self, seen: &Seen) -> Said {
         Said::of(self.service, seen.number)
     }
 
@@ -104,12 +104,12 @@ impl Case {
 }
 
 /// What a call leaves, in words; a byte that is as it was is a dot.
-fn leaves(outcome: &Outcome) -> String {
-    let Outcome {
+fn leaves(seen: &Seen) -> String {
+    let Seen {
         number,
         written,
         cleared,
-    } = outcome;
+    } = seen;
     let shown = |byte: &Option<u8>| match *byte {
         None => ".".to_string(),
         Some(byte @ (0 | 1)) => byte.to_string(),

@@ -4,7 +4,7 @@ use crate::memory::{Lent, PAST_FILE};
 use dapohiru::numbers::ACCEPTED;
 use dapohiru_generators::random::Random;
 use dapohiru_second::reading::WORK;
-use dapohiru_second::serving::{Outcome, Service};
+use dapohiru_second::serving::{Answer, Outcome, Service};
 
 /// What a call answers.
 #[derive(Clone, Copy, Debug, PartialEq, Eq, PartialOrd, Ord)]
@@ -28,6 +28,34 @@ impl Said {
     pub fn all() -> impl Iterator<Item = Said> {
         let refusals = (1..=10).map(Said::Refused);
         refusals.chain([Said::Planned, Said::Listed])
+    }
+}
+
+/// What is seen of a call: its number, the bytes that it writes from the start of the plan or listing
+/// buffer on, and how many bytes of the work buffer it leaves as zero. All other bytes are as they were.
+#[derive(Clone, Debug, PartialEq, Eq)]
+pub struct Seen {
+    pub number: u64,
+    /// Up to the last byte written; nothing for a byte that is as it was.
+    pub written: Vec<Option<u8>>,
+    pub cleared: usize,
+}
+
+impl Seen {
+    /// What the second implementation wants to be seen.
+    pub fn wanted(outcome: Outcome) -> Self {
+        let number = match outcome.answer {
+            Answer::Planned([points, watched, passes]) => {
+                ACCEPTED + (points << 32) + (watched << 16) + passes
+            }
+            Answer::Listed(len) => ACCEPTED + len as u64,
+            Answer::Refused(number) => number,
+        };
+        Seen {
+            number,
+            written: outcome.written,
+            cleared: outcome.cleared,
+        }
     }
 }
 
@@ -71,7 +99,7 @@ impl Memory {
         file: &[u8],
         work_len: usize,
         lent_len: usize,
-    ) -> Result<Outcome, String> {
+    ) -> Result<Seen, String> {
         self.work.fresh(&mut self.random, work_len);
         self.lent.fresh(&mut self.random, lent_len);
         self.file.holding(file, PAST_FILE);
@@ -98,7 +126,7 @@ impl Memory {
                 "after {number} a work buffer of {work_len} bytes is neither as it was nor zero in its first {WORK} bytes alone"
             ));
         };
-        Ok(Outcome {
+        Ok(Seen {
             number,
             written,
             cleared,

@@ -1,4 +1,5 @@
 //! Buffers of all lengths around the limits, and of none.
+use dapohiru::numbers::ACCEPTED;
 use dapohiru_compare::serving::Memory;
 use dapohiru_compare::wrapper::WRAPPER;
 use dapohiru_generators::random::Random;
@@ -115,11 +116,8 @@ fn one_call_leaves_nothing_for_the_next() {
         let plan = WRAPPER.serve(Service::Plan, file, &mut work, &mut [3; 512]);
         let list = WRAPPER.serve(Service::List, file, &mut work, &mut [3; 32_768]);
         let wanted = match round % 3 {
-            0 => (
-                (1 << 48) + (3 << 32) + (2 << 16) + 2,
-                (1 << 48) + 3 * 38 + 20,
-            ),
-            1 => ((1 << 48) + (2 << 32) + 3, (1 << 48) + 2 * 38 + 20),
+            0 => (ACCEPTED + (3 << 32) + (2 << 16) + 2, ACCEPTED + 3 * 38 + 20),
+            1 => (ACCEPTED + (2 << 32) + 3, ACCEPTED + 2 * 38 + 20),
             _ => (4, 4),
         };
         assert_eq!((plan, list), wanted);
