@@ -2,10 +2,7 @@
 //! walk").
 use crate::library::Library;
 use crate::records::{Records, Tally};
-use dapohiru_generators::large::{self, Order};
 use dapohiru_generators::random::Random;
-use dapohiru_generators::rings;
-use dapohiru_generators::small;
 use dapohiru_generators::walker::Walker;
 use dapohiru_second::job::Job;
 use dapohiru_second::search::{difference, Difference};
@@ -17,19 +14,6 @@ pub fn first_total(random: &mut Random) -> u64 {
         0 => 0,
         1 => u64::MAX - random.below(6),
         _ => random.number(),
-    }
-}
-
-/// A job of a few nodes, or of some dozens with a rule under which many points matter.
-pub fn job(random: &mut Random) -> Job {
-    match random.below(4) {
-        0 => rings::job(random),
-        1 => small::job(random),
-        _ => {
-            let order = random.pick(&[Order::Flow, Order::Parts]);
-            let nodes = random.between(16, 48);
-            large::job_of(random, order, nodes)
-        }
     }
 }
 

@@ -9,11 +9,11 @@ mod jobs;
 mod stored;
 
 use dapohiru::numbers::{self, ACCEPTED};
-use dapohiru_compare::promise;
 use dapohiru_generators::damage::damaged;
 use dapohiru_generators::events::Call;
 use dapohiru_generators::faults::{self, NUMBERS};
 use dapohiru_generators::large::{self, Order};
+use dapohiru_generators::mixed;
 use dapohiru_generators::random::Random;
 use dapohiru_generators::rings;
 use dapohiru_generators::sized::{self, Sizes, FULL};
@@ -86,7 +86,7 @@ fn job(random: &mut Random, number: u64) -> Job {
             sized::job(random, sizes)
         }
         3..=5 => rings::job(random),
-        6 => promise::job(random),
+        6 => mixed::job(random),
         7..=9 => {
             let job = small::job(random);
             let nodes = random.pick(&[16, 64, 65, 255, 256, 257, 511, 512]);

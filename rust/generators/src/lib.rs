@@ -5,6 +5,7 @@ pub mod events;
 pub mod faults;
 pub mod features;
 pub mod large;
+pub mod mixed;
 pub mod random;
 pub mod rings;
 pub mod samples;

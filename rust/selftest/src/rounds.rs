@@ -10,6 +10,7 @@ use dapohiru_compare::step::compare;
 use dapohiru_generators::damage::damaged;
 use dapohiru_generators::events::Call;
 use dapohiru_generators::large::{self, Order};
+use dapohiru_generators::mixed;
 use dapohiru_generators::random::Random;
 use dapohiru_generators::rings;
 use dapohiru_generators::samples::pair;
@@ -145,7 +146,7 @@ impl Rounds {
 
     /// Both halves of the third promise on the plan that the library writes.
     fn walk(&mut self, random: &mut Random) -> Result<(), String> {
-        let job = promise::job(random);
+        let job = mixed::job(random);
         let file = job.file();
         let said = |why: String| format!("{why}; job:\n{}", String::from_utf8_lossy(&file));
         let mut plan = [7; dapohiru::PLAN_LEN];

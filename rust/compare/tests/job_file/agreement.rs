@@ -3,7 +3,8 @@ use crate::cases::Cases;
 use crate::memory::{Memory, Seen};
 use dapohiru_compare::memory::Counts;
 use dapohiru_generators::random::Random;
-use dapohiru_second::reading::{Reader, Slip};
+use dapohiru_plain::read::Decoded;
+use dapohiru_second::reading::{self, Reader, Slip};
 
 #[test]
 fn random_files_agree_with_the_second_reader() {
@@ -66,4 +67,25 @@ fn every_slip_of_the_second_reader_is_noticed() {
     }
     println!("{} slips, {} not noticed", Slip::ALL.len(), left.len());
     assert!(left.is_empty(), "not noticed in {LIMIT} files: {left:?}");
+}
+
+#[test]
+fn plain_reader_of_the_benchmarks_refuses_as_the_second_reader_does() {
+    const FILES: u64 = 30_000;
+    let mut cases = Cases::new(Random::of_this_run());
+    let mut decoded = Decoded::new();
+    let mut counts = Counts::default();
+    for number in 0..FILES {
+        let file = cases.any().file;
+        let refused = reading::job(&file).err();
+        let text = file.escape_ascii();
+        assert_eq!(
+            decoded.decode(&file).err(),
+            refused,
+            "file {number}: {text}"
+        );
+        counts.add(refused);
+    }
+    counts.print("plain reader");
+    counts.came((3..=10).map(Some).chain([None]));
 }

@@ -1,8 +1,9 @@
 //! The first half of the third promise: two records on long walks, one under the plan of the library.
-use dapohiru_compare::promise::{self, walk};
+use dapohiru_compare::promise::walk;
 use dapohiru_compare::records::Tally;
 use dapohiru_compare::wrapper::{plan, WRAPPER};
 use dapohiru_generators::large::{self, Order};
+use dapohiru_generators::mixed;
 use dapohiru_generators::random::Random;
 use dapohiru_second::job::Job;
 use dapohiru_second::reading::WORK;
@@ -84,7 +85,7 @@ fn two_records_alarm_alike_on_many_walks_of_small_jobs() {
     let mut random = Random::fixed(13);
     let mut totals = Totals::default();
     for _ in 0..4_000 {
-        let job = promise::job(&mut random);
+        let job = mixed::job(&mut random);
         totals.walk(&mut random, &job, &plan_of(&job), 4, 300);
     }
     totals.print("small jobs");
@@ -103,7 +104,7 @@ fn two_records_alarm_alike_on_walks_of_a_million_events() {
         if totals.jobs == JOBS {
             break;
         }
-        let job = promise::job(&mut random);
+        let job = mixed::job(&mut random);
         let plan = plan_of(&job);
         // jobs whose loops have alarms and points that are skipped
         let mut first = Totals::default();
@@ -144,7 +145,7 @@ fn with_one_needed_byte_cleared_the_two_records_differ() {
         if totals.jobs == 400 {
             break;
         }
-        let job = promise::job(&mut random);
+        let job = mixed::job(&mut random);
         let mut plan = plan_of(&job);
         let watched: Vec<_> = (0..plan.len()).filter(|&node| plan[node] == 1).collect();
         if watched.is_empty() {
@@ -169,7 +170,7 @@ fn with_a_plan_of_zeros_the_two_records_differ() {
     let mut random = Random::fixed(20);
     let mut totals = Totals::default();
     for _ in 0..400 {
-        let job = promise::job(&mut random);
+        let job = mixed::job(&mut random);
         totals.walk(&mut random, &job, &job.plan_of(&[]), 10, 300);
     }
     totals.print("plans of zeros");

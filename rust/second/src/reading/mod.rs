@@ -1,5 +1,5 @@
-//! Reading a job file a second time (document 01, "The job file" and "Turned back, by number"), as a call
-//! with a work buffer. A slip can be switched on, to see that a comparison notices it.
+//! Reading a job file a second time (document 01, "The job file" and "Turned back, by number"), by itself
+//! and as a call with a work buffer. A slip can be switched on, to see that a comparison notices it.
 mod fields;
 mod lines;
 mod slip;
