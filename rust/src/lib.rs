@@ -33,7 +33,7 @@
 //!
 //! // The plan: one byte for each node, here 0 to 2.
 //! let mut bytes = [0; PLAN_LEN];
-//! let counts = plan(job, &mut bytes, &mut work)?;
+//! let counts = plan(job, &mut work, &mut bytes)?;
 //! assert_eq!(counts, Counts { points: 3, watched: 2, passes: 2 });
 //! let plan = &bytes[..3];
 //! assert_eq!(plan, [0, 1, 1]);
@@ -85,64 +85,18 @@
 //! });
 //! assert!(batches.iter().all(|record| record.alarms == 1_000));
 //! ```
+mod answer;
+mod ffi;
 pub mod numbers;
 mod record;
 
+pub use answer::{Counts, Refusal, Report, Verdict};
 pub use record::{Record, Rule};
-
-use std::{error, fmt};
 
 /// The Rust code of docs/SERVICE.md, to be compiled with the examples.
 #[cfg(doctest)]
 #[doc = include_str!("../../docs/SERVICE.md")]
 struct Service;
-
-/// The C calls of the static library.
-mod ffi {
-    extern "C" {
-        /// `#[no_mangle] pub extern "C" fn dapohiru_check(job: &[u8], plan: &[u8], work: &mut [u8]) -> u64`
-        pub fn dapohiru_check(
-            job: *const u8,
-            job_len: usize,
-            plan: *const u8,
-            plan_len: usize,
-            work: *mut u8,
-            work_len: usize,
-        ) -> u64;
-
-        /// `#[no_mangle] pub extern "C" fn dapohiru_event(rule: &[u8], states: u64, symbols: u64, finals: u64, symbol: u64, rec: &mut [u8]) -> u64`
-        pub fn dapohiru_event(
-            rule: *const u8,
-            rule_len: usize,
-            states: u64,
-            symbols: u64,
-            finals: u64,
-            symbol: u64,
-            rec: *mut u8,
-            rec_len: usize,
-        ) -> u64;
-
-        /// `#[no_mangle] pub extern "C" fn dapohiru_plan(job: &[u8], work: &mut [u8], plan: &mut [u8]) -> u64`
-        pub fn dapohiru_plan(
-            job: *const u8,
-            job_len: usize,
-            work: *mut u8,
-            work_len: usize,
-            plan: *mut u8,
-            plan_len: usize,
-        ) -> u64;
-
-        /// `#[no_mangle] pub extern "C" fn dapohiru_list(job: &[u8], work: &mut [u8], listing: &mut [u8]) -> u64`
-        pub fn dapohiru_list(
-            job: *const u8,
-            job_len: usize,
-            work: *mut u8,
-            work_len: usize,
-            listing: *mut u8,
-            listing_len: usize,
-        ) -> u64;
-    }
-}
 
 /// The greatest length of a job file.
 pub const JOB_LEN: usize = 49_914;
@@ -156,55 +110,6 @@ pub const LISTING_LEN: usize = 32_768;
 pub const RULE_LEN: usize = 256;
 /// The length of a record.
 pub const RECORD_LEN: usize = 16;
-
-/// The number of a refusal: 1 for the file's length, 2 for a buffer, 3 to 10 for what the file holds,
-/// 11 and 12 for the plan, 13 for the rule, 14 for the symbol, 15 for the record.
-///
-/// ```
-/// let refusal = dapohiru::plan(b"", &mut [0; 512], &mut [0; 65_536]).unwrap_err();
-/// assert_eq!(refusal, dapohiru::Refusal(3));
-/// assert_eq!(refusal.to_string(), "refused 3");
-/// ```
-#[derive(Clone, Copy, Debug, PartialEq, Eq)]
-pub struct Refusal(pub u64);
-
-impl fmt::Display for Refusal {
-    fn fmt(&self, f: &mut fmt::Formatter<'_>) -> fmt::Result {
-        write!(f, "refused {}", self.0)
-    }
-}
-
-impl error::Error for Refusal {}
-
-/// What planning counts.
-#[derive(Clone, Copy, Debug, PartialEq, Eq)]
-pub struct Counts {
-    /// The event nodes of the job ("points").
-    pub points: u64,
-    /// The points that the plan has watched.
-    pub watched: u64,
-    /// The passes over the points, with the last, which changes nothing.
-    pub passes: u64,
-}
-
-/// What the plan check finds.
-#[derive(Clone, Copy, Debug, PartialEq, Eq)]
-pub enum Verdict {
-    /// On every walk, from every admitted start, the monitor under the plan and the one with all
-    /// points watched alarm at the same events.
-    Faithful,
-    /// There is a walk on which they do not.
-    Different,
-}
-
-/// What the monitor reports of an event that it takes.
-#[derive(Clone, Copy, Debug, PartialEq, Eq)]
-pub enum Report {
-    /// The state moved to is not final.
-    Quiet,
-    /// The state moved to is final.
-    Alarm,
-}
 
 /// Plans: writes the plan of the job of a job file to the start of `plan`, and gives the counts.
 ///
@@ -224,19 +129,19 @@ pub enum Report {
 /// R     0     0     0
 /// P     0     1     0     1     0     0
 /// ";
-/// let counts = plan(job, &mut bytes, &mut work).unwrap();
+/// let counts = plan(job, &mut work, &mut bytes).unwrap();
 /// assert_eq!((counts.points, counts.watched, counts.passes), (1, 0, 2));
 /// assert_eq!(bytes[..2], [0, 7]);
 /// assert!(work.iter().all(|&byte| byte == 0));
 ///
 /// // a cut line is refused as 4, and the plan stays
-/// assert_eq!(plan(&job[..9], &mut bytes, &mut work), Err(Refusal(4)));
+/// assert_eq!(plan(&job[..9], &mut work, &mut bytes), Err(Refusal(4)));
 /// assert_eq!(bytes[..2], [0, 7]);
 /// ```
 #[inline]
-pub fn plan(job: &[u8], plan: &mut [u8], work: &mut [u8]) -> Result<Counts, Refusal> {
+pub fn plan(job: &[u8], work: &mut [u8], plan: &mut [u8]) -> Result<Counts, Refusal> {
     let number = numbers::plan(job, work, plan);
-    match number >> 48 {
+    match number / numbers::ACCEPTED {
         1 => Ok(Counts {
             points: number >> 32 & 0xffff,
             watched: number >> 16 & 0xffff,
@@ -264,7 +169,7 @@ pub fn plan(job: &[u8], plan: &mut [u8], work: &mut [u8]) -> Result<Counts, Refu
 /// R     0     0     0
 /// P     0     1     0     1     0     0
 /// ";
-/// let len = list(job, &mut listing, &mut work).unwrap();
+/// let len = list(job, &mut work, &mut listing).unwrap();
 /// let lines = b"\
 /// W     0     0     1     1     1     0
 /// T     1     0     2
@@ -272,10 +177,10 @@ pub fn plan(job: &[u8], plan: &mut [u8], work: &mut [u8]) -> Result<Counts, Refu
 /// assert_eq!(&listing[..len], lines);
 /// assert_eq!(listing[len], b'?');
 ///
-/// assert_eq!(list(job, &mut listing[1..], &mut work), Err(Refusal(2)));
+/// assert_eq!(list(job, &mut work, &mut listing[1..]), Err(Refusal(2)));
 /// ```
 #[inline]
-pub fn list(job: &[u8], listing: &mut [u8], work: &mut [u8]) -> Result<usize, Refusal> {
+pub fn list(job: &[u8], work: &mut [u8], listing: &mut [u8]) -> Result<usize, Refusal> {
     let number = numbers::list(job, work, listing);
     match number.checked_sub(numbers::ACCEPTED) {
         Some(len) if len <= listing.len() as u64 => Ok(len as usize),

@@ -135,7 +135,7 @@ fn in_header(header: &str) -> Vec<Declared> {
 
 #[test]
 fn header_and_wrapper_declare_the_same_calls() {
-    let mut wrapper = in_wrapper(&text(&top("rust/src/lib.rs")));
+    let mut wrapper = in_wrapper(&text(&top("rust/src/ffi.rs")));
     let mut header = in_header(&text(&top("include/dapohiru.h")));
     wrapper.sort();
     header.sort();
@@ -145,7 +145,7 @@ fn header_and_wrapper_declare_the_same_calls() {
 
 #[test]
 fn wrapper_names_the_signatures_of_the_rattle_source() {
-    let wrapper = fs::read_to_string(top("rust/src/lib.rs")).expect("the wrapper is there");
+    let wrapper = fs::read_to_string(top("rust/src/ffi.rs")).expect("the wrapper is there");
     let folder = fs::read_dir(top("crates/dapohiru/src")).expect("the crate is there");
     // arguments on lines of their own are joined
     let source = |file: std::io::Result<fs::DirEntry>| {
@@ -170,7 +170,7 @@ fn wrapper_names_the_signatures_of_the_rattle_source() {
         let arguments = between(signature, "(", ")").next().expect("arguments");
         let name = between(signature, "fn ", "(").next().expect("a name");
         let flat: Vec<_> = arguments.split(", ").flat_map(spelled).collect();
-        let declared = in_wrapper(&text(&top("rust/src/lib.rs")));
+        let declared = in_wrapper(&text(&top("rust/src/ffi.rs")));
         let of_call = declared.into_iter().find(|call| call.0 == name);
         assert_eq!(of_call.expect("it is declared").1, flat, "{name}");
     }

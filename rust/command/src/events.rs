@@ -1,6 +1,5 @@
 //! The lines of the input of `watch`, and the events that they stand for.
-use crate::job::EVENT;
-use plain::read::Decoded;
+use dapohiru_second::job::{Job, EVENT};
 use std::io::{self, BufRead};
 
 /// The longest line that is kept; no event is as long.
@@ -15,7 +14,7 @@ pub enum Event<'a> {
 }
 
 /// The event of a job that a line stands for, or why it stands for none.
-pub fn event<'a>(job: &Decoded, line: &'a [u8]) -> Result<Event<'a>, String> {
+pub fn event<'a>(job: &Job, line: &'a [u8]) -> Result<Event<'a>, String> {
     let shown = line.escape_ascii();
     let text = line.trim_ascii();
     if line.len() > LONGEST {
@@ -33,7 +32,7 @@ pub fn event<'a>(job: &Decoded, line: &'a [u8]) -> Result<Event<'a>, String> {
     if is_word {
         return Ok(Event::Word(number, digits));
     }
-    let last = job.node_count as u64 - 1;
+    let last = job.nodes.len() as u64 - 1;
     match usize::try_from(number) {
         Ok(node) if number <= last && job.nodes[node].kind == EVENT => Ok(Event::Point(node)),
         _ if number <= last => Err(format!("node {number} is no event node")),

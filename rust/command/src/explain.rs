@@ -7,7 +7,7 @@ use crate::table::{table, Side};
 struct Found {
     node: usize,
     symbol: usize,
-    before: u16,
+    before: u64,
     classes: usize,
     nop: bool,
     watched: bool,
@@ -25,7 +25,7 @@ pub fn explained(listing: &[u8], states: usize, names: &Names) -> String {
                 let found = Found {
                     node,
                     symbol,
-                    before: before as u16,
+                    before: before as u64,
                     classes,
                     nop: nop == 1,
                     watched: watched == 1,

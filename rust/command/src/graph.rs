@@ -1,8 +1,8 @@
 //! The command `graph`: the flow graph of a job, with its plan.
 use crate::args::{Command, Given};
-use crate::job::{self, set, CALL, EVENT};
+use crate::job::{self, set};
 use crate::{dot, input, output, refusal};
-use plain::read::{Decoded, Node};
+use dapohiru_second::job::{Job, Node, CALL, EVENT};
 use std::io::{self, IsTerminal};
 
 pub const COMMAND: Command = Command {
@@ -63,12 +63,12 @@ fn run(given: &Given) -> Result<u8, String> {
 }
 
 /// The graph of a job under a plan, as Graphviz reads it.
-fn drawn(job: &Decoded, plan: &[u8]) -> String {
+fn drawn(job: &Job, plan: &[u8]) -> String {
     let mut text = "digraph job {\n  node [fontname=\"Helvetica\"];\n".to_string();
-    for (number, node) in job.nodes[..job.node_count].iter().enumerate() {
+    for (number, node) in job.nodes.iter().enumerate() {
         text += &drawn_node(number, node, plan[number] == 1);
     }
-    for (from, to) in &job.edges[..job.edge_count] {
+    for (from, to) in &job.edges {
         text += &format!("  n{from} -> n{to};\n");
     }
     text + "}\n"
@@ -98,7 +98,7 @@ fn drawn_node(number: usize, node: &Node, watched: bool) -> String {
             "  entry{number} [label=\"entry {states}\", shape=plaintext];\n  entry{number} -> n{number};\n"
         );
     }
-    if node.exit {
+    if node.exit == 1 {
         let after = match node.after {
             0 => String::new(),
             after => format!("\\nafter {}", set(after)),

@@ -1,20 +1,16 @@
-//! Jobs that the proved calls accept, as the plain reader decodes them.
+//! Jobs that the proved calls accept, as the second reader has them.
 use crate::input::{Input, Plan};
 use crate::{output, refusal};
 use dapohiru::{Counts, Refusal, Rule, Verdict};
-use plain::read::Decoded;
-
-/// The kind of an event node.
-pub const EVENT: u8 = 1;
-/// The kind of a call.
-pub const CALL: u8 = 2;
+use dapohiru_second::job::{members, Job};
+use dapohiru_second::reading;
 
 /// The plan that the proved call makes, with its counts.
 pub fn planned(file: &[u8]) -> Result<(Vec<u8>, Counts), Refusal> {
     // planning writes a byte, 0 or 1, for each node and no others
     const UNWRITTEN: u8 = 255;
     let mut plan = vec![UNWRITTEN; dapohiru::PLAN_LEN];
-    let counts = dapohiru::plan(file, &mut plan, &mut vec![0; dapohiru::WORK_LEN])?;
+    let counts = dapohiru::plan(file, &mut vec![0; dapohiru::WORK_LEN], &mut plan)?;
     plan.retain(|&byte| byte != UNWRITTEN);
     Ok((plan, counts))
 }
@@ -38,32 +34,26 @@ pub fn given_plan(job: &Input, plan: Plan) -> Result<Vec<u8>, String> {
 }
 
 /// The job of a file, once the proved call has accepted it.
-pub fn accepted(job: &Input) -> Result<Box<Decoded>, String> {
+pub fn accepted(job: &Input) -> Result<Job, String> {
     // a plan of no bytes is refused as 11 where nothing is wrong with the file
     match dapohiru::check(&job.bytes, &[], &mut vec![0; dapohiru::WORK_LEN]) {
         Err(Refusal(11)) => {}
         Err(refusal) => return Err(refusal::of_job(job, refusal)),
         Ok(_) => unreachable!("no job has no node"),
     }
-    let mut decoded = Decoded::new();
     let shown = &job.shown;
-    decoded.decode(&job.bytes).map_err(|number| {
+    reading::job(&job.bytes).map_err(|number| {
         format!("{shown}: the library accepts the file, and the second reader refuses it as {number}: nothing can be shown of it")
-    })?;
-    Ok(decoded)
+    })
 }
 
 /// The rule of a job, as the event step takes it.
-pub fn rule(job: &Decoded) -> Rule {
-    let mut table = [0; 256];
-    for (row, next) in table.chunks_exact_mut(16).zip(&job.next) {
-        row.copy_from_slice(next);
-    }
+pub fn rule(job: &Job) -> Rule {
     Rule {
-        table,
-        states: job.states as u64,
-        symbols: job.symbols as u64,
-        finals: u64::from(job.finals),
+        table: job.table(),
+        states: job.states() as u64,
+        symbols: job.symbols,
+        finals: job.final_set(),
     }
 }
 
@@ -75,8 +65,7 @@ pub fn line(plan: &[u8]) -> String {
 }
 
 /// A set in braces, by its members.
-pub fn set(set: u16) -> String {
-    let members = (0..16).filter(|member| set >> member & 1 == 1);
-    let members: Vec<_> = members.map(|member| member.to_string()).collect();
+pub fn set(set: u64) -> String {
+    let members: Vec<_> = members(set).map(|member| member.to_string()).collect();
     format!("{{{}}}", members.join(","))
 }

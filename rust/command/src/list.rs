@@ -35,7 +35,7 @@ fn run(given: &Given) -> Result<u8, String> {
     }
     let file = input::job(given.name(0))?;
     let mut listing = vec![0; dapohiru::LISTING_LEN];
-    match dapohiru::list(&file.bytes, &mut listing, &mut vec![0; dapohiru::WORK_LEN]) {
+    match dapohiru::list(&file.bytes, &mut vec![0; dapohiru::WORK_LEN], &mut listing) {
         Ok(len) => listing.truncate(len),
         Err(refusal) => {
             let told = refusal::of_job(&file, refusal);
@@ -52,8 +52,8 @@ fn run(given: &Given) -> Result<u8, String> {
     }
     if given.has("--explain") {
         let job = job::accepted(&file)?;
-        let names = Names::read(names, job.symbols)?;
-        listing = explained(&listing, job.states, &names).into_bytes();
+        let names = Names::read(names, job.symbols as usize)?;
+        listing = explained(&listing, job.states(), &names).into_bytes();
     }
     output::print(&listing).map(|()| 0)
 }

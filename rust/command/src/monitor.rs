@@ -3,12 +3,12 @@ use crate::events::{event, next_line, Event};
 use crate::job::rule;
 use crate::output;
 use dapohiru::{Record, Refusal, Report, Rule};
-use plain::read::Decoded;
+use dapohiru_second::job::Job;
 use std::io::BufRead;
 
 /// A monitor, and how many events it was given or passed by and how many lines were no event.
 pub struct Watch<'a> {
-    job: &'a Decoded,
+    job: &'a Job,
     rule: Rule,
     plan: Vec<u8>,
     record: Record,
@@ -19,7 +19,7 @@ pub struct Watch<'a> {
 
 impl<'a> Watch<'a> {
     /// A monitor of a job under a plan, which begins in this state.
-    pub fn begin(job: &'a Decoded, plan: Vec<u8>, state: u64) -> Self {
+    pub fn begin(job: &'a Job, plan: Vec<u8>, state: u64) -> Self {
         Watch {
             job,
             rule: rule(job),
@@ -84,7 +84,7 @@ impl<'a> Watch<'a> {
                 return Ok(());
             }
             Event::Point(node) => {
-                let symbol = u64::from(self.job.nodes[node].value);
+                let symbol = self.job.nodes[node].value;
                 (symbol, format!("node {node}, symbol {symbol}"))
             }
             Event::Word(symbol, _) => (symbol, format!("symbol {symbol} of a word")),

@@ -1,35 +1,26 @@
-//! A second reader that finds the place of a job file's first fault, and what is expected there.
-use crate::lines::{Fault, Lines};
+//! The place of a job file's first fault, and what is expected there, in words: the second reader says
+//! where it stops.
+use crate::fault::Fault;
+use dapohiru_second::reading::{self, Stop};
 
-/// The sizes of a job.
-#[derive(Clone, Copy)]
-struct Sizes {
-    states: u64,
-    symbols: u64,
-    nodes: u64,
-    edges: u64,
-}
-
-impl Sizes {
-    /// The highest value of a node of this kind, and what it is.
-    fn value(self, kind: u64) -> (u64, String) {
-        match kind {
-            0 => (0, "the value of a plain node, 0".to_string()),
-            1 => {
-                let last = self.symbols - 1;
-                (last, format!("the symbol of an event node, 0 to {last}"))
-            }
-            _ => set("the call's set", self.symbols, "symbols"),
-        }
-    }
-}
-
-/// The highest number of a set of so many members, and what it is.
-fn set(name: &str, count: u64, members: &str) -> (u64, String) {
-    let (highest, last) = ((1 << count) - 1, count - 1);
-    let expected = format!("{name}, a set of {members}, 0 to {highest} (of {members} 0 to {last})");
-    (highest, expected)
-}
+/// The fields of a J line, with their limits.
+const SIZES: [(&str, u64, u64); 4] = [
+    ("S, the number of states", 1, 16),
+    ("A, the number of symbols", 1, 16),
+    ("N, the number of nodes", 1, 512),
+    ("E, the number of edges", 0, 2048),
+];
+/// The fields of a P line.
+const NODE: [&str; 6] = [
+    "the node",
+    "the kind",
+    "the value",
+    "the entry set",
+    "the exit mark",
+    "the after set",
+];
+/// The fields of an F line.
+const EDGE: [&str; 2] = ["the node that the edge leaves", "the node that it goes to"];
 
 /// The first fault of a job file, if it has one.
 pub fn first_fault(file: &[u8]) -> Option<Fault> {
@@ -41,143 +32,147 @@ pub fn first_fault(file: &[u8]) -> Option<Fault> {
             expected: format!("at most {} bytes", dapohiru::JOB_LEN),
         });
     }
-    Reader(Lines::of(file)).read().err()
+    let stop = reading::stop(file)?;
+    match stop.number {
+        5 => sizes(&stop),
+        6 => rule(&stop),
+        7 => node(&stop),
+        8 => edge(&stop),
+        9 => bytes_follow(&stop),
+        10 => Some(no_entry(&stop)),
+        _ => Some(form(&stop)),
+    }
 }
 
-/// The second reader.
-struct Reader<'a>(Lines<'a>);
+/// The names of the fields of an R line.
+fn rule_names(symbols: u64) -> Vec<String> {
+    let mut names = vec!["the state".to_string(), "the final mark".to_string()];
+    names.extend((0..symbols).map(|symbol| format!("the next state on symbol {symbol}")));
+    names
+}
 
-impl Reader<'_> {
-    /// Reads the whole file.
-    fn read(&mut self) -> Result<(), Fault> {
-        let sizes = self.sizes()?;
-        (0..sizes.states).try_for_each(|state| self.rule(sizes, state))?;
-        let first = self.0.taken + 1;
-        let mut entries = 0;
-        for node in 0..sizes.nodes {
-            entries |= self.node(sizes, node)?;
+/// The line due is missing, or has not its form.
+fn form(stop: &Stop) -> Fault {
+    let [states, symbols, nodes, _] = stop.sizes;
+    let due = stop.due as u64 - 1;
+    let (letter, names) = match due {
+        0 => ('J', SIZES.map(|(name, ..)| name.to_string()).to_vec()),
+        _ if due <= states => ('R', rule_names(symbols)),
+        _ if due <= states + nodes => ('P', NODE.map(str::to_string).to_vec()),
+        _ => ('F', EDGE.map(str::to_string).to_vec()),
+    };
+    Fault::of_form(stop, letter, &names)
+}
+
+/// The fault of the first field of which something else is expected.
+fn first_wrong(stop: &Stop, wrong: impl Fn(usize, u64) -> Option<String>) -> Option<Fault> {
+    let numbers = stop.numbers.iter().enumerate();
+    let mut wrong = numbers.filter_map(|(field, &number)| Some((field, wrong(field, number)?)));
+    let (field, expected) = wrong.next()?;
+    Some(Fault::of_field(stop, field, expected))
+}
+
+/// A number of the J line is outside its limits.
+fn sizes(stop: &Stop) -> Option<Fault> {
+    first_wrong(stop, |field, number| {
+        let (name, low, high) = SIZES[field];
+        let good = (low..=high).contains(&number);
+        (!good).then(|| format!("{name}, {low} to {high}"))
+    })
+}
+
+/// An R line is refused.
+fn rule(stop: &Stop) -> Option<Fault> {
+    let [states, symbols, ..] = stop.sizes;
+    let (names, last) = (rule_names(symbols), states - 1);
+    // the J line comes before the R lines
+    let state = stop.due as u64 - 2;
+    first_wrong(stop, |field, number| {
+        let name = &names[field];
+        let (good, expected) = match field {
+            0 => (number == state, format!("{name}, {state} in this line")),
+            1 => (number <= 1, format!("{name}, 0 or 1")),
+            _ => (number <= last, format!("{name}, 0 to {last}")),
+        };
+        (!good).then_some(expected)
+    })
+}
+
+/// The highest number of a set of so many members, and what it is.
+fn set(name: &str, count: u64, members: &str) -> (u64, String) {
+    let (highest, last) = ((1 << count) - 1, count - 1);
+    let expected = format!("{name}, a set of {members}, 0 to {highest} (of {members} 0 to {last})");
+    (highest, expected)
+}
+
+/// The highest value of a node of this kind, and what it is.
+fn value(kind: u64, symbols: u64) -> (u64, String) {
+    match kind {
+        0 => (0, "the value of a plain node, 0".to_string()),
+        1 => {
+            let last = symbols - 1;
+            (last, format!("the symbol of an event node, 0 to {last}"))
         }
-        let last = self.0.taken;
-        let mut before = None;
-        for _ in 0..sizes.edges {
-            before = Some(self.edge(sizes, before)?);
-        }
-        if let Some(&byte) = self.0.rest.first() {
-            return Err(Fault {
-                number: 9,
-                place: Some((self.0.taken + 1, 1, 1)),
-                found: format!("`{}`", byte.escape_ascii()),
-                expected: "the end of the file".to_string(),
-            });
-        }
-        if entries == 0 {
-            return Err(Fault {
-                number: 10,
-                place: None,
-                found: "no node with an entry set".to_string(),
-                expected: format!(
-                    "a set of start states above 0 in columns 20 to 25 of one of the lines {first} to {last}"
-                ),
-            });
-        }
-        Ok(())
+        _ => set("the call's set", symbols, "symbols"),
     }
+}
 
-    /// The J line.
-    fn sizes(&mut self) -> Result<Sizes, Fault> {
-        let limits = [
-            ("S, the number of states", 1, 16),
-            ("A, the number of symbols", 1, 16),
-            ("N, the number of nodes", 1, 512),
-            ("E, the number of edges", 0, 2048),
-        ];
-        let numbers = self
-            .0
-            .numbers('J', &limits.map(|(name, ..)| name.to_string()))?;
-        for (field, (name, low, high)) in limits.into_iter().enumerate() {
-            if !(low..=high).contains(&numbers[field]) {
-                let expected = format!("{name}, {low} to {high}");
-                return Err(self.0.fault(5, field, numbers[field], expected));
-            }
-        }
-        Ok(Sizes {
-            states: numbers[0],
-            symbols: numbers[1],
-            nodes: numbers[2],
-            edges: numbers[3],
-        })
+/// A P line is refused.
+fn node(stop: &Stop) -> Option<Fault> {
+    let [states, symbols, ..] = stop.sizes;
+    let (kind, exit) = (stop.numbers[1], stop.numbers[4]);
+    let node = stop.due as u64 - 2 - states;
+    first_wrong(stop, |field, number| {
+        let (highest, expected) = match field {
+            0 => (node, format!("the node, {node} in this line")),
+            1 => (2, "the kind, 0 plain, 1 event or 2 call".to_string()),
+            2 => value(kind, symbols),
+            3 => set("the entry set", states, "states"),
+            4 => (1, "the exit mark, 0 or 1".to_string()),
+            _ if exit == 0 => (0, "the after set, 0 where the exit mark is 0".to_string()),
+            _ => set("the after set", symbols, "symbols"),
+        };
+        (number > highest || (field == 0 && number != node)).then_some(expected)
+    })
+}
+
+/// An F line is refused: it names a node that there is not, or does not ascend.
+fn edge(stop: &Stop) -> Option<Fault> {
+    let last = stop.sizes[2] - 1;
+    let edge = (stop.numbers[0], stop.numbers[1]);
+    if edge.0 > last || edge.1 > last {
+        return first_wrong(stop, |field, number| {
+            (number > last).then(|| format!("{}, 0 to {last}", EDGE[field]))
+        });
     }
+    let (from, to) = stop.before?;
+    let expected = format!(
+        "an edge after {from} to {to}, since edges ascend by the first node and then by the second"
+    );
+    let field = usize::from(edge.0 == from);
+    Some(Fault::of_field(stop, field, expected))
+}
 
-    /// The R line of a state.
-    fn rule(&mut self, sizes: Sizes, state: u64) -> Result<(), Fault> {
-        let mut names = vec!["the state".to_string(), "the final mark".to_string()];
-        names.extend((0..sizes.symbols).map(|symbol| format!("the next state on symbol {symbol}")));
-        let numbers = self.0.numbers('R', &names)?;
-        for (field, (name, &number)) in names.iter().zip(&numbers).enumerate() {
-            let last = sizes.states - 1;
-            let (good, expected) = match field {
-                0 => (number == state, format!("{name}, {state} in this line")),
-                1 => (number <= 1, format!("{name}, 0 or 1")),
-                _ => (number <= last, format!("{name}, 0 to {last}")),
-            };
-            if !good {
-                return Err(self.0.fault(6, field, number, expected));
-            }
-        }
-        Ok(())
-    }
+/// Bytes follow the last line.
+fn bytes_follow(stop: &Stop) -> Option<Fault> {
+    Some(Fault {
+        number: 9,
+        place: Some((stop.due + 1, 1, 1)),
+        found: format!("`{}`", stop.rest.first()?.escape_ascii()),
+        expected: "the end of the file".to_string(),
+    })
+}
 
-    /// The P line of a node, which gives its entry set.
-    fn node(&mut self, sizes: Sizes, node: u64) -> Result<u64, Fault> {
-        let names = [
-            "the node",
-            "the kind",
-            "the value",
-            "the entry set",
-            "the exit mark",
-            "the after set",
-        ];
-        let numbers = self.0.numbers('P', &names.map(str::to_string))?;
-        for (field, &number) in numbers.iter().enumerate() {
-            let (highest, expected) = match field {
-                0 => (node, format!("the node, {node} in this line")),
-                1 => (2, "the kind, 0 plain, 1 event or 2 call".to_string()),
-                2 => sizes.value(numbers[1]),
-                3 => set("the entry set", sizes.states, "states"),
-                4 => (1, "the exit mark, 0 or 1".to_string()),
-                _ if numbers[4] == 0 => {
-                    (0, "the after set, 0 where the exit mark is 0".to_string())
-                }
-                _ => set("the after set", sizes.symbols, "symbols"),
-            };
-            if number > highest || (field == 0 && number != node) {
-                return Err(self.0.fault(7, field, number, expected));
-            }
-        }
-        Ok(numbers[3])
-    }
-
-    /// An F line, which comes after the edge before it.
-    fn edge(&mut self, sizes: Sizes, before: Option<(u64, u64)>) -> Result<(u64, u64), Fault> {
-        let names = ["the node that the edge leaves", "the node that it goes to"];
-        let numbers = self.0.numbers('F', &names.map(str::to_string))?;
-        let last = sizes.nodes - 1;
-        for (field, name) in names.into_iter().enumerate() {
-            if numbers[field] > last {
-                let expected = format!("{name}, 0 to {last}");
-                return Err(self.0.fault(8, field, numbers[field], expected));
-            }
-        }
-        let edge = (numbers[0], numbers[1]);
-        match before {
-            Some((from, to)) if edge <= (from, to) => {
-                let field = usize::from(edge.0 == from);
-                let expected = format!(
-                    "an edge after {from} to {to}, since edges ascend by the first node and then by the second"
-                );
-                Err(self.0.fault(8, field, numbers[field], expected))
-            }
-            _ => Ok(edge),
-        }
+/// No node is an entry.
+fn no_entry(stop: &Stop) -> Fault {
+    let [states, _, nodes, _] = stop.sizes;
+    let (first, last) = (states + 2, states + nodes + 1);
+    Fault {
+        number: 10,
+        place: None,
+        found: "no node with an entry set".to_string(),
+        expected: format!(
+            "a set of start states above 0 in columns 20 to 25 of one of the lines {first} to {last}"
+        ),
     }
 }

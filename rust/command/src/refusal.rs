@@ -1,10 +1,11 @@
 //! What is said of a refusal: its number, and where the second reader finds the same number also the
 //! meaning, the place and what was expected there.
+use crate::fault::Fault;
 use crate::input::{Input, Plan};
-use crate::lines::Fault;
 use crate::place::first_fault;
 use dapohiru::Refusal;
-use plain::read::Decoded;
+use dapohiru_second::job::EVENT;
+use dapohiru_second::reading;
 
 /// What is said of a refused job file.
 pub fn of_job(job: &Input, refusal: Refusal) -> String {
@@ -38,9 +39,7 @@ fn told(shown: &str, refusal: Refusal, fault: Option<Fault>) -> String {
 
 /// The first fault of a plan for a job that is accepted.
 fn plan_fault(job: &Input, plan: &[u8]) -> Option<Fault> {
-    let mut decoded = Decoded::new();
-    decoded.decode(&job.bytes).ok()?;
-    let nodes = &decoded.nodes[..decoded.node_count];
+    let nodes = reading::job(&job.bytes).ok()?.nodes;
     let fault = |number, column, found, expected| {
         Some(Fault {
             number,
@@ -58,10 +57,10 @@ fn plan_fault(job: &Input, plan: &[u8]) -> Option<Fault> {
         let expected = format!("a digit for each of the {} nodes and no more", nodes.len());
         return fault(11, place + 1, found, expected);
     }
-    let place = |(node, &digit): (usize, &u8)| digit > u8::from(nodes[node].kind == 1);
+    let place = |(node, &digit): (usize, &u8)| digit > u8::from(nodes[node].kind == EVENT);
     let node = plan.iter().enumerate().position(place)?;
     let expected = match nodes[node].kind {
-        1 => format!("0 or 1 at node {node}, an event node"),
+        EVENT => format!("0 or 1 at node {node}, an event node"),
         _ => format!("0 at node {node}, which is no event node"),
     };
     fault(12, node + 1, format!("`{}`", plan[node]), expected)

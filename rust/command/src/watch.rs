@@ -1,10 +1,10 @@
 //! The command `watch`: the monitor of a job, under a plan or with all points watched.
 use crate::args::{Command, Given};
 use crate::events::decimal;
-use crate::job::{self, EVENT};
+use crate::job;
 use crate::monitor::Watch;
 use crate::{input, output};
-use plain::read::{Decoded, Node};
+use dapohiru_second::job::Job;
 use std::ffi::OsStr;
 use std::io;
 
@@ -42,30 +42,23 @@ fn run(given: &Given) -> Result<u8, String> {
     let file = input::job(name)?;
     let job = job::accepted(&file)?;
     let plan = match plan {
-        None => all_watched(&job),
+        None => job.all_watched(),
         Some(plan) => job::given_plan(&file, input::plan(plan)?)?,
     };
     let state = start(&job, given.value("--state"))?;
     Watch::begin(&job, plan, state).over(io::stdin().lock())
 }
 
-/// The plan that watches every point.
-fn all_watched(job: &Decoded) -> Vec<u8> {
-    let nodes = &job.nodes[..job.node_count];
-    let mark = |node: &Node| u8::from(node.kind == EVENT);
-    nodes.iter().map(mark).collect()
-}
-
 /// The state to begin in: the one asked for, or the lowest admitted state of the lowest entry.
-fn start(job: &Decoded, asked: Option<&OsStr>) -> Result<u64, String> {
-    let nodes = &job.nodes[..job.node_count];
+fn start(job: &Job, asked: Option<&OsStr>) -> Result<u64, String> {
+    let nodes = &job.nodes;
     let Some(asked) = asked else {
         let entry = nodes.iter().find(|node| node.entry != 0);
         let entry = entry.expect("an accepted job has an entry");
         return Ok(u64::from(entry.entry.trailing_zeros()));
     };
     let asked = asked.to_string_lossy();
-    let last = job.states as u64 - 1;
+    let last = job.states() as u64 - 1;
     match decimal(asked.as_bytes()) {
         Some(state) if state <= last => {
             if nodes.iter().all(|node| node.entry >> state & 1 == 0) {

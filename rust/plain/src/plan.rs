@@ -41,7 +41,7 @@ pub fn plan(checker: &mut Checker, file: &[u8]) -> Result<Plan, u64> {
 impl Checker {
     /// Writes the plan of the job that a file spells to the start of a plan buffer, or gives the
     /// refusal. Nothing is allocated.
-    pub fn plan(&mut self, file: &[u8], plan: &mut [u8], work: &mut [u8]) -> Result<Counts, u64> {
+    pub fn plan(&mut self, file: &[u8], work: &mut [u8], plan: &mut [u8]) -> Result<Counts, u64> {
         if file.len() > LONGEST {
             return Err(1);
         }

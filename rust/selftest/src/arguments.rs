@@ -1,7 +1,7 @@
 //! The command line.
+use dapohiru_second::{slip, step};
 use std::ffi::OsString;
 use std::ops::Range;
-use walks::{slip, stepping};
 
 pub const USAGE: &str = "\
 usage: dapohiru-selftest SEED N
@@ -40,7 +40,7 @@ pub struct Rounds {
 #[derive(Clone, Copy, Default)]
 pub struct Slips {
     pub walks: Option<slip::Slip>,
-    pub step: Option<stepping::Slip>,
+    pub step: Option<step::Slip>,
 }
 
 /// What the arguments ask for, or in words what is wrong with them.
@@ -108,7 +108,7 @@ fn take_slip(words: &mut Vec<String>) -> Result<Slips, String> {
         let name = taken.get(1).ok_or("--slip has no name")?;
         slips = Slips {
             walks: slip::Slip::named(name),
-            step: stepping::Slip::named(name),
+            step: step::Slip::named(name),
         };
         if slips.words().is_none() {
             return Err(format!("'{name}' is no slip"));

@@ -1,12 +1,13 @@
 //! Buffers of all lengths around the limits, in every place of every call.
-use crate::library::LIBRARY;
-use crate::memory::{exact, filled, Calls};
-use walks::call::{LONGEST, WORK};
-use walks::library::ACCEPTED;
-use walks::random::Random;
-use walks::samples::pair;
-use walks::served::Service;
-use walks::stepping::{self, Answer, Second};
+use crate::calls::{exact, filled, Calls};
+use dapohiru::numbers::ACCEPTED;
+use dapohiru_compare::library::CALLS;
+use dapohiru_generators::events::Call;
+use dapohiru_generators::random::Random;
+use dapohiru_generators::samples::pair;
+use dapohiru_second::reading::{LONGEST, WORK};
+use dapohiru_second::serving::Service;
+use dapohiru_second::step::{Answer, Second};
 
 /// The lengths that every buffer has in turn.
 const LENGTHS: [usize; 17] = [
@@ -34,11 +35,11 @@ pub fn run(calls: &mut Calls, random: &mut Random) -> Result<(), String> {
 fn plan_and_listing_buffers(calls: &mut Calls) -> Result<(), String> {
     let file = pair().file();
     for service in Service::BOTH {
-        let accepted = calls.serve(service, &file, service.least(), WORK);
+        let accepted = calls.serve(service, &file, WORK, service.least());
         for lent in LENGTHS {
             for work in LENGTHS {
                 let fits = lent >= service.least() && work >= WORK;
-                let number = calls.serve(service, &file, lent, work);
+                let number = calls.serve(service, &file, work, lent);
                 let what = format!("{service:?} with {lent} and {work} bytes");
                 same(number, if fits { accepted } else { 2 }, &what)?;
             }
@@ -80,7 +81,7 @@ fn files(calls: &mut Calls) -> Result<(), String> {
             _ => 4,
         };
         for service in Service::BOTH {
-            let number = calls.serve(service, &file, service.least(), WORK);
+            let number = calls.serve(service, &file, WORK, service.least());
             let number = if number > ACCEPTED { ACCEPTED } else { number };
             same(number, wanted, &format!("{service:?} of {len} bytes"))?;
         }
@@ -95,7 +96,7 @@ fn rules_and_records(calls: &mut Calls) -> Result<(), String> {
     for rule in LENGTHS {
         for record in LENGTHS {
             let (table, mut lent) = (filled(rule, 0), filled(record, 0));
-            let number = (LIBRARY.event)(&table, 16, 16, 0, 15, &mut lent);
+            let number = (CALLS.event)(&table, 16, 16, 0, 15, &mut lent);
             let wanted = match (rule, record) {
                 (256, 16) => ACCEPTED,
                 (256, _) => 15,
@@ -118,11 +119,11 @@ fn rules_and_records(calls: &mut Calls) -> Result<(), String> {
 /// Calls of the event step with any rule, symbol and record, each beside the second step.
 fn events(calls: &mut Calls, random: &mut Random, second: Second) -> Result<(), String> {
     for _ in 0..5_000 {
-        let call = stepping::Call::any(random);
+        let call = Call::any(random);
         let (rule, mut record) = (exact(call.rule()), exact(call.record()));
         let (states, symbols, finals) = (call.states, call.symbols, call.finals);
         let symbol = call.symbol;
-        let number = (LIBRARY.event)(&rule, states, symbols, finals, symbol, &mut record);
+        let number = (CALLS.event)(&rule, states, symbols, finals, symbol, &mut record);
         let answer = match number.checked_sub(ACCEPTED) {
             Some(0) => Answer::Quiet,
             Some(1) => Answer::Alarm,
@@ -144,6 +145,7 @@ fn events(calls: &mut Calls, random: &mut Random, second: Second) -> Result<(), 
 #[cfg(test)]
 mod tests {
     use super::*;
+    use dapohiru_second::step::Slip;
 
     #[test]
     fn every_slip_of_the_second_step_is_a_difference() {
@@ -152,7 +154,7 @@ mod tests {
             events(&mut Calls::default(), &mut random, Second { slip })
         };
         assert_eq!(found(None), Ok(()));
-        for &slip in stepping::Slip::ALL {
+        for &slip in Slip::ALL {
             let why = found(Some(slip)).expect_err(&format!("{slip:?}"));
             assert!(why.contains(", and by the second step "), "{why}");
         }

@@ -1,7 +1,8 @@
 //! `dapohiru-selftest`: the C calls of the static library beside the second implementation that walks.
 mod arguments;
+mod calls;
+mod found;
 mod lengths;
-mod library;
 mod memory;
 mod progress;
 mod rounds;
@@ -10,14 +11,9 @@ mod soak;
 mod tally;
 
 use arguments::{Asked, USAGE};
+use found::Found;
 use std::io::{self, Write};
 use std::process::ExitCode;
-
-/// Whether the library did what it should.
-pub enum Found {
-    Nothing,
-    Difference,
-}
 
 /// Does what is asked, and writes what it found.
 fn answer(asked: &Asked, out: &mut impl Write) -> io::Result<Found> {

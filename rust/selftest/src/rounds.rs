@@ -1,23 +1,27 @@
 //! One round: random calls that its seed and number determine, each beside the second implementation.
 use crate::arguments::Slips;
-use crate::library::GUARDED;
 use crate::tally::Tally;
-use plain::read::Decoded;
-use walks::checking;
-use walks::damage::damaged;
-use walks::job::Job;
-use walks::large::{self, Order};
-use walks::library::ACCEPTED;
-use walks::promise;
-use walks::random::Random;
-use walks::samples::pair;
-use walks::served::{Given, Service};
-use walks::serving;
-use walks::sized::FULL;
-use walks::spread::Spread;
-use walks::stepping::{compare, Call, Second};
-use walks::walk::Walks;
-use walks::{rings, small};
+use dapohiru::numbers::ACCEPTED;
+use dapohiru_compare::checking;
+use dapohiru_compare::library::GUARDED;
+use dapohiru_compare::promise;
+use dapohiru_compare::serving;
+use dapohiru_compare::step::compare;
+use dapohiru_generators::damage::damaged;
+use dapohiru_generators::events::Call;
+use dapohiru_generators::large::{self, Order};
+use dapohiru_generators::mixed;
+use dapohiru_generators::random::Random;
+use dapohiru_generators::rings;
+use dapohiru_generators::samples::pair;
+use dapohiru_generators::sized::{self, FULL};
+use dapohiru_generators::small;
+use dapohiru_generators::spread::Spread;
+use dapohiru_second::job::Job;
+use dapohiru_second::reading;
+use dapohiru_second::serving::{Given, Service};
+use dapohiru_second::step::Second;
+use dapohiru_second::walk::Walks;
 
 /// What rounds use again and again.
 pub struct Rounds {
@@ -25,7 +29,6 @@ pub struct Rounds {
     slips: Slips,
     serving: serving::Memory,
     checking: checking::Memory,
-    decoded: Box<Decoded>,
     pub tally: Tally,
 }
 
@@ -37,7 +40,6 @@ impl Rounds {
             slips,
             serving: serving::Memory::new(GUARDED),
             checking: checking::Memory::new(GUARDED),
-            decoded: Decoded::new(),
             tally: Tally::default(),
         }
     }
@@ -101,17 +103,15 @@ impl Rounds {
         self.check_cases(job, &cases)
     }
 
-    /// A damaged file in all three calls; the plain reader says what it deserves.
+    /// A damaged file in all three calls; the second reader says what it deserves.
     fn damaged(&mut self, random: &mut Random) -> Result<(), String> {
         for _ in 0..8 {
             let whole = small::job(random);
             let file = damaged(random, &whole);
-            let unread = self.decoded.decode(&file).err();
+            let read = reading::job(&file);
+            let unread = read.as_ref().err().copied();
             // a file that is refused spells no job, and any will do for what is given
-            let job = match unread {
-                None => self.decoded.job(),
-                Some(_) => pair(),
-            };
+            let job = read.unwrap_or_else(|_| pair());
             let cases = Service::BOTH.map(|service| serving::Case {
                 file: file.clone(),
                 unread,
@@ -146,7 +146,7 @@ impl Rounds {
 
     /// Both halves of the third promise on the plan that the library writes.
     fn walk(&mut self, random: &mut Random) -> Result<(), String> {
-        let job = promise::job(random);
+        let job = mixed::job(random);
         let file = job.file();
         let said = |why: String| format!("{why}; job:\n{}", String::from_utf8_lossy(&file));
         let mut plan = [7; dapohiru::PLAN_LEN];
@@ -180,7 +180,7 @@ impl Rounds {
     /// A job of 512 nodes with long loops, or of the longest file, in all three calls.
     fn large(&mut self, random: &mut Random) -> Result<(), String> {
         let job = match random.below(4) {
-            0 => Job::random(random, FULL),
+            0 => sized::job(random, FULL),
             1 => large::job(random, Order::Flow),
             _ => large::job(random, Order::Parts),
         };

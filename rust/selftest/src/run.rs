@@ -1,8 +1,8 @@
 //! Rounds one after another, up to the first difference.
 use crate::arguments;
+use crate::found::Found;
 use crate::progress::Progress;
 use crate::rounds::Rounds;
-use crate::Found;
 use std::any::Any;
 use std::io::{self, Write};
 use std::panic::{catch_unwind, AssertUnwindSafe};

@@ -1,10 +1,10 @@
 //! The event step for a given count of events, beside the plain step.
+use crate::found::Found;
 use crate::progress::Progress;
-use crate::Found;
 use dapohiru::numbers::{self, ACCEPTED};
+use dapohiru_generators::random::Random;
 use std::io::{self, Write};
 use std::time::{Duration, Instant};
-use walks::random::Random;
 
 /// Events between two comparisons.
 const BATCH: u64 = 4_096;
@@ -50,7 +50,8 @@ impl Monitor {
         let (mut wanted, before) = (0, record);
         for &symbol in symbols {
             let (size, finals) = (self.size, self.finals);
-            let taken = plain::event::event(&self.rule, size, size, finals, symbol, &mut record);
+            let taken =
+                dapohiru_plain::event::event(&self.rule, size, size, finals, symbol, &mut record);
             wanted += u64::from(taken.map_err(|number| format!("plain step: {number}"))?);
         }
         if (alarms, self.record) == (wanted, record) {

@@ -1,9 +1,10 @@
 //! What the rounds came to.
+use dapohiru_compare::checking;
+use dapohiru_compare::promise::{Needed, Walked};
+use dapohiru_compare::records;
+use dapohiru_compare::serving;
+use dapohiru_second::step::Answer;
 use std::fmt;
-use walks::promise::{Needed, Walked};
-use walks::records;
-use walks::stepping::Answer;
-use walks::{checking, serving};
 
 /// How often each answer came, and what the walks had.
 #[derive(Default)]

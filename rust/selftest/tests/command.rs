@@ -1,6 +1,6 @@
 //! The program `dapohiru-selftest`, run as anybody would.
+use dapohiru_second::{slip, step};
 use std::process::{Command, Output, Stdio};
-use walks::{slip, stepping};
 
 /// Runs the program with these arguments.
 fn run(arguments: &[&str]) -> Output {
@@ -61,7 +61,7 @@ fn same_seed_makes_the_same_rounds() {
 fn every_slip_of_the_second_implementation_is_a_difference_that_can_be_seen_again() {
     let of_walks = [slip::Slip::of_check(), slip::Slip::of_planning()].concat();
     let of_walks = of_walks.iter().map(|slip| format!("{slip:?}"));
-    let of_step = stepping::Slip::ALL.iter().map(|slip| format!("{slip:?}"));
+    let of_step = step::Slip::ALL.iter().map(|slip| format!("{slip:?}"));
     for slip in of_walks.chain(of_step) {
         let (status, text) = said(&["11", "20000", "--slip", &slip]);
         assert_eq!(status, Some(1), "{slip}: {text}");

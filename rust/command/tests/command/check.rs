@@ -1,8 +1,8 @@
 //! The command `check`.
 use crate::program::{example, file, folder, run, PAIR};
-use walks::random::Random;
-use walks::search::difference;
-use walks::walk::Walks;
+use dapohiru_generators::random::Random;
+use dapohiru_second::search::difference;
+use dapohiru_second::walk::Walks;
 
 #[test]
 fn faithful_ends_with_status_0_and_different_with_1() {
@@ -25,10 +25,13 @@ fn verdicts_are_those_of_the_walks() {
     let folder = folder("check-walks");
     let mut seen = [0, 0];
     for _ in 0..20 {
-        let job = walks::small::job(&mut random);
+        let job = dapohiru_generators::small::job(&mut random);
         let walks = Walks::new(&job, None);
         let name = file(&folder, "job", &job.file());
-        for plan in walks::small::plans(&mut random, &job).into_iter().take(3) {
+        for plan in dapohiru_generators::small::plans(&mut random, &job)
+            .into_iter()
+            .take(3)
+        {
             let line: String = plan.iter().map(|byte| byte.to_string()).collect();
             let differs = difference(&walks, &plan).is_some();
             let (status, printed, wrong) = run(&["check", &name, "-"], &(line + "\n"));

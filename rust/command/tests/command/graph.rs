@@ -1,8 +1,8 @@
 //! The command `graph`.
 use crate::program::{example, file, folder, names, program, run, shell, terminal, PAIR};
+use dapohiru_generators::samples::one_seal;
 use std::fs;
 use std::process::Command;
-use walks::samples::one_seal;
 
 #[test]
 fn graph_marks_the_watched_points_entries_and_exits() {

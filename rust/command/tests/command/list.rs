@@ -1,7 +1,7 @@
 //! The command `list`.
 use crate::program::{example, file, folder, run, PAIR};
-use walks::listing::listing;
-use walks::random::Random;
+use dapohiru_generators::random::Random;
+use dapohiru_second::listing::listing;
 
 #[test]
 fn listing_is_printed_as_document_01_has_it() {
@@ -41,7 +41,7 @@ fn explained_listing_names_the_symbols() {
 fn explained_listing_has_the_numbers_of_the_listing() {
     let mut random = Random::of_this_run();
     for _ in 0..40 {
-        let job = walks::small::job(&mut random);
+        let job = dapohiru_generators::small::job(&mut random);
         let file = String::from_utf8(job.file()).unwrap();
         let (status, printed, wrong) = run(&["list", "-", "--explain"], &file);
         assert_eq!((status, wrong.as_str()), (0, ""));
@@ -97,7 +97,7 @@ fn one_event_node_is_told_as_one() {
 
 /// A set as the table shows it.
 fn members(set: u64) -> String {
-    let members: Vec<_> = walks::job::members(set)
+    let members: Vec<_> = dapohiru_second::job::members(set)
         .map(|member| member.to_string())
         .collect();
     format!("{{{}}}", members.join(","))

@@ -1,9 +1,9 @@
 //! The place of a refusal: every fault that a file can have, beside the second implementation.
 use crate::program::{run, PAIR};
-use walks::faults::{faulty, Fault, Form};
-use walks::job::Job;
-use walks::random::Random;
-use walks::samples::{one_seal, pair};
+use dapohiru_generators::faults::{faulty, Fault, Form};
+use dapohiru_generators::random::Random;
+use dapohiru_generators::samples::{one_seal, pair};
+use dapohiru_second::job::Job;
 
 /// The columns where a fault is seen; of F lines that do not ascend either node may be named.
 fn columns(fault: Fault, letters: &[u8], fields: usize) -> Option<String> {
@@ -49,7 +49,7 @@ fn every_fault_is_told_with_its_number_line_and_columns() {
     let mut random = Random::of_this_run();
     let mut told = faults_are_told(&pair()) + faults_are_told(&one_seal(4));
     for _ in 0..3 {
-        told += faults_are_told(&walks::small::job(&mut random));
+        told += faults_are_told(&dapohiru_generators::small::job(&mut random));
     }
     println!("{told} faults");
 }

@@ -1,11 +1,11 @@
 //! The command `release`.
 use crate::program::{example, file, folder, names, run, shell, terminal, Done, PAIR};
+use dapohiru_generators::random::Random;
+use dapohiru_second::planning::plan;
+use dapohiru_second::walk::Walks;
 use std::fs;
 use std::os::unix::fs::{symlink, PermissionsExt};
 use std::path::Path;
-use walks::planning::plan;
-use walks::random::Random;
-use walks::walk::Walks;
 
 /// Runs a release of a folder.
 fn release(folder: &Path, more: &[&str]) -> Done {
@@ -20,7 +20,7 @@ fn every_job_gets_its_plan_file_and_its_row() {
     let plans = jobs.join("out/plans");
     let mut wanted = Vec::new();
     for number in 0..30 {
-        let job = walks::small::job(&mut random);
+        let job = dapohiru_generators::small::job(&mut random);
         let planned = plan(&Walks::new(&job, None));
         file(&jobs, &format!("{number:02}.job"), &job.file());
         wanted.push((format!("{number:02}"), planned));

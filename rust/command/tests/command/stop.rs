@@ -1,12 +1,12 @@
 //! A stop in the middle of a release.
 use crate::program::{ended, file, folder, names, program, shell};
+use dapohiru_generators::large::{job_of, Order};
+use dapohiru_generators::random::Random;
 use std::fs;
 use std::path::{Path, PathBuf};
 use std::process::Child;
 use std::thread::sleep;
 use std::time::{Duration, Instant};
-use walks::large::{job_of, Order};
-use walks::random::Random;
 
 const JOBS: usize = 150;
 

@@ -1,13 +1,13 @@
 //! The command `watch`.
 use crate::program::{ended, example, file, folder, program, run, shell, PAIR};
+use dapohiru_generators::random::Random;
+use dapohiru_generators::walker::Walker;
+use dapohiru_second::walk::{Event, Walks};
 use std::io::{BufRead, BufReader, Write};
 use std::process::Stdio;
 use std::sync::mpsc::{self, RecvTimeoutError};
 use std::thread;
 use std::time::Duration;
-use walks::random::Random;
-use walks::walk::{Event, Walks};
-use walks::walker::Walker;
 
 /// The last line of a run.
 fn totals(events: u64, unwatched: u64, alarms: u64, wrong: u64, state: u64) -> String {
@@ -193,7 +193,7 @@ fn planned_monitor_has_the_alarms_of_the_full_one_on_walks() {
     let folder = folder("watch-walks");
     let (mut alarms, mut unwatched) = (0, 0);
     for _ in 0..30 {
-        let job = walks::small::job(&mut random);
+        let job = dapohiru_generators::small::job(&mut random);
         let walks = Walks::new(&job, None);
         let mut walker = Walker::begin(&mut random, &walks);
         let state = format!("--state={}", walker.start);

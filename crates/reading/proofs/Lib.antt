@@ -1,3 +1,0 @@
--- The laws of the call.
--- Assumes nothing.
-pub mod ReadingLaws

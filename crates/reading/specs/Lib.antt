@@ -1,3 +1,0 @@
--- The call that reads a job file.
--- Assumes nothing.
-pub mod Reading

@@ -1,0 +1,80 @@
+//! A fault of a job file or of a plan, with its place; the first fault in the form of a line.
+use dapohiru_second::reading::{self, Stop};
+
+/// A fault of a file, or of a plan.
+#[derive(Debug, PartialEq, Eq)]
+pub struct Fault {
+    /// The refusal that it deserves.
+    pub number: u64,
+    /// The line and its first and last column, counted from 1, where the fault has a place.
+    pub place: Option<(usize, usize, usize)>,
+    /// What stands there.
+    pub found: String,
+    pub expected: String,
+}
+
+impl Fault {
+    /// The fault of a line that is missing or has the wrong form: it has this letter and a field for each
+    /// name.
+    pub fn of_form(stop: &Stop, letter: char, names: &[String]) -> Self {
+        let line = stop.line;
+        let wrong = |first: usize, last: usize, expected| Fault {
+            number: stop.number,
+            place: Some((stop.due, first, last)),
+            found: shown(line.get(first - 1..).unwrap_or_default(), last + 1 - first),
+            expected,
+        };
+        let fields = names.len();
+        if line.is_empty() {
+            let expected =
+                format!("a line of the letter {letter} and {fields} fields of six columns");
+            return wrong(1, 1, expected);
+        }
+        if line[0] != letter as u8 {
+            return wrong(1, 1, format!("the letter {letter}"));
+        }
+        for (field, name) in names.iter().enumerate() {
+            let first = 1 + 6 * field;
+            let columns = line.get(first..first + 6);
+            if columns.and_then(reading::number).is_none() {
+                let expected = format!(
+                    "{name}: a number in six columns, right-justified with spaces, without leading zeros"
+                );
+                return wrong(first + 1, first + 6, expected);
+            }
+        }
+        let end = 1 + 6 * fields;
+        wrong(
+            end + 1,
+            end + 1,
+            "the end of the line (byte 10)".to_string(),
+        )
+    }
+
+    /// The fault of the number in one field of a line.
+    pub fn of_field(stop: &Stop, field: usize, expected: String) -> Self {
+        Fault {
+            number: stop.number,
+            place: Some((stop.due, 6 * field + 2, 6 * field + 7)),
+            found: stop.numbers[field].to_string(),
+            expected,
+        }
+    }
+}
+
+/// What stands in so many bytes, for a message; it ends with the line or the file.
+fn shown(bytes: &[u8], most: usize) -> String {
+    let within = &bytes[..most.min(bytes.len())];
+    let end = within.iter().position(|&byte| byte == b'\n');
+    let text = &within[..end.unwrap_or(within.len())];
+    let ending = match end {
+        Some(_) => "the end of the line",
+        None if within.len() < most => "the end of the file",
+        None => "",
+    };
+    match (text.is_empty(), ending) {
+        (true, _) => ending.to_string(),
+        (false, "") => format!("`{}`", text.escape_ascii()),
+        (false, _) => format!("`{}` and then {ending}", text.escape_ascii()),
+    }
+}

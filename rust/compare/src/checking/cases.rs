@@ -1,0 +1,162 @@
+//! Random calls: small jobs with all kinds of plans, and calls with faults.
+use super::memory::{Memory, Seen, MOST_WORK};
+use dapohiru_generators::faults::{refused, NUMBERS};
+use dapohiru_generators::random::Random;
+use dapohiru_generators::small;
+use dapohiru_second::checking::{check, Call, Outcome};
+use dapohiru_second::job::{Job, EVENT};
+use dapohiru_second::reading::{LONGEST, WORK};
+use dapohiru_second::slip::Slip;
+use dapohiru_second::walk::Walks;
+
+/// One call: a job, its file or one like it with a fault, a plan, and the length of the work buffer.
+#[derive(Clone, Debug)]
+pub struct Case {
+    pub job: Job,
+    pub file: Vec<u8>,
+    /// The refusal, 3 to 10, that the file deserves.
+    pub unread: Option<u64>,
+    pub plan: Vec<u8>,
+    pub work_len: usize,
+}
+
+impl Case {
+    /// A job and a plan, with a work buffer that is just long enough.
+    pub fn of(job: &Job, plan: Vec<u8>) -> Self {
+        Case {
+            file: job.file(),
+            job: job.clone(),
+            unread: None,
+            plan,
+            work_len: WORK,
+        }
+    }
+
+    /// Replaces the file by one that deserves this refusal.
+    pub fn with_file_fault(mut self, random: &mut Random, number: u64) -> Self {
+        self.file = refused(random, &self.job, number);
+        self.unread = Some(number);
+        self
+    }
+
+    /// Makes the file too long.
+    pub fn with_long_file(mut self, random: &mut Random) -> Self {
+        let len = LONGEST + random.pick(&[1, 1, 2, 20_000]);
+        self.file.resize(len, b'\n');
+        self.unread = self.unread.or(Some(9));
+        self
+    }
+
+    /// Makes the work buffer too short.
+    pub fn with_short_work(mut self, random: &mut Random) -> Self {
+        self.work_len = random.pick(&[0, 1, 32_768, WORK - 1, WORK - 1]);
+        self
+    }
+
+    /// Gives the plan another length.
+    pub fn with_plan_length_fault(mut self, random: &mut Random) -> Self {
+        let nodes = self.job.nodes.len();
+        let len = random.pick(&[0, nodes - 1, nodes - 1, nodes + 1, nodes + 1, 512, 600]);
+        if len != nodes {
+            self.plan.resize(len, 0);
+        } else {
+            self.plan.push(0);
+        }
+        self
+    }
+
+    /// Gives one byte of the plan, if it has any, a value that it must not have.
+    pub fn with_plan_byte_fault(mut self, random: &mut Random) -> Self {
+        if self.plan.is_empty() {
+            return self;
+        }
+        let node = random.place(self.plan.len());
+        let is_event = self.job.nodes.get(node).is_some_and(|of| of.kind == EVENT);
+        let above = random.pick(&[2, 2, 3, 128, 255]);
+        self.plan[node] = if is_event || random.once_in(3) {
+            above
+        } else {
+            1
+        };
+        self
+    }
+
+    /// What the second implementation leaves, with one slip or with none.
+    fn outcome(&self, walks: &Walks, slip: Option<Slip>) -> Outcome {
+        let call = Call {
+            file_len: self.file.len(),
+            held: self.unread.map_or(Ok(walks), Err),
+            plan: &self.plan,
+            work_len: self.work_len,
+        };
+        check(&call, slip)
+    }
+
+    /// What the second implementation wants to be seen, with one slip or with none.
+    pub fn wanted(&self, walks: &Walks, slip: Option<Slip>) -> Seen {
+        Seen::wanted(&self.outcome(walks, slip))
+    }
+
+    /// What is seen of the library, or in words how it differs from the second implementation with the
+    /// slip that its walks have.
+    pub fn compare(&self, memory: &mut Memory, walks: &Walks) -> Result<Seen, String> {
+        let outcome = self.outcome(walks, walks.slip);
+        match memory.call(&self.file, &self.plan, self.work_len) {
+            Ok(seen) if seen == Seen::wanted(&outcome) => Ok(seen),
+            Ok(seen) => Err(format!(
+                "the library leaves {seen:?}, and the second implementation {outcome:?}; {}",
+                self.words()
+            )),
+            Err(why) => Err(format!("{why}; {}", self.words())),
+        }
+    }
+
+    /// The call in words; of a long file only its start.
+    pub fn words(&self) -> String {
+        let start = &self.file[..self.file.len().min(2_000)];
+        format!(
+            "work buffer of {} bytes, plan {:?}, file of {} bytes:\n{}",
+            self.work_len,
+            self.plan,
+            self.file.len(),
+            start.escape_ascii().to_string().replace("\\n", "\\n\n")
+        )
+    }
+}
+
+/// The calls of one job: it with each of its plans, and some calls with one fault or more.
+pub fn cases(random: &mut Random, job: &Job) -> Vec<Case> {
+    let plans = small::plans(random, job);
+    let mut cases: Vec<_> = plans
+        .iter()
+        .map(|plan| Case::of(job, plan.clone()))
+        .collect();
+    for case in &mut cases {
+        if random.once_in(4) {
+            case.work_len = random.pick(&[WORK + 1, WORK + 64, MOST_WORK]);
+        }
+    }
+    for _ in 0..4 {
+        let plan = plans[random.place(plans.len())].clone();
+        cases.push(faulty_case(random, Case::of(job, plan)));
+    }
+    cases
+}
+
+/// A call with one fault or two, now and then more.
+fn faulty_case(random: &mut Random, mut case: Case) -> Case {
+    for _ in 0..random.pick(&[1, 1, 2, 2, 3]) {
+        case = match random.below(8) {
+            0 => case.with_long_file(random),
+            1 => case.with_short_work(random),
+            2..=3 if case.unread.is_none() => {
+                let number = random.pick(&NUMBERS);
+                let possible = number != 8 || !case.job.edges.is_empty();
+                case.with_file_fault(random, if possible { number } else { 10 })
+            }
+            4..=5 => case.with_plan_length_fault(random),
+            _ => case.with_plan_byte_fault(random),
+        };
+    }
+    case
+}

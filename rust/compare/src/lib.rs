@@ -1,0 +1,11 @@
+//! The calls of the library beside the second implementation: on random calls and on memory whose every
+//! byte is looked at, between pages that fault, and both halves of the third promise on real walks.
+pub mod checking;
+pub mod guarded;
+pub mod library;
+pub mod memory;
+pub mod promise;
+pub mod records;
+pub mod serving;
+pub mod step;
+pub mod wrapper;

@@ -1,0 +1,62 @@
+//! The calls of the library, as functions on byte slices in the order of the C arguments, which return
+//! document 01's numbers.
+use crate::guarded::lend;
+use dapohiru::numbers;
+use dapohiru_second::serving::Service;
+
+/// The event step: rule, S, A, final set, symbol, record.
+pub type Event = fn(&[u8], u64, u64, u64, u64, &mut [u8]) -> u64;
+
+/// The four calls. Each returns the number of its answer.
+#[derive(Clone, Copy)]
+pub struct Library {
+    /// Job, work buffer, plan buffer.
+    pub plan: fn(&[u8], &mut [u8], &mut [u8]) -> u64,
+    /// Job, work buffer, listing buffer.
+    pub list: fn(&[u8], &mut [u8], &mut [u8]) -> u64,
+    /// Job, plan, work buffer.
+    pub check: fn(&[u8], &[u8], &mut [u8]) -> u64,
+    pub event: Event,
+}
+
+impl Library {
+    /// Plans or lists: job, work buffer, plan or listing buffer.
+    pub fn serve(&self, service: Service, job: &[u8], work: &mut [u8], lent: &mut [u8]) -> u64 {
+        match service {
+            Service::Plan => (self.plan)(job, work, lent),
+            Service::List => (self.list)(job, work, lent),
+        }
+    }
+}
+
+/// The C calls of the static library, by number.
+pub const CALLS: Library = Library {
+    plan: numbers::plan,
+    list: numbers::list,
+    check: numbers::check,
+    event: numbers::event,
+};
+
+/// The same on guarded buffers too: a byte read or written beside one ends the program.
+pub const GUARDED: Library = Library {
+    plan: |job, work, plan| {
+        lend([job], [work, plan], |[job], [work, plan]| {
+            numbers::plan(job, work, plan)
+        })
+    },
+    list: |job, work, listing| {
+        lend([job], [work, listing], |[job], [work, listing]| {
+            numbers::list(job, work, listing)
+        })
+    },
+    check: |job, plan, work| {
+        lend([job, plan], [work], |[job, plan], [work]| {
+            numbers::check(job, plan, work)
+        })
+    },
+    event: |rule, states, symbols, finals, symbol, record| {
+        lend([rule], [record], |[rule], [record]| {
+            numbers::event(rule, states, symbols, finals, symbol, record)
+        })
+    },
+};

@@ -1,0 +1,152 @@
+//! Random calls of planning and listing: jobs with buffers that are long enough, and calls with faults.
+use super::memory::{Memory, Said, Seen, MOST_LENT, MOST_WORK};
+use dapohiru_generators::faults::{refused, NUMBERS};
+use dapohiru_generators::random::Random;
+use dapohiru_second::job::Job;
+use dapohiru_second::reading::{LONGEST, WORK};
+use dapohiru_second::serving::{serve, Call, Given, Service};
+use dapohiru_second::slip::Slip;
+
+/// One call: a file of a job or one like it with a fault, and the lengths of the buffers.
+#[derive(Clone, Debug)]
+pub struct Case {
+    pub service: Service,
+    pub file: Vec<u8>,
+    /// The refusal, 3 to 10, that the file deserves.
+    pub unread: Option<u64>,
+    pub work_len: usize,
+    pub lent_len: usize,
+}
+
+impl Case {
+    /// A job, with buffers that are just long enough.
+    pub fn of(service: Service, job: &Job) -> Self {
+        Case {
+            service,
+            file: job.file(),
+            unread: None,
+            work_len: WORK,
+            lent_len: service.least(),
+        }
+    }
+
+    /// Gives the call the fault that this refusal names; 8 asks for a job with an edge. A fault of the
+    /// file makes another file, so it comes first.
+    pub fn with_fault(mut self, random: &mut Random, job: &Job, number: u64) -> Self {
+        let least = self.service.least();
+        match number {
+            1 => {
+                let len = LONGEST + random.pick(&[1, 1, 2, 20_000]);
+                self.file.resize(len, b'\n');
+                self.unread = self.unread.or(Some(9));
+            }
+            2 if random.once_in(2) => {
+                self.work_len = random.pick(&[0, 1, 32_768, WORK - 1, WORK - 1]);
+            }
+            2 => {
+                // enough for the plan or the text, too
+                let some = random.pick(&[0, 1, job.nodes.len(), 500, 511]);
+                self.lent_len = random.pick(&[some, some, least / 2, least - 1, least - 1]);
+            }
+            _ => {
+                self.file = refused(random, job, number);
+                self.unread = Some(number);
+            }
+        }
+        self
+    }
+
+    /// What the second implementation wants to be seen, with one slip or with none.
+    pub fn wanted(&self, given: &Given, slip: Option<Slip>) -> Seen {
+        let call = Call {
+            service: self.service,
+            file_len: self.file.len(),
+            held: self.unread.map_or(Ok(given), Err),
+            work_len: self.work_len,
+            lent_len: self.lent_len,
+        };
+        Seen::wanted(serve(&call, slip))
+    }
+
+    /// What is seen of the library, or in words how it differs from the second implementation with the
+    /// slip that what is given has.
+    pub fn compare(&self, memory: &mut Memory, given: &Given) -> Result<Seen, String> {
+        let wanted = self.wanted(given, given.slip);
+        match memory.call(self.service, &self.file, self.work_len, self.lent_len) {
+            Ok(seen) if seen == wanted => Ok(seen),
+            Ok(seen) => Err(format!(
+                "the library leaves\n{}\nand the second implementation\n{}\n{}",
+                leaves(&seen),
+                leaves(&wanted),
+                self.words()
+            )),
+            Err(why) => Err(format!("{why}; {}", self.words())),
+        }
+    }
+
+    /// What a call that leaves this answers.
+    pub fn said(&self, seen: &Seen) -> Said {
+        Said::of(self.service, seen.number)
+    }
+
+    /// The call in words; of a long file only its start.
+    fn words(&self) -> String {
+        let start = &self.file[..self.file.len().min(2_000)];
+        format!(
+            "{:?}, buffers of {} and {} bytes, file of {} bytes:\n{}",
+            self.service,
+            self.lent_len,
+            self.work_len,
+            self.file.len(),
+            start.escape_ascii().to_string().replace("\\n", "\\n\n")
+        )
+    }
+}
+
+/// What a call leaves, in words; a byte that is as it was is a dot.
+fn leaves(seen: &Seen) -> String {
+    let Seen {
+        number,
+        written,
+        cleared,
+    } = seen;
+    let shown = |byte: &Option<u8>| match *byte {
+        None => ".".to_string(),
+        Some(byte @ (0 | 1)) => byte.to_string(),
+        Some(b'\n') => "\n".to_string(),
+        Some(byte) => byte.escape_ascii().to_string(),
+    };
+    let bytes: String = written.iter().map(shown).collect();
+    format!("number {number:#x}, {cleared} bytes cleared, written {bytes}")
+}
+
+/// The calls of one job: both, with buffers of several lengths, and some with one fault or more.
+pub fn cases(random: &mut Random, job: &Job) -> Vec<Case> {
+    let mut cases: Vec<_> = Service::BOTH.map(|service| Case::of(service, job)).into();
+    for case in &mut cases {
+        let least = case.lent_len;
+        case.work_len = random.pick(&[WORK, WORK, WORK + 1, WORK + 64, MOST_WORK]);
+        case.lent_len = random.pick(&[least, least, least + 1, least + 64, MOST_LENT]);
+    }
+    for service in Service::BOTH {
+        cases.push(faulty_case(random, job, Case::of(service, job)));
+    }
+    cases
+}
+
+/// A call with one fault or two.
+fn faulty_case(random: &mut Random, job: &Job, mut case: Case) -> Case {
+    let of_file = random.once_in(2);
+    if of_file {
+        let number = random.pick(&NUMBERS);
+        let possible = number != 8 || !job.edges.is_empty();
+        case = case.with_fault(random, job, if possible { number } else { 10 });
+    }
+    if !of_file || random.once_in(2) {
+        for _ in 0..random.pick(&[1, 1, 2]) {
+            let number = random.between(1, 2);
+            case = case.with_fault(random, job, number);
+        }
+    }
+    case
+}

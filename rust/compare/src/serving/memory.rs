@@ -1,0 +1,135 @@
+//! One call on memory whose every byte is looked at afterwards.
+use crate::library::Library;
+use crate::memory::{Lent, PAST_FILE};
+use dapohiru::numbers::ACCEPTED;
+use dapohiru_generators::random::Random;
+use dapohiru_second::reading::WORK;
+use dapohiru_second::serving::{Answer, Outcome, Service};
+
+/// What a call answers.
+#[derive(Clone, Copy, Debug, PartialEq, Eq, PartialOrd, Ord)]
+pub enum Said {
+    Planned,
+    Listed,
+    Refused(u64),
+}
+
+impl Said {
+    /// What a call that returns this number answers.
+    pub fn of(service: Service, number: u64) -> Self {
+        match service {
+            _ if number < ACCEPTED => Said::Refused(number),
+            Service::Plan => Said::Planned,
+            Service::List => Said::Listed,
+        }
+    }
+
+    /// Both accepted answers and every refusal.
+    pub fn all() -> impl Iterator<Item = Said> {
+        let refusals = (1..=10).map(Said::Refused);
+        refusals.chain([Said::Planned, Said::Listed])
+    }
+}
+
+/// What is seen of a call: its number, the bytes that it writes from the start of the plan or listing
+/// buffer on, and how many bytes of the work buffer it leaves as zero. All other bytes are as they were.
+#[derive(Clone, Debug, PartialEq, Eq)]
+pub struct Seen {
+    pub number: u64,
+    /// Up to the last byte written; nothing for a byte that is as it was.
+    pub written: Vec<Option<u8>>,
+    pub cleared: usize,
+}
+
+impl Seen {
+    /// What the second implementation wants to be seen.
+    pub fn wanted(outcome: Outcome) -> Self {
+        let number = match outcome.answer {
+            Answer::Planned([points, watched, passes]) => {
+                ACCEPTED + (points << 32) + (watched << 16) + passes
+            }
+            Answer::Listed(len) => ACCEPTED + len as u64,
+            Answer::Refused(number) => number,
+        };
+        Seen {
+            number,
+            written: outcome.written,
+            cleared: outcome.cleared,
+        }
+    }
+}
+
+/// The longest work buffer that is lent.
+pub const MOST_WORK: usize = 70_000;
+/// The longest plan or listing buffer that is lent.
+pub const MOST_LENT: usize = 40_000;
+
+/// The memory that calls are made on.
+pub struct Memory {
+    library: Library,
+    random: Random,
+    work: Lent,
+    file: Lent,
+    lent: Lent,
+}
+
+impl Memory {
+    /// Memory for calls of this library.
+    pub fn new(library: Library) -> Self {
+        let mut random = Random(1);
+        Memory {
+            library,
+            work: Lent::new(&mut random, MOST_WORK, 1),
+            file: Lent::new(&mut random, 0, 1),
+            // neither a plan nor a listing has a byte above 127, so that every byte written is seen
+            lent: Lent::new(&mut random, MOST_LENT, 128),
+            random,
+        }
+    }
+
+    /// Places the next buffers by this seed.
+    pub fn begin(&mut self, seed: u64) {
+        self.random = Random(seed);
+    }
+
+    /// Calls the library, and looks at every byte that it could reach.
+    pub fn call(
+        &mut self,
+        service: Service,
+        file: &[u8],
+        work_len: usize,
+        lent_len: usize,
+    ) -> Result<Seen, String> {
+        self.work.fresh(&mut self.random, work_len);
+        self.lent.fresh(&mut self.random, lent_len);
+        self.file.holding(file, PAST_FILE);
+        let number = self.library.serve(
+            service,
+            self.file.bytes(),
+            self.work.bytes(),
+            self.lent.bytes(),
+        );
+        if !self.file.is_unchanged() {
+            return Err(format!("{number} changes the file or bytes beside it"));
+        }
+        let Some(written) = self.lent.written() else {
+            return Err(format!(
+                "{number} changes bytes beside a plan or listing buffer of {lent_len} bytes"
+            ));
+        };
+        let cleared = if self.work.is_unchanged() {
+            0
+        } else if self.work.is_cleared(WORK) {
+            WORK
+        } else {
+            return Err(format!(
+                "after {number} a work buffer of {work_len} bytes is neither as it was nor zero in its first {WORK} bytes alone"
+            ));
+        };
+        Ok(Seen {
+            number,
+            written,
+            cleared,
+        })
+    }
+}

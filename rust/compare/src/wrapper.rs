@@ -1,0 +1,70 @@
+//! The wrapper's functions with every buffer guarded, and as the calls that the second implementation
+//! is compared with: each answer is taken back to its number.
+use crate::guarded::lend;
+use crate::library::Library;
+use dapohiru::numbers::ACCEPTED;
+use dapohiru::{Counts, Refusal, Report, Verdict};
+
+/// [`dapohiru::plan`], on guarded buffers too.
+pub fn plan(job: &[u8], work: &mut [u8], plan: &mut [u8]) -> Result<Counts, Refusal> {
+    lend([job], [work, plan], |[job], [work, plan]| {
+        dapohiru::plan(job, work, plan)
+    })
+}
+
+/// [`dapohiru::list`], on guarded buffers too.
+pub fn list(job: &[u8], work: &mut [u8], listing: &mut [u8]) -> Result<usize, Refusal> {
+    lend([job], [work, listing], |[job], [work, listing]| {
+        dapohiru::list(job, work, listing)
+    })
+}
+
+/// [`dapohiru::check`], on guarded buffers too.
+pub fn check(job: &[u8], plan: &[u8], work: &mut [u8]) -> Result<Verdict, Refusal> {
+    lend([job, plan], [work], |[job, plan], [work]| {
+        dapohiru::check(job, plan, work)
+    })
+}
+
+/// [`dapohiru::event`], on guarded buffers too.
+pub fn event(
+    rule: &[u8],
+    states: u64,
+    symbols: u64,
+    finals: u64,
+    symbol: u64,
+    record: &mut [u8],
+) -> Result<Report, Refusal> {
+    lend([rule], [record], |[rule], [record]| {
+        dapohiru::event(rule, states, symbols, finals, symbol, record)
+    })
+}
+
+/// The wrapper.
+pub const WRAPPER: Library = Library {
+    plan: |job, work, buffer| {
+        number(
+            plan(job, work, buffer)
+                .map(|counts| (counts.points << 32) + (counts.watched << 16) + counts.passes),
+        )
+    },
+    list: |job, work, listing| number(list(job, work, listing).map(|len| len as u64)),
+    check: |job, plan, work| {
+        number(check(job, plan, work).map(|verdict| match verdict {
+            Verdict::Faithful => 0,
+            Verdict::Different => 1,
+        }))
+    },
+    event: |rule, states, symbols, finals, symbol, record| {
+        let report = event(rule, states, symbols, finals, symbol, record);
+        number(report.map(|report| match report {
+            Report::Quiet => 0,
+            Report::Alarm => 1,
+        }))
+    },
+};
+
+/// The number of an answer.
+fn number(answer: Result<u64, Refusal>) -> u64 {
+    answer.map_or_else(|Refusal(number)| number, |more| ACCEPTED + more)
+}

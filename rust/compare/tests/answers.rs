@@ -1,0 +1,209 @@
+//! The answers to fixed calls, held to a stored file: the jobs of the examples and trials, a thousand
+//! generated jobs, damaged files, and blocks of events. An answer is a number, a plan or a listing as a
+//! hash, and one letter for each plan that is checked.
+#[allow(dead_code)]
+#[path = "trials/jobs.rs"]
+mod jobs;
+#[allow(dead_code)]
+#[path = "trials/stored.rs"]
+mod stored;
+
+use dapohiru::numbers::{self, ACCEPTED};
+use dapohiru_generators::damage::damaged;
+use dapohiru_generators::events::Call;
+use dapohiru_generators::faults::{self, NUMBERS};
+use dapohiru_generators::large::{self, Order};
+use dapohiru_generators::mixed;
+use dapohiru_generators::random::Random;
+use dapohiru_generators::rings;
+use dapohiru_generators::sized::{self, Sizes, FULL};
+use dapohiru_generators::small;
+use dapohiru_generators::spread::Spread;
+use dapohiru_second::job::Job;
+use dapohiru_second::reading::WORK;
+use std::collections::BTreeSet;
+use std::fs;
+use std::path::Path;
+
+/// The stored file. A run leaves its own answers in `rust/target/tmp/answers.txt`.
+const STORED: &str = "rust/compare/tests/expected/answers.txt";
+
+/// FNV-1a.
+fn hash(bytes: &[u8]) -> u64 {
+    bytes.iter().fold(0xcbf2_9ce4_8422_2325, |hash, &byte| {
+        (hash ^ u64::from(byte)).wrapping_mul(0x0100_0000_01b3)
+    })
+}
+
+/// A generator for the call of this number; it does not depend on the calls before.
+fn random(number: u64) -> Random {
+    Random(Random(number).number())
+}
+
+/// The answers to a file, and to plans of it beside its own.
+fn answers(name: &str, file: &[u8], plans: &[Vec<u8>]) -> String {
+    let (mut work, mut plan, mut listing) = (vec![9; WORK], vec![7; 512], vec![b'?'; 32_768]);
+    let planned = numbers::plan(file, &mut work, &mut plan);
+    let listed = numbers::list(file, &mut work, &mut listing);
+    listing.truncate(listed.saturating_sub(ACCEPTED) as usize);
+    let own = plan.split(|&byte| byte == 7).next().unwrap_or_default();
+    let verdicts = [own].into_iter().chain(plans.iter().map(|plan| &plan[..]));
+    let verdicts: Vec<_> = verdicts
+        .map(
+            |plan| match numbers::check(file, plan, &mut work).checked_sub(ACCEPTED) {
+                Some(0) => "F",
+                Some(1) => "D",
+                _ => "X",
+            },
+        )
+        .collect();
+    format!(
+        "{name}: file {:016x}, plan {planned:x} {:016x}, list {listed:x} {:016x}, checks {}",
+        hash(file),
+        hash(&plan),
+        hash(&listing),
+        verdicts.concat()
+    )
+}
+
+/// A few plans of a job.
+fn some_plans(random: &mut Random, job: &Job) -> Vec<Vec<u8>> {
+    let mut plans = small::plans(random, job);
+    random.shuffle(&mut plans);
+    plans.truncate(4);
+    plans.extend([job.all_watched(), job.plan_of(&[])]);
+    plans
+}
+
+/// A generated job: small ones, some of them among many nodes, and some of 512 nodes.
+fn job(random: &mut Random, number: u64) -> Job {
+    match number % 20 {
+        0 if number.is_multiple_of(40) => large::job(random, Order::Flow),
+        0 => large::job(random, Order::Parts),
+        1 if number % 200 == 1 => sized::job(random, FULL),
+        1 | 2 => {
+            let sizes = Sizes::random(random);
+            sized::job(random, sizes)
+        }
+        3..=5 => rings::job(random),
+        6 => mixed::job(random),
+        7..=9 => {
+            let job = small::job(random);
+            let nodes = random.pick(&[16, 64, 65, 255, 256, 257, 511, 512]);
+            Spread::random(random, &job, nodes).job
+        }
+        _ => small::job(random),
+    }
+}
+
+/// A file with damage or with a fault of its own.
+fn damaged_file(random: &mut Random, number: u64) -> Vec<u8> {
+    let job = small::job(random);
+    match NUMBERS[number as usize % 8] {
+        _ if number.is_multiple_of(2) => damaged(random, &job),
+        8 if job.edges.is_empty() => faults::refused(random, &job, 10),
+        refusal => faults::refused(random, &job, refusal),
+    }
+}
+
+/// The answers to a thousand events, as a hash of their numbers and records.
+fn events(number: u64) -> String {
+    let (mut random, mut left) = (random(number), Vec::new());
+    for _ in 0..1_000 {
+        let mut call = Call::any(&mut random);
+        let (states, symbols, finals, symbol) =
+            (call.states, call.symbols, call.finals, call.symbol);
+        let (rule, record) = call.lend();
+        let answer = numbers::event(rule, states, symbols, finals, symbol, record);
+        left.extend(answer.to_le_bytes());
+        left.extend(call.record());
+    }
+    format!("events {number}: {:016x}", hash(&left))
+}
+
+/// Every answer, a line each.
+fn all() -> Vec<String> {
+    let names = [
+        "again-edge",
+        "again-sets",
+        "once",
+        "pair",
+        "seal-after",
+        "seal",
+    ];
+    let examples = names.map(|name| stored::file(&format!("examples/{name}.job")));
+    let trials = stored::trials().into_iter().map(|trial| trial.file);
+    let named = examples.into_iter().chain(trials).enumerate();
+    let every = |nodes: u32| (0..1_u32 << nodes).map(move |set| bits(set, nodes));
+    let plans: Vec<_> = (0..=3).flat_map(every).collect();
+    let mut lines: Vec<_> = named
+        .map(|(number, file)| answers(&format!("trial {number}"), &file, &plans))
+        .collect();
+    lines.extend((0..1_000).map(|number| {
+        let mut random = random(number);
+        let job = job(&mut random, number);
+        let plans = some_plans(&mut random, &job);
+        answers(&format!("job {number}"), &job.file(), &plans)
+    }));
+    lines.extend((0..300).map(|number| {
+        let file = damaged_file(&mut random(number), number);
+        answers(&format!("damaged {number}"), &file, &[])
+    }));
+    lines.extend((0..40).map(events));
+    lines
+}
+
+/// A plan of so many nodes, with the nodes of this set watched.
+fn bits(set: u32, nodes: u32) -> Vec<u8> {
+    (0..nodes).map(|node| (set >> node & 1) as u8).collect()
+}
+
+#[test]
+fn answers_are_those_stored() {
+    let lines = all();
+    let seen = Path::new(env!("CARGO_TARGET_TMPDIR")).join("answers.txt");
+    fs::write(&seen, lines.join("\n") + "\n").expect("the answers are written");
+    let stored = String::from_utf8(stored::file(STORED)).expect("the stored file is text");
+    let stored: Vec<_> = stored.lines().collect();
+    for (line, wanted) in lines.iter().zip(&stored) {
+        let file = |line: &str| line.split(", plan ").next().map(str::to_string);
+        assert_eq!(
+            file(line),
+            file(wanted),
+            "another file is made than was stored"
+        );
+        assert_eq!(line, wanted, "all answers are in {}", seen.display());
+    }
+    assert_eq!(
+        lines.len(),
+        stored.len(),
+        "all answers are in {}",
+        seen.display()
+    );
+}
+
+#[test]
+fn stored_answers_are_of_all_kinds() {
+    let stored = String::from_utf8(stored::file(STORED)).expect("the stored file is text");
+    let of = |kind: &str| stored.lines().filter(|line| line.starts_with(kind)).count();
+    assert_eq!(
+        ["trial ", "job ", "damaged ", "events "].map(of),
+        [28, 1_000, 300, 40]
+    );
+    let plans: BTreeSet<_> = stored
+        .lines()
+        .filter_map(|line| line.split(", plan ").nth(1)?.split(' ').next())
+        .collect();
+    for refusal in 3..=10 {
+        assert!(plans.contains(format!("{refusal:x}").as_str()), "{refusal}");
+    }
+    println!("{} answers of planning", plans.len());
+    assert!(plans.len() > 100);
+    let checks: String = stored
+        .lines()
+        .filter_map(|line| line.split(", checks ").nth(1))
+        .collect();
+    for verdict in ['F', 'D', 'X'] {
+        assert!(checks.matches(verdict).count() > 500, "{verdict}");
+    }
+}

@@ -1,0 +1,137 @@
+//! The library and the second implementation on the same calls.
+use dapohiru_compare::checking::{cases, Case, Memory, Said};
+use dapohiru_compare::memory::Counts;
+use dapohiru_compare::wrapper::WRAPPER;
+use dapohiru_generators::features::Features;
+use dapohiru_generators::large::{self, Order};
+use dapohiru_generators::random::Random;
+use dapohiru_generators::sized::{self, FULL};
+use dapohiru_generators::small;
+use dapohiru_plain::check::Checker;
+use dapohiru_second::job::Job;
+use dapohiru_second::reading::WORK;
+use dapohiru_second::search::difference;
+use dapohiru_second::slip::Slip;
+use dapohiru_second::walk::Walks;
+
+/// Whether the plan with no point watched differs, and only on a walk with a call word of two events
+/// or more.
+fn needs_a_long_call_word(job: &Job) -> bool {
+    let plan = job.plan_of(&[]);
+    let short = Walks::new(job, Some(Slip::CallWordOfOneSymbol));
+    let any = Walks::new(job, None);
+    difference(&short, &plan).is_none() && difference(&any, &plan).is_some()
+}
+
+#[test]
+fn small_jobs_with_all_their_plans_agree_with_the_walks() {
+    const JOBS: usize = 8_000;
+    let mut random = Random::of_this_run();
+    let mut memory = Memory::new(WRAPPER);
+    let mut counts = Counts::default();
+    let mut features = [0; 5];
+    let mut long_words = 0;
+    for number in 0..JOBS {
+        let job = small::job(&mut random);
+        let walks = Walks::new(&job, None);
+        for case in cases(&mut random, &job) {
+            match case.compare(&mut memory, &walks) {
+                Ok(seen) => counts.add(seen.said),
+                Err(why) => panic!("job {number}: {why}"),
+            }
+        }
+        let of = Features::of(&job);
+        long_words += usize::from(of.call && needs_a_long_call_word(&job));
+        let has = [
+            of.several_entries,
+            of.call,
+            of.exit_with_word_and_edge,
+            of.node_in_loop,
+            of.node_unreached,
+        ];
+        features
+            .iter_mut()
+            .zip(has)
+            .for_each(|(count, has)| *count += usize::from(has));
+    }
+    counts.print(&format!("{JOBS} jobs"));
+    println!("several entries, calls, exits with a word and an edge, loops, unreached nodes: {features:?}");
+    println!("a difference that needs a call word of two events or more: {long_words}");
+    counts.came(Said::all());
+    assert!(long_words >= 5);
+    assert!(
+        features.iter().all(|&count| count * 10 >= JOBS),
+        "{features:?}"
+    );
+    for said in [Said::Faithful, Said::Different] {
+        assert!(counts.of(said) > 10_000, "{said:?} is too rare");
+    }
+}
+
+#[test]
+fn jobs_of_512_nodes_agree_with_the_walks() {
+    const JOBS: u64 = 40;
+    let mut random = Random::of_this_run();
+    let mut memory = Memory::new(WRAPPER);
+    let mut checker = Checker::default();
+    let mut counts = Counts::default();
+    for number in 0..JOBS {
+        let job = match number % 8 {
+            0 => sized::job(&mut random, FULL),
+            number if number % 2 == 0 => large::job(&mut random, Order::Flow),
+            _ => large::job(&mut random, Order::Parts),
+        };
+        let walks = Walks::new(&job, None);
+        let found = dapohiru_plain::plan::plan(&mut checker, &job.file()).expect("the job is read");
+        let mut plans = vec![job.all_watched(), job.plan_of(&[]), found.bytes.clone()];
+        // one needed point cleared, or one more watched
+        for point in job.points() {
+            if random.once_in(60) {
+                let mut plan = found.bytes.clone();
+                plan[point] = 1 - plan[point];
+                plans.push(plan);
+            }
+        }
+        for plan in plans {
+            match Case::of(&job, plan).compare(&mut memory, &walks) {
+                Ok(seen) => counts.add(seen.said),
+                Err(why) => panic!("job {number}: {why}"),
+            }
+        }
+    }
+    counts.print(&format!("{JOBS} jobs"));
+    assert!(counts.of(Said::Faithful) >= 2 * JOBS);
+    assert!(counts.of(Said::Different) >= JOBS);
+}
+
+#[test]
+fn plain_check_and_planner_of_the_benchmark_agree_with_the_walks() {
+    let mut random = Random::of_this_run();
+    let mut checker = Checker::default();
+    let mut plans = 0;
+    for number in 0..1_000 {
+        let job = small::job(&mut random);
+        let file = job.file();
+        let walks = Walks::new(&job, None);
+        for plan in small::plans(&mut random, &job) {
+            let faithful = checker.check(&file, &plan, &mut vec![0; WORK]);
+            let wanted = difference(&walks, &plan).is_none();
+            assert_eq!(faithful, Ok(wanted), "job {number}");
+            plans += 1;
+        }
+        let found = dapohiru_plain::plan::plan(&mut checker, &file).expect("the job is read");
+        let wanted = dapohiru_second::planning::plan(&walks);
+        assert_eq!((&found.bytes, found.passes), (&wanted.plan, wanted.passes));
+        assert_eq!(found.points as u64, wanted.points);
+        assert_eq!(found.watched as u64, wanted.watched);
+        let mut lent = [7; 512];
+        let counts = checker.plan(&file, &mut vec![0; WORK], &mut lent);
+        let counts = counts.map(|counts| (counts.points, counts.watched, counts.passes));
+        assert_eq!(counts, Ok((found.points, found.watched, found.passes)));
+        assert!(
+            lent.starts_with(&found.bytes)
+                && lent[found.bytes.len()..].iter().all(|&byte| byte == 7)
+        );
+    }
+    println!("{plans} plans");
+}

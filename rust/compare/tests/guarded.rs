@@ -1,0 +1,222 @@
+//! Guarded buffers do what they are for: a byte read or written beside one is fatal, by hand and by the
+//! library. Each test runs itself again as a child that must die.
+use dapohiru_compare::guarded::{lend, Flush, Room};
+use dapohiru_generators::samples::pair;
+use std::env;
+use std::hint::black_box;
+use std::os::unix::process::ExitStatusExt;
+use std::panic::catch_unwind;
+use std::process::{Command, Stdio};
+use std::slice;
+
+/// What the child is to do; only children have it.
+const TASK: &str = "DAPOHIRU_GUARDED_TASK";
+const SIGSEGV: i32 = 11;
+
+/// Runs a test of this file again with a task; gives the signal that ended it, or nothing where it
+/// came to its end.
+fn ended_by(test: &str, task: &str) -> Option<i32> {
+    let program = env::current_exe().expect("the test has a program");
+    let child = Command::new(program)
+        .args([test, "--exact", "--test-threads=1"])
+        .env(TASK, task)
+        .stdout(Stdio::null())
+        .stderr(Stdio::null())
+        .status()
+        .expect("the program runs");
+    assert!(child.signal().is_some() || child.success(), "{task}");
+    child.signal()
+}
+
+/// Reads or writes the byte at this distance from a buffer's first.
+fn touch(first: *const u8, distance: isize, write: bool) {
+    let byte = first.cast_mut().wrapping_offset(distance);
+    // SAFETY: of a byte beside the buffer, none: the process is to die here.
+    unsafe {
+        match write {
+            true => byte.write_volatile(7),
+            false => drop(black_box(byte.read_volatile())),
+        }
+    }
+}
+
+#[test]
+fn byte_touched_beside_a_guarded_buffer_is_fatal_and_inside_is_not() {
+    const LENS: [usize; 7] = [1, 15, 256, 4_096, 49_914, 65_536, 65_537];
+    let tasks = LENS.iter().flat_map(|len| {
+        [
+            "inside",
+            "past its end",
+            "before its start",
+            "far past",
+            "far before",
+        ]
+        .into_iter()
+        .flat_map(move |at| ["read", "write"].map(|how| format!("{len} {how} {at}")))
+    });
+    if let Ok(task) = env::var(TASK) {
+        let (len, at) = task.split_once(' ').expect("a length");
+        let (how, at) = at.split_once(' ').expect("read or write");
+        let len: usize = len.parse().expect("a length");
+        let (flush, distance) = match at {
+            "past its end" => (Flush::End, len as isize),
+            "before its start" => (Flush::Start, -1),
+            "far past" => (Flush::End, len as isize + 999_999),
+            "far before" => (Flush::Start, -1_000_000),
+            _ => (Flush::End, 0),
+        };
+        let mut room = Room::new(len);
+        return touch(
+            room.buffer(len, flush).as_mut_ptr(),
+            distance,
+            how == "write",
+        );
+    }
+    for task in tasks {
+        let signal = ended_by(
+            "byte_touched_beside_a_guarded_buffer_is_fatal_and_inside_is_not",
+            &task,
+        );
+        let wanted = (!task.ends_with("inside")).then_some(SIGSEGV);
+        assert_eq!(signal, wanted, "{task}");
+    }
+}
+
+/// A buffer of which the last byte, or the first, is not there.
+fn longer_than_it_is(room: &mut Room, len: usize, missing: usize, flush: Flush) -> &mut [u8] {
+    let there = room.buffer(len - missing, flush);
+    let first = match flush {
+        Flush::End => there.as_mut_ptr(),
+        Flush::Start => there.as_mut_ptr().wrapping_sub(missing),
+    };
+    // SAFETY: where a byte is missing, none: the process is to die when the library touches it.
+    unsafe { slice::from_raw_parts_mut(first, len) }
+}
+
+/// Makes all four calls, with the named buffer shorter than it is said to be.
+fn call_with_short(name: &str, flush: Flush) {
+    let file = pair().file();
+    let mut rooms: Vec<_> = (0..8).map(|_| Room::new(1 << 17)).collect();
+    let mut rooms = rooms.iter_mut();
+    let mut lent = |of: &str, len: usize, missing: usize| {
+        let missing = if of == name { missing } else { 0 };
+        longer_than_it_is(rooms.next().expect("a room for each"), len, missing, flush)
+    };
+    // a plan or listing buffer is touched where something is written: at its first bytes
+    let (in_plan, in_listing) = match flush {
+        Flush::End => (512 - 2, 32_768 - (3 * 38 + 19)),
+        Flush::Start => (1, 1),
+    };
+    let job = lent("job", file.len(), 1);
+    let work = lent("work", 65_536, 1);
+    let plan = lent("plan", 512, in_plan);
+    let listing = lent("listing", 32_768, in_listing);
+    let checked = lent("checked", 3, 1);
+    let rule = lent("rule", 256, 1);
+    let record = lent("record", 16, 1);
+    if name == "job" {
+        let there = match flush {
+            Flush::End => 0..file.len() - 1,
+            Flush::Start => 1..file.len(),
+        };
+        job[there.clone()].copy_from_slice(&file[there]);
+    } else {
+        job.copy_from_slice(&file);
+    }
+    let numbers = [
+        dapohiru::numbers::plan(job, work, plan),
+        dapohiru::numbers::list(job, work, listing),
+        dapohiru::numbers::check(job, checked, work),
+        dapohiru::numbers::event(rule, 16, 16, 0, 15, record),
+    ];
+    black_box(numbers);
+}
+
+#[test]
+fn library_that_is_told_a_longer_buffer_dies_where_its_bytes_end() {
+    const NAMES: [&str; 8] = [
+        "nothing", "job", "work", "plan", "listing", "checked", "rule", "record",
+    ];
+    if let Ok(task) = env::var(TASK) {
+        let (name, flush) = task.split_once(' ').expect("a name and a place");
+        let flush = match flush {
+            "End" => Flush::End,
+            _ => Flush::Start,
+        };
+        return call_with_short(name, flush);
+    }
+    for name in NAMES {
+        for flush in Flush::BOTH {
+            let task = format!("{name} {flush:?}");
+            let signal = ended_by(
+                "library_that_is_told_a_longer_buffer_dies_where_its_bytes_end",
+                &task,
+            );
+            let wanted = (name != "nothing").then_some(SIGSEGV);
+            assert_eq!(signal, wanted, "{task}");
+        }
+    }
+}
+
+#[test]
+fn call_that_touches_a_byte_beside_any_buffer_lent_to_it_dies() {
+    let lens = [300, 3, 16, 65_536];
+    if let Ok(task) = env::var(TASK) {
+        let (place, side) = task.split_once(' ').expect("a buffer and a side");
+        let place: usize = place.parse().expect("a buffer");
+        let [one, other, mut third, mut fourth] = lens.map(|len| vec![1; len]);
+        return lend(
+            [&one, &other],
+            [&mut third, &mut fourth],
+            |[one, other], [third, fourth]| {
+                let first = [
+                    one.as_ptr(),
+                    other.as_ptr(),
+                    third.as_ptr(),
+                    fourth.as_ptr(),
+                ][place];
+                match side {
+                    "past" => touch(first, lens[place] as isize, false),
+                    "before" => touch(first, -1, false),
+                    _ => touch(first, 0, false),
+                }
+            },
+        );
+    }
+    for place in 0..lens.len() {
+        for (side, wanted) in [
+            ("past", Some(SIGSEGV)),
+            ("before", Some(SIGSEGV)),
+            ("in", None),
+        ] {
+            let task = format!("{place} {side}");
+            let signal = ended_by(
+                "call_that_touches_a_byte_beside_any_buffer_lent_to_it_dies",
+                &task,
+            );
+            assert_eq!(signal, wanted, "{task}");
+        }
+    }
+}
+
+#[test]
+fn call_that_answers_or_leaves_by_the_place_of_a_buffer_is_told() {
+    let by_place = |buffer: &[u8]| buffer.as_ptr().addr().is_multiple_of(4_096);
+    let answers = || lend([&[1; 3]], [], |[buffer], []| by_place(buffer));
+    assert!(catch_unwind(answers).is_err());
+    let leaves = || {
+        lend([], [&mut [1; 3]], |[], [buffer]| {
+            buffer[0] = u8::from(by_place(buffer));
+        })
+    };
+    assert!(catch_unwind(leaves).is_err());
+    let good = || {
+        let mut buffer = [1, 2, 3];
+        let sum = lend([&[4; 3]], [&mut buffer], |[read], [written]| {
+            written[2] = read[0];
+            read.iter().sum::<u8>()
+        });
+        (sum, buffer)
+    };
+    assert_eq!(good(), (12, [1, 2, 4]));
+}

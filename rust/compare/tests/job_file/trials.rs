@@ -1,0 +1,184 @@
+//! Trials of document 01, and jobs that are accepted.
+use crate::cases::Case;
+use crate::memory::words;
+use crate::samples::{answer, least, rich, second_job, PAIR};
+use dapohiru::Refusal;
+use dapohiru_generators::random::Random;
+use dapohiru_generators::sized::{self, Sizes, FULL};
+use dapohiru_second::job::Job;
+use dapohiru_second::reading::LONGEST;
+
+#[test]
+fn pair_is_accepted() {
+    assert_eq!(answer(PAIR.as_bytes()), Ok(()));
+    assert_eq!(second_job(PAIR.as_bytes()).file(), PAIR.as_bytes());
+}
+
+#[test]
+fn empty_file_is_refused_as_3() {
+    assert_eq!(answer(b""), Err(Refusal(3)));
+}
+
+#[test]
+fn cut_line_is_refused_as_4() {
+    for cut in [1, 13, 25, 27, PAIR.len() - 2, PAIR.len() - 1] {
+        assert_eq!(answer(&PAIR.as_bytes()[..cut]), Err(Refusal(4)), "{cut}");
+    }
+}
+
+#[test]
+fn sixteen_states_are_accepted_and_17_refused_as_5() {
+    for (states, wanted) in [(16, Ok(())), (17, Err(Refusal(5)))] {
+        let mut job = least();
+        job.finals = vec![1; states];
+        job.next = vec![vec![states as u64 - 1]; states];
+        assert_eq!(answer(&job.file()), wanted, "{states} states");
+    }
+}
+
+#[test]
+fn sixteen_symbols_are_accepted_and_17_refused_as_5() {
+    for (symbols, wanted) in [(16, Ok(())), (17, Err(Refusal(5)))] {
+        let mut job = least();
+        job.symbols = symbols;
+        job.next = vec![vec![0; symbols as usize]];
+        assert_eq!(answer(&job.file()), wanted, "{symbols} symbols");
+    }
+}
+
+#[test]
+fn nodes_to_512_are_accepted_and_513_refused_as_5() {
+    for (nodes, wanted) in [(512, Ok(())), (513, Err(Refusal(5)))] {
+        let mut job = least();
+        job.nodes = vec![job.nodes[0].clone(); nodes];
+        assert_eq!(answer(&job.file()), wanted, "{nodes} nodes");
+    }
+}
+
+#[test]
+fn edges_to_2048_are_accepted_and_2049_refused_as_5() {
+    // 46 nodes have 2,116 edges, and the file is below the greatest length
+    for (edges, wanted) in [(2048, Ok(())), (2049, Err(Refusal(5)))] {
+        let mut job = least();
+        job.nodes = vec![job.nodes[0].clone(); 46];
+        job.edges = (0..edges).map(|edge| (edge / 46, edge % 46)).collect();
+        assert!(job.file().len() < LONGEST);
+        assert_eq!(answer(&job.file()), wanted, "{edges} edges");
+    }
+}
+
+#[test]
+fn same_edge_twice_is_refused_as_8() {
+    let mut job = second_job(PAIR.as_bytes());
+    job.edges = vec![(0, 1), (0, 1)];
+    assert_eq!(answer(&job.file()), Err(Refusal(8)));
+}
+
+#[test]
+fn longest_file_is_accepted_and_one_byte_more_refused_as_1() {
+    let mut random = Random::of_this_run();
+    for _ in 0..20 {
+        let mut file = sized::job(&mut random, FULL).file();
+        assert_eq!(file.len(), LONGEST);
+        assert_eq!(answer(&file), Ok(()));
+        file.push(b'\n');
+        assert_eq!(answer(&file), Err(Refusal(1)));
+    }
+}
+
+#[test]
+fn full_size_with_a_number_past_its_limit_is_refused_as_1() {
+    let mut random = Random::of_this_run();
+    let full = sized::job(&mut random, FULL);
+    let mut states = full.clone();
+    states.finals.push(0);
+    states.next.push(states.next[0].clone());
+    let mut edges = full.clone();
+    edges.edges.push((511, 511));
+    for job in [states, edges] {
+        assert_eq!(answer(&job.file()), Err(Refusal(1)));
+    }
+}
+
+#[test]
+fn jobs_at_every_limit_are_accepted() {
+    let mut random = Random::of_this_run();
+    let mut jobs = 0;
+    for states in [1, 2, 15, 16] {
+        for symbols in [1, 2, 15, 16] {
+            for nodes in [1, 2, 46, 511, 512] {
+                for edges in [0, 1, 3, 2047, 2048] {
+                    let sizes = Sizes {
+                        states,
+                        symbols,
+                        nodes,
+                        edges: edges.min(nodes * nodes),
+                    };
+                    let job = sized::job(&mut random, sizes);
+                    let file = job.file();
+                    assert_eq!(answer(&file), Ok(()), "{sizes:?}");
+                    assert_eq!(second_job(&file), job);
+                    jobs += 1;
+                }
+            }
+        }
+    }
+    println!("{jobs} jobs");
+}
+
+#[test]
+fn what_document_01_allows_is_accepted() {
+    let with = |change: fn(&mut Job)| {
+        let mut job = rich();
+        change(&mut job);
+        job
+    };
+    let jobs: [(&str, Job); 10] = [
+        ("the least job", least()),
+        ("call set 0", with(|job| job.nodes[5].value = 0)),
+        ("exit with after set 0", with(|job| job.nodes[2].after = 0)),
+        (
+            "entry at every kind",
+            with(|job| job.nodes.iter_mut().for_each(|node| node.entry = 7)),
+        ),
+        (
+            "exit at every kind",
+            with(|job| job.nodes.iter_mut().for_each(|node| node.exit = 1)),
+        ),
+        ("no edge", with(|job| job.edges.clear())),
+        (
+            "an edge to itself alone",
+            with(|job| job.edges = vec![(11, 11)]),
+        ),
+        ("no final state", with(|job| job.finals = vec![0; 3])),
+        ("all states final", with(|job| job.finals = vec![1; 3])),
+        (
+            "no event node",
+            with(|job| {
+                job.nodes.iter_mut().for_each(|node| {
+                    (node.kind, node.value) = (0, 0);
+                })
+            }),
+        ),
+    ];
+    for (what, job) in jobs {
+        assert_eq!(answer(&job.file()), Ok(()), "{what}");
+        assert_eq!(second_job(&job.file()), job, "{what}");
+    }
+}
+
+#[test]
+fn random_jobs_are_accepted_and_read_back_by_the_second_reader() {
+    const JOBS: u64 = 20_000;
+    let mut random = Random::of_this_run();
+    let mut longest = 0;
+    for _ in 0..JOBS {
+        let sizes = Sizes::random(&mut random);
+        let job = sized::job(&mut random, sizes);
+        let file = job.file();
+        assert_eq!(answer(&file), Ok(()), "{}", words(&Case::of(file)));
+        assert_eq!(second_job(&file), job);
+        longest = longest.max(file.len());
+    }
+    println!("{JOBS} jobs, the longest file has {longest} bytes");
+}

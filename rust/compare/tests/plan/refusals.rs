@@ -1,0 +1,72 @@
+//! Every refusal, alone and beside another fault.
+use dapohiru_compare::memory::Counts;
+use dapohiru_compare::serving::{Case, Memory, Said};
+use dapohiru_compare::wrapper::WRAPPER;
+use dapohiru_generators::faults::NUMBERS;
+use dapohiru_generators::random::Random;
+use dapohiru_generators::samples::pair;
+use dapohiru_generators::small;
+use dapohiru_second::serving::{Given, Service};
+use dapohiru_second::walk::Walks;
+
+#[test]
+fn lower_of_two_faults_decides() {
+    let mut random = Random::fixed(9);
+    let mut memory = Memory::new(WRAPPER);
+    let mut counts = Counts::default();
+    let job = pair();
+    let given = Given::of(&Walks::new(&job, None));
+    for service in Service::BOTH {
+        for one in 1..=10 {
+            for other in (1..=2).filter(|&other| other <= one) {
+                for _ in 0..30 {
+                    let mut case = Case::of(service, &job);
+                    for number in if one == other {
+                        vec![one]
+                    } else {
+                        vec![one, other]
+                    } {
+                        case = case.with_fault(&mut random, &job, number);
+                    }
+                    match case.compare(&mut memory, &given) {
+                        Ok(seen) => {
+                            assert_eq!(seen.number, other);
+                            counts.add(case.said(&seen));
+                        }
+                        Err(why) => panic!("{one} and {other}: {why}"),
+                    }
+                }
+            }
+        }
+    }
+    counts.print("two faults");
+}
+
+#[test]
+fn every_refusal_leaves_plan_and_listing_buffer() {
+    let mut random = Random::fixed(10);
+    let mut memory = Memory::new(WRAPPER);
+    let mut counts = Counts::default();
+    for number in 0..400 {
+        let job = small::job(&mut random);
+        let given = Given::of(&Walks::new(&job, None));
+        for service in Service::BOTH {
+            for fault in [1, 2].into_iter().chain(NUMBERS) {
+                if fault == 8 && job.edges.is_empty() {
+                    continue;
+                }
+                let case = Case::of(service, &job).with_fault(&mut random, &job, fault);
+                match case.compare(&mut memory, &given) {
+                    Ok(seen) => {
+                        assert_eq!(seen.number, fault, "job {number}");
+                        assert_eq!(seen.written, vec![], "job {number}");
+                        counts.add(case.said(&seen));
+                    }
+                    Err(why) => panic!("job {number}: {why}"),
+                }
+            }
+        }
+    }
+    counts.print("400 jobs");
+    counts.came((1..=10).map(Said::Refused));
+}

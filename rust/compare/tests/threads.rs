@@ -1,0 +1,57 @@
+//! The calls in many threads at once answer as they do alone.
+
+use dapohiru_compare::wrapper::WRAPPER;
+use dapohiru_generators::random::Random;
+use dapohiru_generators::small;
+use dapohiru_second::job::Job;
+use dapohiru_second::reading::WORK;
+use std::thread;
+
+/// The answers of all calls for one job, with what they write.
+fn answers(job: &Job, work: &mut [u8]) -> (Vec<u64>, Vec<u8>) {
+    let (file, mut plan, mut listing) = (job.file(), vec![7; 512], vec![7; 32_768]);
+    let mut numbers = vec![
+        (WRAPPER.plan)(&file, work, &mut plan),
+        (WRAPPER.list)(&file, work, &mut listing),
+        (WRAPPER.check)(&file, &job.plan_of(&[]), work),
+    ];
+    let (rule, mut record) = (job.table(), [0; 16]);
+    let (states, symbols, finals) = (job.states() as u64, job.symbols, job.final_set());
+    for event in 0..200 {
+        let symbol = event % (symbols + 1);
+        numbers.push((WRAPPER.event)(
+            &rule,
+            states,
+            symbols,
+            finals,
+            symbol,
+            &mut record,
+        ));
+    }
+    (numbers, [&plan[..], &listing, &record].concat())
+}
+
+#[test]
+fn many_threads_get_the_answers_that_one_gets() {
+    let mut random = Random::fixed(21);
+    let jobs: Vec<_> = (0..300).map(|_| small::job(&mut random)).collect();
+    let alone: Vec<_> = jobs
+        .iter()
+        .map(|job| answers(job, &mut [0; WORK]))
+        .collect();
+    thread::scope(|scope| {
+        for thread in 0..8 {
+            let (jobs, alone) = (&jobs, &alone);
+            scope.spawn(move || {
+                let mut work = vec![thread as u8; WORK];
+                // each thread begins at another job
+                for place in (0..jobs.len()).map(|k| (k + 37 * thread) % jobs.len()) {
+                    assert!(
+                        answers(&jobs[place], &mut work) == alone[place],
+                        "job {place} in thread {thread}"
+                    );
+                }
+            });
+        }
+    });
+}

@@ -1,0 +1,40 @@
+//! Files with random damage.
+use crate::random::Random;
+use dapohiru_second::job::{spell, Job};
+
+/// The file of a job in which some line has another number in some field.
+pub fn misnumbered(random: &mut Random, job: &Job) -> Vec<u8> {
+    let mut lines = job.lines();
+    let line = random.place(lines.len());
+    let field = random.place(lines[line].numbers.len());
+    let near = lines[line].numbers[field];
+    lines[line].numbers[field] =
+        random.pick(&[near + 1, near.saturating_sub(1), 0, 1, 2, 16, 999_999]);
+    spell(&lines)
+}
+
+/// Replaces, puts in or takes out some bytes, or cuts the file.
+pub fn damage(random: &mut Random, file: &mut Vec<u8>) {
+    for _ in 0..random.between(1, 2) {
+        if file.is_empty() {
+            return;
+        }
+        let place = random.place(file.len());
+        let byte = random.pick(b"  00112233456789\n\r\tJRPF-+\0\xff");
+        match random.below(12) {
+            0 => file.truncate(place),
+            1 => file.insert(place, byte),
+            2 => drop(file.remove(place)),
+            _ => file[place] = byte,
+        }
+    }
+}
+
+/// The file of a job with another number in some field, now and then with other bytes too.
+pub fn damaged(random: &mut Random, job: &Job) -> Vec<u8> {
+    let mut file = misnumbered(random, job);
+    if random.once_in(3) {
+        damage(random, &mut file);
+    }
+    file
+}

@@ -1,0 +1,54 @@
+//! What of interest a small job has.
+use dapohiru_second::job::{Job, CALL};
+use dapohiru_second::walk::{Place, Walks};
+
+/// What of interest a job has.
+#[derive(Clone, Copy, Debug, Default)]
+pub struct Features {
+    pub several_entries: bool,
+    /// A call whose set is not empty.
+    pub call: bool,
+    /// An exit with an after set and an edge.
+    pub exit_with_word_and_edge: bool,
+    pub node_in_loop: bool,
+    pub node_unreached: bool,
+}
+
+impl Features {
+    /// What a job has.
+    pub fn of(job: &Job) -> Self {
+        let walks = Walks::new(job, None);
+        let exit_with_edge = |&(from, _): &(u64, u64)| job.nodes[from as usize].after != 0;
+        let entries = job.entries();
+        Features {
+            several_entries: entries.len() > 1,
+            call: job
+                .nodes
+                .iter()
+                .any(|node| node.kind == CALL && node.value != 0),
+            exit_with_word_and_edge: job.edges.iter().any(exit_with_edge),
+            node_in_loop: (0..job.nodes.len()).any(|node| {
+                places_from(&walks, vec![Place::Past(node)]).contains(&Place::Before(node))
+            }),
+            node_unreached: {
+                let starts = entries.into_iter().map(Place::Before).collect();
+                let places = places_from(&walks, starts);
+                (0..job.nodes.len()).any(|node| !places.contains(&Place::Before(node)))
+            },
+        }
+    }
+}
+
+/// The places to which walks lead from these.
+fn places_from(walks: &Walks, mut places: Vec<Place>) -> Vec<Place> {
+    let mut looked_at = 0;
+    while looked_at < places.len() {
+        for step in walks.moves(places[looked_at]) {
+            if !places.contains(&step.to) {
+                places.push(step.to);
+            }
+        }
+        looked_at += 1;
+    }
+    places
+}

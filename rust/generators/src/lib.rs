@@ -1,0 +1,18 @@
+//! What tests and benchmarks are made of, from a printed seed: random jobs, small and large, damaged
+//! files, random walks and random calls of the event step; and jobs written by hand.
+pub mod damage;
+pub mod events;
+pub mod faults;
+pub mod features;
+pub mod large;
+pub mod mixed;
+pub mod random;
+pub mod rings;
+pub mod samples;
+pub mod shape;
+pub mod sized;
+pub mod small;
+pub mod spread;
+pub mod story;
+pub mod walker;
+pub mod widen;

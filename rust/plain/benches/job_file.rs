@@ -1,0 +1,132 @@
+//! Milliseconds to read 300 job files of full size: the library's check of a plan of no bytes, which reads
+//! the file and no more, beside a plain Rust reader that makes the same tests on the same bytes, decodes
+//! the job and clears as many bytes. `cargo bench --offline --bench job_file` runs it.
+use dapohiru::{check, Refusal};
+use dapohiru_generators::random::Random;
+use dapohiru_generators::sized::{self, FULL};
+use dapohiru_plain::read::Decoded;
+use dapohiru_second::job::{Job, Node};
+use std::hint::black_box;
+use std::time::Instant;
+
+/// Files in one repetition.
+const FILES: usize = 300;
+/// Repetitions of each reader, taken in turn.
+const REPETITIONS: usize = 41;
+/// The length of the work buffer.
+const WORK: usize = 65_536;
+
+/// Whether the plain reader has decoded that job.
+fn holds(decoded: &Decoded, job: &Job) -> bool {
+    let next = decoded.next[..decoded.states].iter().map(|row| {
+        row[..decoded.symbols]
+            .iter()
+            .map(|&next| next.into())
+            .collect()
+    });
+    let nodes = decoded.nodes[..decoded.node_count].iter().map(|node| Node {
+        kind: node.kind.into(),
+        value: node.value.into(),
+        entry: node.entry.into(),
+        exit: node.exit.into(),
+        after: node.after.into(),
+    });
+    // the edges by the index
+    let edges = (0..decoded.node_count).flat_map(|node| {
+        let of_node = decoded.first[node].into()..decoded.first[node + 1].into();
+        decoded.edges[of_node].iter().map(move |&(from, to)| {
+            assert_eq!(usize::from(from), node);
+            (from.into(), to.into())
+        })
+    });
+    let held = Job {
+        symbols: decoded.symbols as u64,
+        finals: (0..decoded.states)
+            .map(|state| u64::from(decoded.finals >> state & 1))
+            .collect(),
+        next: next.collect(),
+        nodes: nodes.collect(),
+        edges: edges.collect(),
+    };
+    held.edges.len() == decoded.edge_count && held == *job
+}
+
+/// Reads a file by the library: where nothing is wrong with it the plan of no bytes is refused as 11.
+#[inline]
+fn read(file: &[u8], work: &mut [u8]) -> Result<(), Refusal> {
+    match check(file, &[], work) {
+        Err(Refusal(11)) => Ok(()),
+        Err(refusal) => Err(refusal),
+        Ok(verdict) => panic!("{verdict:?} for a plan of no bytes"),
+    }
+}
+
+/// Reads a file in plain Rust.
+#[inline(never)]
+fn plain(file: &[u8], decoded: &mut Decoded, work: &mut [u8]) -> Result<(), Refusal> {
+    if file.len() > 49_914 {
+        return Err(Refusal(1));
+    }
+    if work.len() < WORK {
+        return Err(Refusal(2));
+    }
+    let answer = decoded.decode(file).map_err(Refusal);
+    work[..WORK].fill(0);
+    answer
+}
+
+/// The milliseconds that a reader takes for all files, each of which it accepts.
+fn time(files: &[Vec<u8>], mut reader: impl FnMut(&[u8]) -> Result<(), Refusal>) -> f64 {
+    let start = Instant::now();
+    for file in files {
+        assert_eq!(black_box(reader(black_box(file))), Ok(()));
+    }
+    start.elapsed().as_secs_f64() * 1_000.0
+}
+
+fn median(mut times: Vec<f64>) -> f64 {
+    times.sort_by(f64::total_cmp);
+    times[times.len() / 2]
+}
+
+fn main() {
+    let mut random = Random::of_this_run();
+    let mut work = vec![0; WORK];
+    let mut decoded = Decoded::new();
+    let mut files = Vec::new();
+    for _ in 0..FILES {
+        let job = sized::job(&mut random, FULL);
+        let file = job.file();
+        assert_eq!(plain(&file, &mut decoded, &mut work), Ok(()));
+        assert!(
+            holds(&decoded, &job),
+            "the plain reader decodes another job"
+        );
+
+        // the two readers are of one mind on a damaged file too
+        let mut damaged = file.clone();
+        let place = random.place(damaged.len());
+        damaged[place] = random.pick(b" 0129:\n");
+        damaged.truncate(random.pick(&[place, file.len(), file.len()]));
+        let answer = plain(&damaged, &mut decoded, &mut work);
+        assert_eq!(read(&damaged, &mut work), answer, "the two readers differ");
+        files.push(file);
+    }
+    let bytes: usize = files.iter().map(Vec::len).sum();
+
+    let (mut ours, mut theirs) = (Vec::new(), Vec::new());
+    for _ in 0..REPETITIONS {
+        ours.push(time(&files, |file| read(file, black_box(&mut work))));
+        theirs.push(time(&files, |file| {
+            let answer = plain(file, black_box(&mut decoded), black_box(&mut work));
+            black_box(&decoded);
+            answer
+        }));
+    }
+    let (ours, theirs) = (median(ours), median(theirs));
+    println!(
+        "milliseconds for {FILES} files of full size ({bytes} bytes), median of {REPETITIONS} repetitions"
+    );
+    println!("  dapohiru_check   plain Rust   ratio");
+    println!("{ours:>16.2}   {theirs:>10.2}   {:>5.2}", ours / theirs);
+}

@@ -1,0 +1,91 @@
+//! Calls on buffers that are allocations of their own size, with the answers counted.
+use crate::tally::Tally;
+use dapohiru::numbers::ACCEPTED;
+use dapohiru_compare::library::CALLS;
+use dapohiru_compare::{checking, serving};
+use dapohiru_generators::random::Random;
+use dapohiru_second::job::Job;
+use dapohiru_second::reading::{self, WORK};
+use dapohiru_second::serving::Service;
+
+/// An allocation that holds these bytes and no more.
+pub fn exact(bytes: &[u8]) -> Box<[u8]> {
+    bytes.into()
+}
+
+/// An allocation of so many bytes.
+pub fn filled(len: usize, byte: u8) -> Box<[u8]> {
+    vec![byte; len].into_boxed_slice()
+}
+
+/// Calls, with the answers counted.
+#[derive(Default)]
+pub struct Calls {
+    pub tally: Tally,
+}
+
+impl Calls {
+    /// Plans or lists with buffers of these lengths; gives the number.
+    pub fn serve(&mut self, service: Service, file: &[u8], work: usize, lent: usize) -> u64 {
+        let (file, mut work, mut lent) = (exact(file), filled(work, 9), filled(lent, 7));
+        let number = CALLS.serve(service, &file, &mut work, &mut lent);
+        self.tally.add_served(serving::Said::of(service, number));
+        number
+    }
+
+    /// Checks with buffers of these lengths; gives the number.
+    pub fn check(&mut self, file: &[u8], plan: &[u8], work: usize) -> u64 {
+        let (file, plan, mut work) = (exact(file), exact(plan), filled(work, 9));
+        let number = (CALLS.check)(&file, &plan, &mut work);
+        self.tally.add_checked(checking::Said::of(number));
+        number
+    }
+
+    /// A file in all three calls, of which each is refused as it should be, or accepted.
+    pub fn file(&mut self, random: &mut Random, file: &[u8]) -> Result<(), String> {
+        let read = reading::job(file);
+        let (plan, of_plan) = match &read {
+            Ok(job) => plan(random, job),
+            Err(_) => (vec![1; 3], None),
+        };
+        let refusal = read.err();
+        let numbers = [
+            self.serve(Service::Plan, file, WORK, Service::Plan.least()),
+            self.serve(Service::List, file, WORK, Service::List.least()),
+            self.check(file, &plan, WORK),
+        ];
+        let wanted = [refusal, refusal, refusal.or(of_plan)];
+        let seen = numbers.map(|number| (number < ACCEPTED).then_some(number));
+        if seen == wanted {
+            return Ok(());
+        }
+        Err(format!(
+            "refusals {seen:?}, and {wanted:?} wanted; plan {plan:?}, file {}",
+            file.escape_ascii()
+        ))
+    }
+}
+
+/// A plan to be checked, with the refusal that it deserves.
+fn plan(random: &mut Random, job: &Job) -> (Vec<u8>, Option<u64>) {
+    let mut plan = match random.below(3) {
+        0 => job.plan_of(&[]),
+        _ => job.all_watched(),
+    };
+    match random.below(8) {
+        0 => {
+            let place = random.place(plan.len());
+            plan[place] = random.pick(&[2, 128, 255]);
+            (plan, Some(12))
+        }
+        1 => {
+            plan.push(0);
+            (plan, Some(11))
+        }
+        2 => {
+            plan.pop();
+            (plan, Some(11))
+        }
+        _ => (plan, None),
+    }
+}

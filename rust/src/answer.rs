@@ -1,0 +1,51 @@
+//! The answers of the calls, as values.
+use std::{error, fmt};
+
+/// The number of a refusal: 1 for the file's length, 2 for a buffer, 3 to 10 for what the file holds,
+/// 11 and 12 for the plan, 13 for the rule, 14 for the symbol, 15 for the record.
+///
+/// ```
+/// let refusal = dapohiru::plan(b"", &mut [0; 65_536], &mut [0; 512]).unwrap_err();
+/// assert_eq!(refusal, dapohiru::Refusal(3));
+/// assert_eq!(refusal.to_string(), "refused 3");
+/// ```
+#[derive(Clone, Copy, Debug, PartialEq, Eq)]
+pub struct Refusal(pub u64);
+
+impl fmt::Display for Refusal {
+    fn fmt(&self, f: &mut fmt::Formatter<'_>) -> fmt::Result {
+        write!(f, "refused {}", self.0)
+    }
+}
+
+impl error::Error for Refusal {}
+
+/// What planning counts.
+#[derive(Clone, Copy, Debug, PartialEq, Eq)]
+pub struct Counts {
+    /// The event nodes of the job ("points").
+    pub points: u64,
+    /// The points that the plan has watched.
+    pub watched: u64,
+    /// The passes over the points, with the last, which changes nothing.
+    pub passes: u64,
+}
+
+/// What the plan check finds.
+#[derive(Clone, Copy, Debug, PartialEq, Eq)]
+pub enum Verdict {
+    /// On every walk, from every admitted start, the monitor under the plan and the one with all
+    /// points watched alarm at the same events.
+    Faithful,
+    /// There is a walk on which they do not.
+    Different,
+}
+
+/// What the monitor reports of an event that it takes.
+#[derive(Clone, Copy, Debug, PartialEq, Eq)]
+pub enum Report {
+    /// The state moved to is not final.
+    Quiet,
+    /// The state moved to is final.
+    Alarm,
+}
