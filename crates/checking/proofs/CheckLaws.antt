@@ -1,43 +1,38 @@
 -- Laws of the plan check, in the shape of its code.
 -- Assumes nothing.
 use mathlib.Core.Path.{_≡_, refl, sym, ap, _∙_, subst}
-use mathlib.Core.Logic.{_⊎_, inl, inr}
-use mathlib.Core.Bool.{Bool, true, false, cond}
+use mathlib.Core.Logic.{inl, inr}
+use mathlib.Core.Bool.{Bool, true, false, cond, _||_}
 use mathlib.Core.List.{List}
-use Prim.Native.Nat.{ℕ, zero, suc, _+_, _^_, _≤_, _<_}
-use native.Mathlib.Nat.{lt-of-lt-of-le, lt-irrefl}
+use Prim.Native.Nat.{ℕ, _+_, _≤_, _<_}
 use native.Mathlib.Omega.{arith}
-use lib.Dec.{eqb}
+use lib.Dec.{eqb, ltb}
 use lib.ListN.{length, getD}
 use borrow.Author.Tests.{lt-ltb, le-ltb, eq-eqb, ne-eqb}
 use Rattle.laws.specs.Bounded.{allBelow}
 use Rattle.laws.proofs.Bounded.{all-cong}
-use Rattle.laws.proofs.Bits.{members-below}
 use Rattle.job.specs.Job.{Job, Node, nodeAt}
 use Rattle.job.specs.Search.{faithful}
-use Rattle.lines.specs.Lines.{Kind}
-use Rattle.lines.specs.Written.{BadLine, ended, malformed, outside}
 use Rattle.jobfile.specs.File.{Answer, maxFile, readJob}
-use Rattle.jobfile.specs.Refusal.{TurnedBack, too-long, at-head, at-rule, at-node, at-edge, bytes-follow, no-entry}
-use Rattle.jobfile.proofs.RefusalLaws.{turned-says}
-use Rattle.joblines.specs.declared.head.Head.{Head}
-use Rattle.buffer.specs.Layout.{nodesPart, classPart, foundPart, planPart, rulePart, workSize, Lent}
+use Rattle.buffer.specs.Layout.{nodesPart, classPart, foundPart, planPart, rulePart, workSize}
 use Rattle.buffer.specs.Views.{nodeIn}
 use Rattle.buffer.specs.Kept.{SameOutside, cleared}
-use Rattle.reader.specs.Rule.{ruleIn}
-use Rattle.joblines.specs.Reading.{JobRead, SameRest}
-use Rattle.reader.proofs.ClearLaws.{cleared-same}
 use Rattle.buffer.proofs.KeptLaws.{kept-fewer, outside-part, kept-none, kept-both}
-use Rattle.checking.specs.declared.check.Verdict.{Verdict}
-use Rattle.checking.specs.declared.check.Verdict.the-variants.{Faithful, Different, Refused}
+use Rattle.joblines.specs.declared.head.Head.{Head}
+use Rattle.reader.specs.Rule.{ruleIn}
 use Rattle.tables.specs.Tables.{SearchKept}
 use Rattle.tables.specs.Held.{Usable, JobHeld, PlanHeld}
+use Rattle.tables.proofs.JobKeptLaws.{FrontKept, front-kept, front-usable, front-job, table-usable}
 use Rattle.search.specs.Searched.{SearchedAt}
 use Rattle.classes.specs.Backwards.{AfterWords}
-use Rattle.checking.specs.Checking.{goodMark, judged, answered, checked, refusedLeft, workLeft, PlanStored, Judged}
-use Rattle.tables.proofs.JobKeptLaws.{FrontKept, front-kept, front-usable, front-job}
-use Rattle.checking.proofs.JobHeldLaws.{finals-read, usable-read, job-read}
-use Rattle.checking.proofs.AnswerReadLaws.{turned-read, accepted-read}
+use Rattle.classes.proofs.AfterLaws.{after-front}
+use Rattle.admission.specs.Admission.{admitted, workAfter}
+use Rattle.admission.specs.Admitted.{Admitted}
+use Rattle.admission.proofs.AdmissionLaws.{admitted-long, admitted-short, admitted-read, cleared-outside}
+use Rattle.admission.proofs.CallLaws.{answer-refused}
+use Rattle.checking.specs.declared.check.Verdict.{Verdict}
+use Rattle.checking.specs.declared.check.Verdict.the-variants.{Faithful, Different, Refused}
+use Rattle.checking.specs.Checking.{goodMark, judged, answered, checked, workLeft, PlanStored, Judged}
 
 -- ---- the answer for a job
 
@@ -94,28 +89,11 @@ module _ (plan l : List ℕ) (table : List (List ℕ)) (finals states nodes : �
 stored-front : {plan l m : List ℕ} {nodes : ℕ} → PlanStored plan l m nodes → FrontKept l m
 stored-front p = front-kept (omega arith) (p .kept)
 
--- so do the after words
-after-front
-    : {table : List (List ℕ)} {finals states nodes : ℕ} {l m : List ℕ} → AfterWords table finals states nodes l m → FrontKept l m
-after-front a = front-kept (omega arith) (a .kept)
-
--- the buffer is as the searches need it, when the plan is stored
+-- the buffer with the plan may be searched
 pub stored-usable
     : {plan l m : List ℕ} {table : List (List ℕ)} {states nodes : ℕ} → Usable l table states nodes → PlanStored plan l m nodes
     → Usable m table states nodes
 stored-usable u p = front-usable (stored-front p) u
-
--- and with the after words
-pub after-usable
-    : {l m : List ℕ} {table : List (List ℕ)} {finals states nodes : ℕ} → Usable l table states nodes
-    → AfterWords table finals states nodes l m → Usable m table states nodes
-after-usable u a = front-usable (after-front a) u
-
--- the table that was read is the rule in the buffer
-pub table-usable
-    : {l : List ℕ} {table rule : List (List ℕ)} {states nodes : ℕ} → table ≡ rule → Usable l rule states nodes
-    → Usable l table states nodes
-table-usable {l} {table} {rule} {states} {nodes} e u = subst (λ (t : List (List ℕ)). Usable l t states nodes) (sym e) u
 
 module _ (plan l m k f : List ℕ) (table : List (List ℕ)) (finals states nodes : ℕ) where
   -- the plan stays where the after words are filled in
@@ -155,43 +133,22 @@ module _ (plan l m k f : List ℕ) (table : List (List ℕ)) (finals states node
 -- refusal 1
 pub checked-1 : (file plan : List ℕ) (size : ℕ) → maxFile < length file → Refused 1 ≡ checked file plan size
 unfolding checked
-checked-1 file plan size h = sym (simp (lt-ltb maxFile (length file) h))
+checked-1 file plan size h = sym (ap (λ (a : Answer). answered a plan) (admitted-long file (ltb size workSize) h))
 
 -- refusal 2
 pub checked-2 : (file plan : List ℕ) (size : ℕ) → length file ≤ maxFile → size < workSize → Refused 2 ≡ checked file plan size
 unfolding checked
-checked-2 file plan size h g = sym (simp (le-ltb maxFile (length file) h, lt-ltb size workSize g))
+checked-2 file plan size h g =
+    sym (ap (λ (a : Answer). answered a plan) (admitted-short file (ltb size workSize) h (lt-ltb size workSize g)))
 
 -- past both, the file's own
 pub checked-read
     : (file plan : List ℕ) (size : ℕ) → length file ≤ maxFile → workSize ≤ size → checked file plan size ≡ answered (readJob file) plan
 unfolding checked
-checked-read file plan size h g = simp (le-ltb maxFile (length file) h, le-ltb size workSize g)
+checked-read file plan size h g =
+    ap (λ (a : Answer). answered a plan) (admitted-read file (ltb size workSize) h (le-ltb size workSize g))
 
--- a line is turned back by 3 or more
-bad-past : {k : Kind} {i r : ℕ} {before bytes : List ℕ} → 3 ≤ k .refusal → BadLine k i before bytes r → 3 ≤ r
-bad-past low (ended none) = omega arith
-bad-past low (malformed some none) = omega arith
-bad-past low (outside l bad) = low
-
--- a file that is not too long is turned back by 3 or more
-turned-past : {file : List ℕ} {r : ℕ} → length file ≤ maxFile → TurnedBack file r → 3 ≤ r
-turned-past h (too-long l) = absurd (lt-irrefl maxFile (lt-of-lt-of-le l h))
-turned-past h (at-head short f) = bad-past (omega arith) (f .bad)
-turned-past h (at-rule p f) = bad-past (omega arith) (f .bad)
-turned-past h (at-node p f) = bad-past (omega arith) (f .bad)
-turned-past h (at-edge p f) = bad-past (omega arith) (f .bad)
-turned-past h (bytes-follow p some) = omega arith
-turned-past h (no-entry p none) = omega arith
-
--- such a refusal leaves the buffer cleared
-left-past : (k : ℕ) (work : List ℕ) → 3 ≤ k → refusedLeft k work ≡ cleared work
-left-past zero work h = refl
-left-past (suc zero) work h = absurd (omega arith)
-left-past (suc (suc zero)) work h = absurd (omega arith)
-left-past (suc (suc (suc k))) work h = refl
-
--- and so does the answer for a job
+-- the answer for a job leaves the buffer cleared
 left-judged : (j : Job) (plan work : List ℕ) → workLeft (judged j plan) work ≡ cleared work
 unfolding judged
 left-judged j plan work =
@@ -203,46 +160,33 @@ left-judged j plan work =
     go true false c = refl
     go false b c = refl
 
--- buffers that differ in the bytes that a call may use are cleared to the same
-pub cleared-outside : (l m : List ℕ) → SameOutside l m nodesPart workSize → cleared m ≡ cleared l
-cleared-outside l m s = cleared-same l m (s .long) (λ k h. s .outside k (inr h))
+-- no buffer but the work buffer is tested
+pub check-admitted
+    : (file : List ℕ) (size : ℕ) {l m : List ℕ} {r : Head} → Admitted (admitted file (ltb size workSize || false)) l m r
+    → Admitted (admitted file (ltb size workSize)) l m r
+check-admitted file size {l} {m} {r} a = go (ltb size workSize) a
+  where
+    go : (b : Bool) → Admitted (admitted file (b || false)) l m r → Admitted (admitted file b) l m r
+    go true a = a
+    go false a = a
 
--- so is what the reader leaves, and what it was given
-pub cleared-rest : (l m : List ℕ) → SameRest l m → cleared m ≡ cleared l
-cleared-rest l m s = cleared-same l m (s .long) (λ k h. s .outside k (inr (omega arith), inr (omega arith)))
+-- a number of admission is the refusal
+pub check-refused
+    : {answer : Answer} {l m : List ℕ} {r : Head} (plan : List ℕ) → Admitted answer l m r → (r .refusal ≡ 0 → ⊥)
+    → (Refused (r .refusal) ≡ answered answer plan) × (m ≡ workLeft (Refused (r .refusal)) l)
+check-refused {answer} {l} plan a h =
+    let e = answer-refused a h in (
+      sym (ap (λ (x : Answer). answered x plan) e),
+      a .refused h ∙ ap (λ (x : Answer). workAfter x l) e,
+    )
 
-module _ (file l m : List ℕ) (r : Head) (short : length file ≤ maxFile) (read : JobRead (readJob file) l m r) where
-  -- a number is the answer's refusal, and the buffer is cleared
-  pub read-refused
-      : (plan : List ℕ) → (r .refusal ≡ 0 → ⊥)
-      → (Refused (r .refusal) ≡ answered (readJob file) plan) × (refusedLeft (r .refusal) l ≡ cleared l)
-  read-refused plan h =
-      let e = turned-read file l m r read h in (
-        sym (ap (λ (a : Answer). answered a plan) e),
-        left-past (r .refusal) l (turned-past short (turned-says file (r .refusal) .0 e)),
-      )
-
-  -- the final set has sixteen bits
-  pub finals-fit : r .refusal ≡ 0 → r .finals < 2 ^ 16
-  finals-fit h =
-      let a = accepted-read file l m r read h in
-      let rule = job-read file l m r read (a .0) (a .1) .formed .rule in
-      subst (λ (s : ℕ). s < 2 ^ 16) (sym (finals-read file l m r read (a .0) (a .1)))
-      (members-below 16 (a .0 .rule .finals) (λ q g. lt-of-lt-of-le (rule .finals-below q g) (rule .few-states)))
-
-  -- the buffer is as the searches need it
-  pub read-usable : r .refusal ≡ 0 → Lent m → Usable m (ruleIn m) (r .states) (r .nodes)
-  read-usable h long = let a = accepted-read file l m r read h in usable-read file l m r read (a .0) (a .1) long
-
-  -- the answer for the buffer's job is the file's, and the buffer is cleared
-  pub read-judged
-      : (plan k : List ℕ) (v : Verdict) → r .refusal ≡ 0 → Judged (ruleIn m) (r .finals) (r .states) (r .nodes) plan m k v
-      → (v ≡ answered (readJob file) plan) × (cleared k ≡ workLeft v l)
-  read-judged plan k v h g =
-      let a = accepted-read file l m r read h in
-      let same : v ≡ judged (a .0) plan = g .exact (a .0) (job-read file l m r read (a .0) (a .1)) in (
-        same ∙ sym (ap (λ (x : Answer). answered x plan) (a .1)),
-        cleared-outside m k (g .kept)
-            ∙ cleared-rest l m (read .kept)
-            ∙ sym (ap (λ (x : Verdict). workLeft x l) same ∙ left-judged (a .0) plan l),
-      )
+-- the answer for the job that was admitted, and the buffer is cleared
+pub check-judged
+    : {answer : Answer} {l m : List ℕ} {r : Head} (plan k : List ℕ) (v : Verdict) → Admitted answer l m r → r .refusal ≡ 0
+    → Judged (ruleIn m) (r .finals) (r .states) (r .nodes) plan m k v → (v ≡ answered answer plan) × (cleared k ≡ workLeft v l)
+check-judged {answer} {l} {m} plan k v a h g =
+    let j = a .job h in
+    let same : v ≡ judged (j .job) plan = g .exact (j .job) (j .held) in (
+      same ∙ sym (ap (λ (x : Answer). answered x plan) (j .is)),
+      cleared-outside m k (g .kept) ∙ j .clears ∙ sym (ap (λ (x : Verdict). workLeft x l) same ∙ left-judged (j .job) plan l),
+    )

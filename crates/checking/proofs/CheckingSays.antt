@@ -18,9 +18,10 @@ use Rattle.job.specs.Search.{faithful}
 use Rattle.job.proofs.Decide.{faithful-says, different-says}
 use Rattle.jobfile.specs.File.{Answer, accepted, turned, maxFile, readJob}
 use Rattle.jobfile.proofs.SpellableLaws.{read-written}
-use Rattle.jobfile.proofs.ListingFits.{listing-fits}
 use Rattle.buffer.specs.Layout.{workSize}
 use Rattle.buffer.specs.Kept.{cleared}
+use Rattle.admission.specs.Admission.{admitted}
+use Rattle.admission.proofs.AdmissionLaws.{admitted-small}
 use Rattle.checking.specs.declared.check.Verdict.{Verdict}
 use Rattle.checking.specs.declared.check.Verdict.the-variants.{Faithful, Different, Refused}
 use Rattle.checking.specs.Checking.{goodMark, hasLength, goodMarks, judged, answered, checked, workLeft, verdictNumber}
@@ -194,16 +195,11 @@ judged-small j plan = go (hasLength j plan) (goodMarks j plan) (faithful j plan)
 -- of a file
 checked-small : (file plan : List ℕ) (size : ℕ) → SmallRefusal (checked file plan size)
 unfolding checked
-checked-small file plan size = go (ltb maxFile (length file)) (ltb size workSize)
+checked-small file plan size = go (admitted file (ltb size workSize)) refl
   where
-    answer : (a : Answer) → readJob file ≡ a → SmallRefusal (answered a plan)
-    answer (accepted j) e = judged-small j plan
-    answer (turned k) e = omega (arith, listing-fits .turned-back file k e)
-
-    go : (a b : Bool) → SmallRefusal (cond a (Refused 1) (cond b (Refused 2) (answered (readJob file) plan)))
-    go true b = omega arith
-    go false true = omega arith
-    go false false = answer (readJob file) refl
+    go : (a : Answer) → admitted file (ltb size workSize) ≡ a → SmallRefusal (answered a plan)
+    go (accepted j) e = judged-small j plan
+    go (turned k) e = omega (arith, admitted-small file (ltb size workSize) k e)
 
 -- a verdict with a small refusal is read back
 read-small : (v : Verdict) → SmallRefusal v → verdictRead (verdictNumber v) ≡ v

@@ -9,12 +9,13 @@ use lib.ListN.{length, getD}
 use Rattle.laws.specs.Bounded.{allBelow}
 use Rattle.job.specs.Job.{Kind, plain, event, call, Job, nodeAt}
 use Rattle.job.specs.Search.{faithful}
-use Rattle.jobfile.specs.File.{Answer, accepted, turned, maxFile, readJob}
+use Rattle.jobfile.specs.File.{Answer, accepted, turned}
 use Rattle.buffer.specs.Layout.{nodesPart, planPart, rulePart, workSize}
 use Rattle.buffer.specs.Kept.{SameOutside, cleared}
 use Rattle.checking.specs.declared.check.Verdict.{Verdict}
 use Rattle.checking.specs.declared.check.Verdict.the-variants.{Faithful, Different, Refused}
 use Rattle.tables.specs.Held.{JobHeld}
+use Rattle.admission.specs.Admission.{admitted, refusedLeft}
 
 -- a plan byte that a node may have: 0, and 1 at an event node
 abbrev pub goodMark : Kind → ℕ → Bool
@@ -40,18 +41,10 @@ abbrev pub answered : Answer → List ℕ → Verdict
 answered (turned k) plan = Refused k
 answered (accepted j) plan = judged j plan
 
--- the answer of the plan check, "tests go by rising number"; size is the length of the work buffer
+-- the answer of the plan check; size is the length of the work buffer
 unfoldable pub checked : List ℕ → List ℕ → ℕ → Verdict
 unfolding judged
-checked file plan size =
-    cond (ltb maxFile (length file)) (Refused 1) (cond (ltb size workSize) (Refused 2) (answered (readJob file) plan))
-
--- the work buffer after a refusal: "after 1 or 2 unchanged; after any other answer its first 65,536 bytes are zero"
-abbrev pub refusedLeft : ℕ → List ℕ → List ℕ
-refusedLeft zero work = cleared work
-refusedLeft (suc zero) work = work
-refusedLeft (suc (suc zero)) work = work
-refusedLeft (suc (suc (suc k))) work = cleared work
+checked file plan size = answered (admitted file (ltb size workSize)) plan
 
 -- the work buffer after an answer
 abbrev pub workLeft : Verdict → List ℕ → List ℕ

@@ -18,7 +18,8 @@ use Rattle.buffer.specs.Views.{nodeIn, classRowIn, HeldApart}
 use Rattle.buffer.specs.Kept.{SameOutside}
 use Rattle.buffer.proofs.KeptLaws.{kept-none, kept-both, node-kept}
 use Rattle.tables.specs.Tables.{Zeroed}
-use Rattle.tables.specs.Held.{JobHeld}
+use Rattle.tables.specs.Held.{Usable, JobHeld}
+use Rattle.tables.proofs.JobKeptLaws.{FrontKept, front-kept, front-usable}
 use Rattle.classes.specs.Backwards.{RuleHeld, WordsClosed, AfterWords}
 use Rattle.classes.proofs.GrownLaws.{class-kept}
 
@@ -130,3 +131,14 @@ after-end table finals states nodes o l m n few all z s = record {
 
     set-is : (j : Job) → JobHeld j o table finals states nodes → (k : ℕ) → k < nodes → afterSet (nodeIn l k) ≡ afterSet (nodeAt j k)
     set-is j h k a = ap (λ (y : Node). afterSet y) (node-before o l start k (omega arith) ∙ h .node k a)
+
+-- the after words leave the nodes and edges
+pub after-front
+    : {table : List (List ℕ)} {finals states nodes : ℕ} {l m : List ℕ} → AfterWords table finals states nodes l m → FrontKept l m
+after-front a = front-kept (omega arith) (a .kept)
+
+-- the buffer with them may be searched
+pub after-usable
+    : {l m : List ℕ} {table : List (List ℕ)} {finals states nodes : ℕ} → Usable l table states nodes
+    → AfterWords table finals states nodes l m → Usable m table states nodes
+after-usable u a = front-usable (after-front a) u

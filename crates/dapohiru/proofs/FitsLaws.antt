@@ -5,7 +5,7 @@ use mathlib.Core.Bool.{Bool}
 use mathlib.Core.List.{List}
 use Prim.Native.Nat.{ℕ}
 use native.Mathlib.Omega.{arith}
-use Rattle.plans.specs.Called.{admitted}
+use Rattle.admission.specs.Admission.{admitted}
 use Rattle.plans.specs.PlanCall.{outcomeOf}
 use Rattle.plans.specs.declared.plan.Outcome.{Outcome}
 use Rattle.plans.specs.declared.plan.Outcome.the-variants.{Planned, Refused}

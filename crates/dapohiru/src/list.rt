@@ -1,7 +1,7 @@
 // Listing on bytes: a job file, a work buffer of 65,536 bytes or more, and a listing buffer of 32,768 or more.
 ghost use mathlib.Core.Path.{_≡_};
 ghost use lib.ListN.{length};
-ghost use Rattle.plans.specs.Called.{workAfter};
+ghost use Rattle.admission.specs.Admission.{workAfter};
 ghost use Rattle.listings.specs.ListCall.{listAnswer, listedOf, listingAfter, listNumber};
 
 // Lists a job and returns 2^48 plus the length of the listing, or the refusal's number, which leaves the listing buffer; the work buffer is

@@ -1,7 +1,7 @@
 // Planning on bytes: a job file, a work buffer of 65,536 bytes or more, and a plan buffer of 512 bytes or more.
 ghost use mathlib.Core.Path.{_≡_};
 ghost use lib.ListN.{length};
-ghost use Rattle.plans.specs.Called.{workAfter};
+ghost use Rattle.admission.specs.Admission.{workAfter};
 ghost use Rattle.plans.specs.PlanCall.{planAnswer, outcomeOf, planAfter, planNumber};
 
 // Plans a job and returns 2^48 plus event nodes times 2^32, watched points times 2^16, and passes, or the refusal's number. A refusal leaves

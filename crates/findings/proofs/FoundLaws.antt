@@ -26,6 +26,7 @@ use Rattle.search.proofs.SearchLaws.{event-node}
 use Rattle.search.proofs.AllEnabled.{all-enabled-finds}
 use Rattle.classes.specs.Backwards.{AfterWords, ClassesFound, heldStates}
 use Rattle.classes.proofs.FoundSays.{before-found}
+use Rattle.classes.proofs.AfterLaws.{after-front, after-usable}
 use Rattle.planning.specs.declared.passes.Counts.{Counts}
 use Rattle.planning.specs.Passes.{AllEnabled, countsOf, PlanMade}
 use Rattle.planning.proofs.PlanInLaws.{plan-in-held, plan-in-same, planning-search, planning-plan, planning-outside, usable-kept, job-kept, after-kept}
@@ -128,14 +129,10 @@ before-outside found =
 
 module _ {table : List (List ℕ)} {finals states nodes : ℕ} {l a : List ℕ} (u : Usable l table states nodes)
     (after : AfterWords table finals states nodes l a) where
-  -- the buffer with the after words may be searched
-  pub after-usable : Usable a table states nodes
-  after-usable = front-usable (front-kept (omega arith) (after .kept)) u
-
   module _ {b : List ℕ} (found : BeforeFound table finals states nodes a b) where
     -- with the before sets
     pub before-usable : Usable b table states nodes
-    before-usable = front-usable (front-kept (omega arith) (before-outside found)) after-usable
+    before-usable = front-usable (front-kept (omega arith) (before-outside found)) (after-usable u after)
 
     module _ {c : List ℕ} {counts : Counts} (made : PlanMade table finals states nodes b c counts) where
       -- with the plan
@@ -163,9 +160,9 @@ module _ {table : List (List ℕ)} {finals states nodes : ℕ} {l a : List ℕ} 
         found-held
             : (j : Job) → JobHeld j l table finals states nodes → FoundHeld j m table finals states nodes × (counts ≡ countsOf j)
         found-held j h =
-            let first = front-job (front-kept (omega arith) (after .kept)) u h in
+            let first = front-job (after-front after) u h in
             let words = after .exact j h in
-            let second = front-job (front-kept (omega arith) (before-outside found)) after-usable first in
+            let second = front-job (front-kept (omega arith) (before-outside found)) (after-usable u after) first in
             let words′ = after-words-kept a b (kept-fewer (λ k h. (inr (h .0), inl (h .1))) (found .kept)) (h .formed) (u .few-nodes) words in
             let third = job-kept (made .kept) before-usable second in
             let words″ = after-kept (made .kept) before-usable second words′ in (

@@ -1,14 +1,12 @@
 // Listing as a call: the W and T lines in the lent listing buffer, and their length.
 ghost use mathlib.Core.Path.{_≡_};
 ghost use lib.ListN.{length};
-ghost use Rattle.plans.specs.Called.{workAfter};
+ghost use Rattle.admission.specs.Admission.{workAfter};
 ghost use Rattle.listings.specs.ListCall.{listAnswer, listedOf, listingAfter};
-use buffer::WORK;
+use door::admit;
 use listheld::list_held;
 use listings::list::Listed;
 use reader::clear::clear;
-use reader::read::LONGEST;
-use reader::read::read_job;
 
 // The smallest listing buffer.
 pub const ROOM: usize = 32768;
@@ -19,19 +17,9 @@ pub fn list_job(file: &[u8], work: &mut [u8], listing: &mut [u8]) -> Listed
         × (now (work .exit) ≡ workAfter (listAnswer (now (file .entry)) (length (now (work .entry))) (length (now (listing .entry)))) (now (work .entry)))
         × (now (listing .exit) ≡ listingAfter (listAnswer (now (file .entry)) (length (now (work .entry))) (length (now (listing .entry)))) (now (listing .entry))) ⌝ }
 {
-    if LONGEST < file.len() {
-        return Listed::Refused(1);
-    }
-    if work.len() < WORK {
-        return Listed::Refused(2);
-    }
-    if listing.len() < ROOM {
-        return Listed::Refused(2);
-    }
-    let head = read_job(file, work);
+    let head = admit(file, work, listing.len() < ROOM);
     let refusal = head.refusal;
     if refusal != 0 {
-        clear(work);
         return Listed::Refused(refusal);
     }
     let length = list_held(

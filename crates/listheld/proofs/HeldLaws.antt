@@ -9,10 +9,10 @@ use Rattle.buffer.specs.Layout.{nodesPart, pairPart, workSize, Lent}
 use Rattle.buffer.proofs.KeptLaws.{kept-none, kept-both}
 use Rattle.tables.specs.Rows.{CellsBelow}
 use Rattle.tables.specs.Held.{Usable, JobHeld}
-use Rattle.checking.proofs.CheckLaws.{table-usable}
+use Rattle.tables.proofs.JobKeptLaws.{table-usable}
 use Rattle.planning.specs.declared.passes.Counts.{Counts}
 use Rattle.planning.specs.Passes.{countsOf}
-use Rattle.plans.proofs.CalledLaws.{counts-held}
+use Rattle.plans.proofs.CountLaws.{counts-held}
 use Rattle.findings.specs.Findings.{Found}
 use Rattle.printing.specs.Printing.{LinesWritten}
 use Rattle.listheld.specs.Held.{SomeJob, ListedHeld}

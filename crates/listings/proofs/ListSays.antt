@@ -13,8 +13,9 @@ use Rattle.jobfile.specs.File.{Answer, accepted, turned}
 use Rattle.jobfile.proofs.SpellableLaws.{read-written}
 use Rattle.jobfile.proofs.ListingLength.{listing-in-buffer}
 use Rattle.buffer.specs.Layout.{workSize}
-use Rattle.plans.specs.Called.{admitted}
-use Rattle.plans.proofs.CalledLaws.{admitted-spells, admitted-reads, admitted-small, written-first}
+use Rattle.admission.specs.Admission.{admitted}
+use Rattle.admission.proofs.AdmissionLaws.{admitted-spells, admitted-reads, admitted-small}
+use Rattle.admission.proofs.CallLaws.{written-first}
 use Rattle.listings.specs.declared.list.Listed.the-variants.{Length, Refused}
 use Rattle.listings.specs.ListCall.{listingSize, listAnswer, bytesFor, listedOf, listingAfter, listNumber}
 use Rattle.listings.specs.ListSays.{ListingLeft, listed, unchanged, ListingBytesSay, listedRead, ListedByNumber}

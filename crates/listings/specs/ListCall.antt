@@ -12,7 +12,7 @@ use Rattle.job.specs.Listing.{listingOf}
 use Rattle.jobfile.specs.File.{Answer, accepted, turned}
 use Rattle.jobfile.specs.ListingLines.{listingBytes}
 use Rattle.buffer.specs.Layout.{workSize}
-use Rattle.plans.specs.Called.{admitted}
+use Rattle.admission.specs.Admission.{admitted}
 use Rattle.listings.specs.declared.list.Listed.{Listed}
 use Rattle.listings.specs.declared.list.Listed.the-variants.{Length, Refused}
 

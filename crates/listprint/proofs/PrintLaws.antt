@@ -20,7 +20,7 @@ use Rattle.jobfile.proofs.SpellableLaws.{read-written}
 use Rattle.jobfile.proofs.ListingLength.{refused-length, listing-in-buffer}
 use Rattle.jobfile.proofs.ListingFits.{listing-fits}
 use Rattle.buffer.specs.Layout.{workSize}
-use Rattle.plans.specs.Called.{admitted, workAfter}
+use Rattle.admission.specs.Admission.{admitted, workAfter}
 use Rattle.listings.specs.declared.list.Listed.{Listed}
 use Rattle.listings.specs.declared.list.Listed.the-variants.{Length, Refused}
 use Rattle.listings.specs.ListCall.{listingSize, listAnswer, listedOf, listingAfter}

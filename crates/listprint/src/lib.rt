@@ -6,7 +6,7 @@ ghost use lib.ListN.{length};
 ghost use lib.Seq.{sets};
 ghost use Rattle.buffer.specs.Layout.{Lent};
 ghost use Rattle.jobfile.specs.ListingLines.{printedFor};
-ghost use Rattle.plans.specs.Called.{admitted, workAfter};
+ghost use Rattle.admission.specs.Admission.{admitted, workAfter};
 use listcall::list_job;
 use listings::list::Listed;
 use writer::write_refusal_line;

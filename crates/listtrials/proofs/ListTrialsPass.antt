@@ -22,8 +22,8 @@ use Rattle.jobfile.specs.FileTrials.{linesIn}
 use Rattle.jobfile.specs.ListingLines.{shadowsBytes, listingBytes}
 use Rattle.buffer.specs.Layout.{workSize}
 use Rattle.buffer.specs.Kept.{cleared}
-use Rattle.plans.specs.Called.{workAfter}
-use Rattle.plans.proofs.CalledLaws.{long-enough, admitted-read}
+use Rattle.admission.specs.Admission.{workAfter}
+use Rattle.admission.proofs.AdmissionLaws.{long-enough, admitted-read}
 use Rattle.listings.specs.ListCall.{listingSize, listedOf, listingAfter, bytesFor}
 use Rattle.listtrials.specs.ListTrials.{CallTrial, ListedSo, ListsSo, AllListed, done, _and_, callTrials}
 

@@ -13,7 +13,7 @@ use Rattle.jobfile.specs.File.{Answer, writeJob}
 use Rattle.jobfile.specs.FileTrials.{linesIn, pairFile, smallHead, smallRule, smallNode, withNode}
 use Rattle.buffer.specs.Layout.{Lent}
 use Rattle.buffer.specs.Kept.{cleared}
-use Rattle.plans.specs.Called.{workAfter}
+use Rattle.admission.specs.Admission.{workAfter}
 use Rattle.listings.specs.declared.list.Listed.{Listed}
 use Rattle.listings.specs.declared.list.Listed.the-variants.{Length, Refused}
 use Rattle.listings.specs.ListCall.{listingSize, listAnswer, listedOf, listingAfter}

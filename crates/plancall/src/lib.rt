@@ -1,14 +1,12 @@
 // Planning as a call: the plan in the lent plan buffer, and the counts of event nodes, watched points and passes.
 ghost use mathlib.Core.Path.{_≡_};
 ghost use lib.ListN.{length};
-ghost use Rattle.plans.specs.Called.{workAfter};
+ghost use Rattle.admission.specs.Admission.{workAfter};
 ghost use Rattle.plans.specs.PlanCall.{planAnswer, outcomeOf, planAfter};
-use buffer::WORK;
+use door::admit;
 use planheld::plan_held;
 use plans::plan::Outcome;
 use reader::clear::clear;
-use reader::read::LONGEST;
-use reader::read::read_job;
 
 // The smallest plan buffer.
 const ROOM: usize = 512;
@@ -19,19 +17,9 @@ pub fn plan_job(file: &[u8], work: &mut [u8], plan: &mut [u8]) -> Outcome
         × (now (work .exit) ≡ workAfter (planAnswer (now (file .entry)) (length (now (work .entry))) (length (now (plan .entry)))) (now (work .entry)))
         × (now (plan .exit) ≡ planAfter (planAnswer (now (file .entry)) (length (now (work .entry))) (length (now (plan .entry)))) (now (plan .entry))) ⌝ }
 {
-    if LONGEST < file.len() {
-        return Outcome::Refused(1);
-    }
-    if work.len() < WORK {
-        return Outcome::Refused(2);
-    }
-    if plan.len() < ROOM {
-        return Outcome::Refused(2);
-    }
-    let head = read_job(file, work);
+    let head = admit(file, work, plan.len() < ROOM);
     let refusal = head.refusal;
     if refusal != 0 {
-        clear(work);
         return Outcome::Refused(refusal);
     }
     let counts = plan_held(

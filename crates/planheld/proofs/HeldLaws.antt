@@ -13,7 +13,7 @@ use Rattle.buffer.proofs.KeptLaws.{kept-none, kept-both}
 use Rattle.tables.specs.Held.{Usable}
 use Rattle.tables.proofs.JobKeptLaws.{front-kept, front-job}
 use Rattle.classes.specs.Backwards.{AfterWords}
-use Rattle.checking.proofs.CheckLaws.{table-usable}
+use Rattle.tables.proofs.JobKeptLaws.{table-usable}
 use Rattle.planning.specs.declared.passes.Counts.{Counts}
 use Rattle.planning.specs.Passes.{planIn, PlanningKept, PlanMade}
 use Rattle.planning.proofs.PlanInLaws.{plan-in-none, plan-in-more, plan-in-length, planning-outside}

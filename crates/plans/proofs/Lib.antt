@@ -1,4 +1,4 @@
--- What a caller of planning has, and the laws that planning and listing share as calls.
+-- What a caller of planning has, and the bounds of the counts.
 -- Assumes nothing.
-pub mod CalledLaws
+pub mod CountLaws
 pub mod PlanAfterLaws

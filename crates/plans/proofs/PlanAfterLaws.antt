@@ -22,10 +22,12 @@ use Rattle.planning.specs.declared.passes.Counts.{Counts}
 use Rattle.planning.specs.Passes.{countsOf}
 use Rattle.plans.specs.declared.plan.Outcome.{Outcome}
 use Rattle.plans.specs.declared.plan.Outcome.the-variants.{Planned, Refused}
-use Rattle.plans.specs.Called.{admitted, WrittenFirst}
+use Rattle.admission.specs.Admission.{admitted, WrittenFirst}
 use Rattle.plans.specs.PlanCall.{planSize, planAnswer, outcomeOf, planAfter, planNumber}
 use Rattle.plans.specs.PlanSays.{PlanLeft, planned, unchanged, PlanBytesSay, CountsFit, PlanCountsFit, outcomeRead, SeenByNumber}
-use Rattle.plans.proofs.CalledLaws.{admitted-reads, admitted-small, counts-admitted, written-first}
+use Rattle.admission.proofs.AdmissionLaws.{admitted-reads, admitted-small}
+use Rattle.admission.proofs.CallLaws.{written-first}
+use Rattle.plans.proofs.CountLaws.{counts-admitted}
 
 -- ---- the plan
 

@@ -1,5 +1,4 @@
 -- Planning as a call.
 -- Assumes nothing.
-pub mod Called
 pub mod PlanCall
 pub mod PlanSays

@@ -9,7 +9,7 @@ use Rattle.job.specs.Listing.{planOf}
 use Rattle.jobfile.specs.File.{Answer, accepted, turned}
 use Rattle.buffer.specs.Layout.{workSize}
 use Rattle.planning.specs.Passes.{countsOf}
-use Rattle.plans.specs.Called.{admitted}
+use Rattle.admission.specs.Admission.{admitted}
 use Rattle.plans.specs.declared.plan.Outcome.{Outcome}
 use Rattle.plans.specs.declared.plan.Outcome.the-variants.{Planned, Refused}
 

@@ -14,7 +14,7 @@ use Rattle.job.specs.Listing.{planOf}
 use Rattle.jobfile.specs.File.{Answer, accepted, turned}
 use Rattle.planning.specs.declared.passes.Counts.{Counts}
 use Rattle.planning.specs.Passes.{countsOf}
-use Rattle.plans.specs.Called.{WrittenFirst}
+use Rattle.admission.specs.Admission.{WrittenFirst}
 use Rattle.plans.specs.declared.plan.Outcome.{Outcome}
 use Rattle.plans.specs.declared.plan.Outcome.the-variants.{Planned, Refused}
 use Rattle.plans.specs.PlanCall.{planAnswer, outcomeOf, planAfter, planNumber}

@@ -12,7 +12,7 @@ use Rattle.jobfile.specs.File.{maxFile, writeJob}
 use Rattle.jobfile.proofs.Longest.{longest-file}
 use Rattle.jobfile.proofs.SpellableLaws.{accepted-written, accepted-well-formed}
 use Rattle.buffer.specs.Layout.{workSize}
-use Rattle.plans.specs.Called.{admitted}
+use Rattle.admission.specs.Admission.{admitted}
 use Rattle.plans.specs.PlanCall.{planSize}
 use Rattle.plans.proofs.PlanAfterLaws.{plan-answer-reads, plan-after-plan}
 use Rattle.promise.specs.Promise.{PlanningAccepts, BothHalves}

@@ -1,7 +1,7 @@
 -- Where the bytes in front of the rows of pairs are as they were, so are the nodes and edges that they hold; where the class rows are, so
 -- are the after words.
 -- Assumes nothing.
-use mathlib.Core.Path.{_≡_, sym, _∙_}
+use mathlib.Core.Path.{_≡_, sym, _∙_, subst}
 use mathlib.Core.Logic.{_↔_, inl}
 use mathlib.Core.List.{List}
 use Prim.Native.Nat.{ℕ, suc, _+_, _*_, _≤_, _<_}
@@ -129,3 +129,9 @@ module _ (l m : List ℕ) (s : ClassesKept l m) where
     whole = λ n p q g b e x w.
         rw (class-row-kept n p (lt-of-lt-of-le g h) (lt-of-lt-of-le b (f .rule .few-states))) (a .whole n p q g b e x w);
   }
+
+-- a table that equals another will do
+pub table-usable
+    : {l : List ℕ} {table rule : List (List ℕ)} {states nodes : ℕ} → table ≡ rule → Usable l rule states nodes
+    → Usable l table states nodes
+table-usable {l} {table} {rule} {states} {nodes} e u = subst (λ (t : List (List ℕ)). Usable l t states nodes) (sym e) u

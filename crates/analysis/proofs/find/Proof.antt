@@ -1,7 +1,8 @@
 -- `analysis::find` meets its contract: each part is found in its place, and the later searches leave it there.
 -- Assumes nothing.
 use borrow.Author.Needs.{needs}
-use Rattle.findings.proofs.FoundLaws.{after-usable, before-usable, plan-usable, all-found}
+use Rattle.classes.proofs.AfterLaws.{after-usable}
+use Rattle.findings.proofs.FoundLaws.{before-usable, plan-usable, all-found}
 use Rattle.analysis.proofs.find.Statement.{statement}
 use Rattle.analysis.proofs.find.Tie as tie
 

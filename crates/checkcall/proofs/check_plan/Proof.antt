@@ -1,95 +1,64 @@
--- `checkcall::check_plan` meets its contract: refusals 1 and 2, the file's own, then the answer for the job that was read; what
--- is left in the buffer is cleared.
+-- `checkcall::check_plan` meets its contract: a refusal of admission, or the answer for the job that was admitted; what is left in the
+-- work buffer is cleared.
 -- Assumes nothing.
-use mathlib.Core.Path.{refl, sym, _∙_}
+use mathlib.Core.Path.{_∙_}
 use native.Mathlib.Omega.{arith}
 use lib.ListN.{length}
 use borrow.Author.Needs.{needs}
-use Rattle.checking.proofs.CheckLaws.{checked-1, checked-2, checked-read, cleared-rest, read-refused, finals-fit, read-usable, read-judged}
+use Rattle.checking.specs.Checking.{checked}
+use Rattle.checking.proofs.CheckLaws.{check-admitted, check-refused, check-judged}
 use Rattle.checkcall.proofs.check_plan.Statement.{statement}
 use Rattle.checkcall.proofs.check_plan.Tie as tie
 
-returns : tie.Need-returns
-returns c =
-    let x = c .before .before .before .before .args in (checked-1 (x .file .now) (x .plan .now) (length (x .work .now)) (c .if1 .taken), refl)
-
-returns-2 : tie.Need-returns-2
-returns-2 c =
-    let x = c .before .before .before .before .before .args in
-    (checked-2 (x .file .now) (x .plan .now) (length (x .work .now)) (c .before .if1 .left) (c .if2 .taken), refl)
-
-read-job-requires : tie.Need-read-job-requires
-read-job-requires c κs = search needs
-
-clear-requires : tie.Need-clear-requires
-clear-requires c κs = search needs
+admit-requires : tie.Need-admit-requires
+admit-requires c κs = search needs
 
 same-length : tie.Need-same-length
 same-length c = search needs
 
-returns-3 : tie.Need-returns-3
-returns-3 c =
-    let call = c .before .before .before .before .before .before .before in
-    let x = call .before .before .before .before .before .before .before .args in
-    let r = call .read-job in
-    let short = call .before .before .before .if1 .left in
-    let own = checked-read (x .file .now) (x .plan .now) (length (x .work .now)) short (call .before .before .if2 .left) in
-    let refused =
-    read-refused (x .file .now) (x .work .now) (r .last .1 .0) (r .result) short (r .ensures .read) (x .plan .now) (c .before .before .before .before .if3 .taken) in (
-      refused .0 ∙ sym own,
-      c .before .before .clear .ensures ∙ cleared-rest (x .work .now) (r .last .1 .0) (r .ensures .read .kept) ∙ sym (refused .1),
-    )
+returns : tie.Need-returns
+unfolding checked
+returns c =
+    let call = c .before .before .before in
+    let x = call .before .before .before .before .before .args in
+    check-refused (x .plan .now) (check-admitted (x .file .now) (length (x .work .now)) (call .admit .ensures)) (c .if1 .taken)
 
 cast-judge : tie.Need-cast-judge
-cast-judge c =
-    let call = c .before .before .before .before .before in
-    let x = call .before .before .before .before .before .before .before .args in
-    let r = call .read-job in
-    record {
-      fits = finals-fit (x .file .now) (x .work .now) (r .last .1 .0) (r .result) (call .before .before .before .if1 .left) (r .ensures .read) (c .before .before .if3 .left);
-    }
+cast-judge c = record { fits = c .before .before .before .before .before .admit .ensures .job (c .before .before .if1 .left) .final-set }
 
 judge-requires : tie.Need-judge-requires
-judge-requires c κs =
-    let call = c .before .before .before .before .before in
-    let x = call .before .before .before .before .before .before .before .args in
-    let r = call .read-job in
-    read-usable (x .file .now) (x .work .now) (r .last .1 .0) (r .result) (call .before .before .before .if1 .left) (r .ensures .read) (c .before .before .if3 .left)
-    (omega (arith, r .ensures .read .kept .long, call .before .before .if2 .left))
+judge-requires c κs = c .before .before .before .before .before .admit .ensures .job (c .before .before .if1 .left) .usable
 
-clear-requires-2 : tie.Need-clear-requires-2
-clear-requires-2 c κs = search needs
+clear-requires : tie.Need-clear-requires
+clear-requires c κs =
+    let held = c .before .before .before in
+    let good = held .before .before .before in
+    omega (arith, held .judge .ensures .kept .long, good .before .before .before .admit .ensures .job (good .if1 .left) .usable .long)
 
 same-length-2 : tie.Need-same-length-2
 same-length-2 c = search needs
 
-returns-4 : tie.Need-returns-4
-returns-4 c =
-    let call = c .before .before .before .before .before .before .before .before .before .before .before .before in
-    let x = call .before .before .before .before .before .before .before .args in
-    let r = call .read-job in
-    let v = c .before .before .before .before .before .before .judge in
-    let short = call .before .before .before .if1 .left in
-    let own = checked-read (x .file .now) (x .plan .now) (length (x .work .now)) short (call .before .before .if2 .left) in
+returns-2 : tie.Need-returns-2
+unfolding checked
+returns-2 c =
+    let held = c .before .before .before .before .before .before in
+    let good = held .before .before .before in
+    let call = good .before .before .before in
+    let x = call .before .before .before .before .before .args in
     let judged =
-    read-judged (x .file .now) (x .work .now) (r .last .1 .0) (r .result) short (r .ensures .read) (x .plan .now) _ (v .result)
-    (c .before .before .before .before .before .before .before .before .before .if3 .left) (v .ensures) in (
-      judged .0 ∙ sym own,
-      c .before .before .clear2 .ensures ∙ judged .1,
-    )
+    check-judged (x .plan .now) _ (held .judge .result) (check-admitted (x .file .now) (length (x .work .now)) (call .admit .ensures))
+    (good .if1 .left) (held .judge .ensures) in
+    (judged .0, c .before .before .clear .ensures ∙ judged .1)
 
 pub check-plan-spec : {M : Type 1} → statement M
 check-plan-spec =
     tie.close
     (tie.spec
-    returns
-    returns-2
-    read-job-requires
-    clear-requires
+    admit-requires
     same-length
-    returns-3
+    returns
     cast-judge
     judge-requires
-    clear-requires-2
+    clear-requires
     same-length-2
-    returns-4)
+    returns-2)

@@ -5,7 +5,9 @@ use mathlib.Core.Bool.{true, false}
 use borrow.Author.Needs.{needs}
 use borrow.Author.Tests.{not-true, not-false}
 use Rattle.reader.specs.Rule.{ruleIn}
-use Rattle.checking.proofs.CheckLaws.{other-length, other-marks, stored-usable, after-usable, table-usable, search-judged}
+use Rattle.tables.proofs.JobKeptLaws.{table-usable}
+use Rattle.classes.proofs.AfterLaws.{after-usable}
+use Rattle.checking.proofs.CheckLaws.{other-length, other-marks, stored-usable, search-judged}
 use Rattle.checkheld.proofs.judge.Statement.{statement}
 use Rattle.checkheld.proofs.judge.Tie as tie
 

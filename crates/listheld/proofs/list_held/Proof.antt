@@ -1,7 +1,7 @@
 -- `listheld::list_held` meets its contract: what is found is the job's, and its lines are written.
 -- Assumes nothing.
 use borrow.Author.Needs.{needs}
-use Rattle.checking.proofs.CheckLaws.{table-usable}
+use Rattle.tables.proofs.JobKeptLaws.{table-usable}
 use Rattle.listheld.proofs.HeldLaws.{lines-ready, listed-held}
 use Rattle.listheld.proofs.list_held.Statement.{statement}
 use Rattle.listheld.proofs.list_held.Tie as tie

@@ -1,7 +1,8 @@
 -- `planheld::plan_held` meets its contract: after words, planning, and the plan copied.
 -- Assumes nothing.
 use borrow.Author.Needs.{needs}
-use Rattle.checking.proofs.CheckLaws.{table-usable, after-usable}
+use Rattle.tables.proofs.JobKeptLaws.{table-usable}
+use Rattle.classes.proofs.AfterLaws.{after-usable}
 use Rattle.planheld.proofs.HeldLaws.{planned-held}
 use Rattle.planheld.proofs.plan_held.Statement.{statement}
 use Rattle.planheld.proofs.plan_held.Tie as tie

@@ -1,18 +1,24 @@
--- What planning and listing share as calls (document 01, "Turned back, by number").
+-- What every call that is lent a work buffer begins with, and what it leaves of lent bytes (document 01, "Turned back, by number").
 -- Assumes nothing.
 use mathlib.Core.Path.{_≡_}
 use mathlib.Core.Bool.{Bool, cond}
 use mathlib.Core.List.{List}
-use Prim.Native.Nat.{ℕ}
+use Prim.Native.Nat.{ℕ, zero, suc}
 use lib.Dec.{ltb}
 use lib.ListN.{length, take, drop}
 use Rattle.jobfile.specs.File.{Answer, accepted, turned, maxFile, readJob}
 use Rattle.buffer.specs.Kept.{cleared}
-use Rattle.checking.specs.Checking.{refusedLeft}
 
 -- "tests go by rising number": 1 for a file that is too long, 2 where a lent buffer is too short, then what the file spells
 unfoldable pub admitted : List ℕ → Bool → Answer
 admitted file short = cond (ltb maxFile (length file)) (turned 1) (cond short (turned 2) (readJob file))
+
+-- the work buffer after a refusal: "after 1 or 2 unchanged; after any other answer its first 65,536 bytes are zero"
+abbrev pub refusedLeft : ℕ → List ℕ → List ℕ
+refusedLeft zero work = cleared work
+refusedLeft (suc zero) work = work
+refusedLeft (suc (suc zero)) work = work
+refusedLeft (suc (suc (suc k))) work = cleared work
 
 -- "after 1 or 2 the work buffer is unchanged; after any other answer its first 65,536 bytes are zero and the rest unchanged"
 abbrev pub workAfter : Answer → List ℕ → List ℕ

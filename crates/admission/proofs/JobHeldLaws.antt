@@ -26,7 +26,7 @@ use Rattle.joblines.specs.Reading.{headOfAnswer, JobRead}
 use Rattle.reader.proofs.TableLaws.{rule-cell}
 use Rattle.tables.specs.Rows.{CellsBelow}
 use Rattle.tables.specs.Held.{EdgesWithin, Usable, JobHeld}
-use Rattle.checking.proofs.EdgeIndexLaws.{edges-says}
+use Rattle.admission.proofs.EdgeIndexLaws.{edges-says}
 
 -- below or not
 lt-or-ge : (a b : ℕ) → (a < b) ⊎ (b ≤ a)

@@ -1,0 +1,4 @@
+-- What every call that is lent a work buffer begins with.
+-- Assumes nothing.
+pub mod Admission
+pub mod Admitted
