@@ -1,4 +1,5 @@
 // The event step on bytes: the rule is 256 bytes in row order, the record 16.
+use callnumber::ACCEPTED;
 use monitor::step::Report;
 use monitor::step::Taken;
 ghost use mathlib.Core.Path.{_≡_};
@@ -6,6 +7,11 @@ ghost use Prim.Native.Nat.{_+_, _≤_};
 ghost use lib.ListN.{length};
 ghost use Rattle.monitor.specs.Monitor.{reportNumber};
 ghost use Rattle.eventcall.specs.Event.{fieldIn, eventTaken, recordBytes, recordLeft};
+
+// What the call returns for a quiet event, and for an alarm.
+const QUIET: u64 = ACCEPTED;
+
+const ALARM: u64 = ACCEPTED + 1;
 
 // The number at place `at` of a record's bytes, or another where they are no record.
 fn field_in(rec: &[u8], at: usize, other: u64) -> u64
@@ -63,11 +69,11 @@ pub fn event(
     match report {
         Report::Quiet => {
             store(rec, state, alarms);
-            281_474_976_710_656
+            QUIET
         }
         Report::Alarm => {
             store(rec, state, alarms);
-            281_474_976_710_657
+            ALARM
         }
         Report::Refused(number) => number,
     }

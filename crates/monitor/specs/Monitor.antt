@@ -4,6 +4,7 @@ use mathlib.Core.Path.{_≡_}
 use mathlib.Core.Bool.{Bool, cond}
 use Prim.Native.Nat.{ℕ, _+_, _-_, _^_}
 use lib.Dec.{eqb, ltb}
+use Rattle.callnumber.specs.CallNumber.{acceptedFrom}
 use Rattle.automaton.specs.Automaton.{Automaton, next, final, wellFormed, SameRule}
 use Rattle.monitor.specs.declared.step.Record.{Record}
 use Rattle.monitor.specs.declared.step.Taken.{Taken}
@@ -58,21 +59,21 @@ LooksAtNoOtherCell = (m n : Automaton) (a : ℕ) (r : Record) → SameRule m n �
 
 -- this paper's number for each report: "a refusal is its number; quiet is 2^48, alarm is 2^48 plus 1"
 abbrev pub reportNumber : Report → ℕ
-reportNumber Quiet = 2 ^ 48
-reportNumber Alarm = 2 ^ 48 + 1
+reportNumber Quiet = acceptedFrom
+reportNumber Alarm = acceptedFrom + 1
 reportNumber (Refused k) = k
 
 -- the number of an alarm
 abbrev pub alarmNumber : ℕ → Bool
-alarmNumber n = eqb n (2 ^ 48 + 1)
+alarmNumber n = eqb n (acceptedFrom + 1)
 
 -- the number of a refusal
 abbrev pub refusalNumber : ℕ → Bool
-refusalNumber n = ltb n (2 ^ 48)
+refusalNumber n = ltb n acceptedFrom
 
 -- the report that a number tells: 2^48 is quiet, 2^48 plus 1 an alarm, any other a refusal
 abbrev pub reportRead : ℕ → Report
-reportRead n = cond (eqb n (2 ^ 48)) Quiet (cond (eqb n (2 ^ 48 + 1)) Alarm (Refused n))
+reportRead n = cond (eqb n acceptedFrom) Quiet (cond (eqb n (acceptedFrom + 1)) Alarm (Refused n))
 
 -- the statement: a caller reads the report back from the number
 abbrev pub ReportByNumber : Type 0
