@@ -1,12 +1,12 @@
 // The event step on bytes: the rule is 256 bytes in row order, the record 16.
 use callnumber::ACCEPTED;
-use monitor::step::Report;
-use monitor::step::Taken;
+use events::Report;
+use events::Taken;
 ghost use mathlib.Core.Path.{_≡_};
 ghost use Prim.Native.Nat.{_+_, _≤_};
 ghost use lib.ListN.{length};
-ghost use Rattle.monitor.specs.Monitor.{reportNumber};
-ghost use Rattle.eventcall.specs.Event.{fieldIn, eventTaken, recordBytes, recordLeft};
+ghost use Rattle.events.specs.Monitor.{reportNumber};
+ghost use Rattle.eventbytes.specs.Event.{fieldIn, eventTaken, recordBytes, recordLeft};
 
 // What the call returns for a quiet event, and for an alarm.
 const QUIET: u64 = ACCEPTED;

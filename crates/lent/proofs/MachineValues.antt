@@ -16,9 +16,9 @@ use denote.Array.{Array, array-vals, array-lawful, array-makes}
 use denote.Signature.{Slot, plain}
 use denote.Signature.Array.{arrayOf}
 use denote.Struct.Laws as LL
-use Rattle.monitor.specs.declared.step.Record.{Record}
-use Rattle.monitor.proofs.step.Record as T
-use Rattle.monitor.proofs.step.Record.Laws as T′
+use Rattle.events.specs.declared.Record.{Record}
+use Rattle.events.proofs.Record as T
+use Rattle.events.proofs.Record.Laws as T′
 
 -- the table's type, and a table's machine value
 abbrev pub Table : RattleType

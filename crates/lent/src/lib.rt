@@ -1,11 +1,11 @@
 // One record, lent to the call that takes an event and altered there.
-use monitor::step::Record;
-use monitor::step::Report;
-use monitor::step::Taken;
-use monitor::step::step;
+use events::Record;
+use events::Report;
+use events::Taken;
+use step::step;
 ghost use mathlib.Core.Path.{_≡_};
 ghost use Rattle.automaton.specs.Automaton.{automatonOf};
-ghost use Rattle.monitor.specs.Monitor.{recordOf, reported, taken};
+ghost use Rattle.events.specs.Monitor.{recordOf, reported, taken};
 
 // Takes one event on the lent record. A refusal leaves it as it was.
 pub fn take_event(

@@ -18,17 +18,17 @@ use Rattle.laws.proofs.Bits.{below-says}
 use Rattle.laws.proofs.Bytes.{byte-lt}
 use Rattle.automaton.specs.Automaton.{Automaton, cell, WellFormed, SameRule}
 use Rattle.automaton.specs.Table.{rowOf, tableOf}
-use Rattle.monitor.specs.Monitor.{recordOf, refusedWith, taken}
-use Rattle.monitor.specs.Form.{Given, GivenFits, GivenIs, valueForm, lentForm}
-use Rattle.monitor.specs.declared.step.Record.{Record}
-use Rattle.monitor.proofs.MonitorLaws.{taken-13}
-use Rattle.monitor.proofs.FormLaws.{refuses}
+use Rattle.events.specs.Monitor.{recordOf, refusedWith, taken}
+use Rattle.events.specs.Form.{Given, GivenFits, GivenIs, valueForm, lentForm}
+use Rattle.events.specs.declared.Record.{Record}
+use Rattle.events.proofs.MonitorLaws.{taken-13}
+use Rattle.events.proofs.FormLaws.{refuses}
 use Rattle.twomonitors.specs.Monitors.{RecordsExist, RefusedExist}
 use Rattle.twomonitors.proofs.MonitorsMore.{FormGives}
-use Rattle.eventcall.specs.Event.{ruleIn, recordIn, eventTaken, recordBytes}
-use Rattle.eventcall.specs.Form.{HeldBytes, ByteCall, lent, callForm}
-use Rattle.eventcall.proofs.EventLaws.{rule-of, rule-none}
-use Rattle.eventcall.proofs.FormLaws.{record-bytes-length}
+use Rattle.eventbytes.specs.Event.{ruleIn, recordIn, eventTaken, recordBytes}
+use Rattle.eventbytes.specs.Form.{HeldBytes, ByteCall, lent, callForm}
+use Rattle.eventbytes.proofs.EventLaws.{rule-of, rule-none}
+use Rattle.eventbytes.proofs.FormLaws.{record-bytes-length}
 
 -- ---- the rule as bytes
 

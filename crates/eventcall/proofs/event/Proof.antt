@@ -1,8 +1,8 @@
 -- `eventcall::event` meets its contract: each arm has the number of its report, and writes the record or leaves it as the report says.
 -- Assumes nothing.
 use mathlib.Core.Path.{refl, _∙_}
-use Rattle.monitor.specs.declared.step.Report.the-variants.{Quiet, Alarm, Refused}
-use Rattle.eventcall.proofs.EventLaws.{answered, answered-length}
+use Rattle.events.specs.declared.Report.the-variants.{Quiet, Alarm, Refused}
+use Rattle.eventbytes.proofs.EventLaws.{answered, answered-length}
 use borrow.Author.Needs.{needs}
 use Rattle.eventcall.proofs.event.Statement.{statement}
 use Rattle.eventcall.proofs.event.Tie as tie

@@ -1,7 +1,7 @@
 -- `eventcall::field_in` meets its contract: the number read, or the other where the length is not 16.
 -- Assumes nothing.
 use mathlib.Core.Path.{sym, _∙_}
-use Rattle.eventcall.proofs.EventLaws.{field-of, field-none}
+use Rattle.eventbytes.proofs.EventLaws.{field-of, field-none}
 use borrow.Author.Needs.{needs}
 use Rattle.eventcall.proofs.field_in.Statement.{statement}
 use Rattle.eventcall.proofs.field_in.Tie as tie

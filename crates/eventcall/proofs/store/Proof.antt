@@ -4,8 +4,8 @@ use mathlib.Core.Path.{ap, _∙_}
 use mathlib.Core.List.{List}
 use Prim.Native.Nat.{ℕ}
 use Rattle.laws.specs.Bytes.{putNumber}
-use Rattle.eventcall.specs.Event.{recordBytes}
-use Rattle.eventcall.proofs.EventLaws.{put-whole}
+use Rattle.eventbytes.specs.Event.{recordBytes}
+use Rattle.eventbytes.proofs.EventLaws.{put-whole}
 use borrow.Author.Needs.{needs}
 use Rattle.eventcall.proofs.store.Statement.{statement}
 use Rattle.eventcall.proofs.store.Tie as tie

@@ -2,8 +2,8 @@
 -- Assumes nothing.
 use mathlib.Core.Path.{_∙_}
 use Rattle.automaton.specs.Automaton.{automatonOf}
-use Rattle.monitor.specs.Monitor.{refusedWith, taken}
-use Rattle.eventcall.proofs.EventLaws.{read-back, event-taken, event-no-rule}
+use Rattle.events.specs.Monitor.{refusedWith, taken}
+use Rattle.eventbytes.proofs.EventLaws.{read-back, event-taken, event-no-rule}
 use borrow.Author.Needs.{needs}
 use Rattle.eventcall.proofs.take.Statement.{statement}
 use Rattle.eventcall.proofs.take.Tie as tie

@@ -44,19 +44,19 @@ use denote.Triple.Clauses.{ensured, lasts}
 use denote.Triple.Walked.{says, Stays, stay-ref, stay-dropped, walkOf, Goes, AllGo, goes-dropped, goes-ref, Walks, ends-at, walked, walk-meets}
 use denote.Exit.{yes}
 use Rattle.automaton.specs.Automaton.{automatonOf}
-use Rattle.monitor.specs.Monitor.{recordOf, taken}
-use Rattle.monitor.specs.declared.step.Record.{Record}
-use Rattle.monitor.specs.declared.step.Taken.{Taken}
-use Rattle.monitor.proofs.step.Record as T
-use Rattle.monitor.proofs.step.Record.Laws as T′
-use Rattle.monitor.proofs.step.Taken as K
-use Rattle.monitor.proofs.step.Taken.Laws as K′
-use Rattle.monitor.proofs.step.Report as P
-use Rattle.monitor.proofs.step.Report.Laws as P′
-use Rattle.monitor.proofs.step.step as step
-use Rattle.monitor.proofs.step.step.Symbol as step-def
-use Rattle.monitor.proofs.step.step.Symbol.{name as #monitor·step·step}
-use Rattle.monitor.proofs.step.step.Met as step-thm
+use Rattle.events.specs.Monitor.{recordOf, taken}
+use Rattle.events.specs.declared.Record.{Record}
+use Rattle.events.specs.declared.Taken.{Taken}
+use Rattle.events.proofs.Record as T
+use Rattle.events.proofs.Record.Laws as T′
+use Rattle.events.proofs.Taken as K
+use Rattle.events.proofs.Taken.Laws as K′
+use Rattle.events.proofs.Report as P
+use Rattle.events.proofs.Report.Laws as P′
+use Rattle.step.proofs.step as step
+use Rattle.step.proofs.step.Symbol as step-def
+use Rattle.step.proofs.step.Symbol.{name as #step·step}
+use Rattle.step.proofs.step.Met as step-thm
 use Rattle.lent.proofs.MachineValues.{Table, table-vals, tableSlot, numberSlot, state-fits, alarms-fits, table-lawful, table-makes}
 use Rattle.lent.proofs.take_event.Key.{name as #lent·take-event}
 use Rattle.lent.proofs.take_event as f
@@ -149,7 +149,7 @@ module _ {M : Type 1} (𝓤 : URA M) (H : Heap 𝓤) (A : Atoms 𝓤) (W : Given
       nothing ! $ nothing ! $ fjoin ! $ nothing ! $ fjoin ! $ nothing ! $ fjoin ! $ nothing ! $ fjoin ! $ nothing ! $ fjoin ! $ move ! (1 ∷ 0 ∷ []) $ fjoin ! $
       owned ! P.the-row (Is P.the-row) (EL.makes P.the-type P′.the-plain 𝓤 H A) (k .report) _ is $ move ! (1 ∷ 0 ∷ []) $ done !
 
-  module _ (C : Calls 𝓤 H) (Λ : Loops 𝓤 H) (fm : FmC 𝓤 H (W .laws) C) (known : Triple 𝓤 (C #monitor·step·step) (Step 𝓤 H A at-mem run)) where
+  module _ (C : Calls 𝓤 H) (Λ : Loops 𝓤 H) (fm : FmC 𝓤 H (W .laws) C) (known : Triple 𝓤 (C #step·step) (Step 𝓤 H A at-mem run)) where
     walk : ent 𝓤 (onEntry 𝓤 H A f.signature (κ, tt) (q, tt) x at) (WpFn 𝓤 H C Λ code.function (flat Passed at) Post)
     walk =
         qed W ((‵ (flft κ q) ⊛ ‵ ftrue) ∷ ‵ (owns Passed x at) ∷ []) ∵ enter ! C Λ code.function (flat Passed at) _ $
@@ -184,7 +184,7 @@ module _ {M : Type 1} (𝓤 : URA M) (H : Heap 𝓤) (A : Atoms 𝓤) (W : Given
 
 module _ {M : Type 1} (𝓤 : URA M) (H : Heap 𝓤) (A : Atoms 𝓤) (W : Given 𝓤 H A) (at-mem : Memory → SProp 𝓤) (run : Routine → Fun 𝓤) where
   -- the walk at every choice of what is passed
-  take-event-walks : (C : Calls 𝓤 H) (Λ : Loops 𝓤 H) → FmC 𝓤 H (W .laws) C → Triple 𝓤 (C #monitor·step·step) (Step 𝓤 H A at-mem run) → Walks 𝓤 H A f.ended stayed (WpFn 𝓤 H C Λ code.function) (f.clauses 𝓤 H A at-mem run)
+  take-event-walks : (C : Calls 𝓤 H) (Λ : Loops 𝓤 H) → FmC 𝓤 H (W .laws) C → Triple 𝓤 (C #step·step) (Step 𝓤 H A at-mem run) → Walks 𝓤 H A f.ended stayed (WpFn 𝓤 H C Λ code.function) (f.clauses 𝓤 H A at-mem run)
   take-event-walks C Λ fm known = walked 𝓤 H A f.ended stayed (f.clauses 𝓤 H A at-mem run) (WpFn 𝓤 H C Λ code.function)
       (λ κs. (ptr-vals, (table-vals, (uint-vals w64, (uint-vals w64, (uint-vals w64, (uint-vals w64, tt)))))))
       (λ κs. (mut-tells (named 0) (κs .0) T.the-row, (array-tells (Array u8 16) (array-vals (uint-vals w8)) (array-tells u8 (uint-vals w8) (uint-tells w8) 16) 16, (uint-tells w64, (uint-tells w64, (uint-tells w64, (uint-tells w64, tt)))))))
@@ -200,7 +200,7 @@ module _ {M : Type 1} (𝓤 : URA M) (H : Heap 𝓤) (A : Atoms 𝓤) (W : Given
   goes = (goes-ref 𝓤 H A W 1 0 tt (plain (λ _. T.the-row)), (goes-dropped 𝓤 H A W 1 (tableSlot 1) yes (λ κs x f. refl), (goes-number, (goes-number, (goes-number, (goes-number, tt))))))
 
 -- so the MIR meets the contract
-take-event-meets : {M : Type 1} (𝓤 : URA M) (H : Heap 𝓤) (A : Atoms 𝓤) → Given 𝓤 H A → (at-mem : Memory → SProp 𝓤) (run : Routine → Fun 𝓤) (𝓣 : Tables 𝓤 H) → Triple 𝓤 (𝓣 .C #monitor·step·step) (Step 𝓤 H A at-mem run)
+take-event-meets : {M : Type 1} (𝓤 : URA M) (H : Heap 𝓤) (A : Atoms 𝓤) → Given 𝓤 H A → (at-mem : Memory → SProp 𝓤) (run : Routine → Fun 𝓤) (𝓣 : Tables 𝓤 H) → Triple 𝓤 (𝓣 .C #step·step) (Step 𝓤 H A at-mem run)
     → Meets 𝓤 H A f.signature (WpFn 𝓤 H (𝓣 .C) (𝓣 .Λ) code.function) (f.spec 𝓤 H A at-mem run)
 take-event-meets 𝓤 H A W at-mem run 𝓣 known = walk-meets 𝓤 H A f.ended stayed W (goes 𝓤 H A W at-mem run) (f.clauses 𝓤 H A at-mem run)
     (WpFn 𝓤 H (𝓣 .C) (𝓣 .Λ) code.function) (WpFn-mono 𝓤 H (W .laws) 𝓣 code.function) (take-event-walks 𝓤 H A W at-mem run (𝓣 .C) (𝓣 .Λ) (fmOf 𝓤 H (W .laws) 𝓣) known)
@@ -212,4 +212,4 @@ take-event-spec 𝓤 H 𝓜 𝓖 𝓡 =
     entered 𝓤 H (tripleOf 𝓤 H (𝓖 .A) f.signature (f.spec 𝓤 H (𝓖 .A) (𝓜 .mem) (𝓡 .run)))
     (tables 𝓤 H 𝓜 𝓡 code.env .C) (tables 𝓤 H 𝓜 𝓡 code.env .Λ) #lent·take-event code.function (code.unfolded 𝓤 H 𝓜 𝓡)
     (take-event-meets 𝓤 H (𝓖 .A) (givenOf 𝓤 H 𝓜 𝓖) (𝓜 .mem) (𝓡 .run) (tablesOf 𝓤 H 𝓜 (tables 𝓤 H 𝓜 𝓡 code.env))
-    (cited 𝓤 H (Step 𝓤 H (𝓖 .A) (𝓜 .mem) (𝓡 .run)) 𝓜 𝓡 code.env #monitor·step·step step-def.routine code.calls-monitor·step·step (step-thm.met 𝓤 H 𝓜 𝓖 𝓡)))
+    (cited 𝓤 H (Step 𝓤 H (𝓖 .A) (𝓜 .mem) (𝓡 .run)) 𝓜 𝓡 code.env #step·step step-def.routine code.calls-step·step (step-thm.met 𝓤 H 𝓜 𝓖 𝓡)))

@@ -46,15 +46,15 @@ use denote.Triple.Clauses.{ensured, lasts}
 use denote.Triple.Walked.{says, Stays, stay-dropped, walkOf, Goes, AllGo, goes-dropped, Walks, ends-at, walked, walk-meets}
 use denote.Exit.{yes}
 use Rattle.automaton.specs.Automaton.{automatonOf}
-use Rattle.monitor.specs.Monitor.{recordOf, reported, taken}
-use Rattle.monitor.specs.declared.step.Record.{Record}
-use Rattle.monitor.specs.declared.step.Report.{Report}
-use Rattle.monitor.proofs.step.Record as T
-use Rattle.monitor.proofs.step.Record.Laws as T′
-use Rattle.monitor.proofs.step.Taken as K
-use Rattle.monitor.proofs.step.Taken.Laws as K′
-use Rattle.monitor.proofs.step.Report as P
-use Rattle.monitor.proofs.step.Report.Laws as P′
+use Rattle.events.specs.Monitor.{recordOf, reported, taken}
+use Rattle.events.specs.declared.Record.{Record}
+use Rattle.events.specs.declared.Report.{Report}
+use Rattle.events.proofs.Record as T
+use Rattle.events.proofs.Record.Laws as T′
+use Rattle.events.proofs.Taken as K
+use Rattle.events.proofs.Taken.Laws as K′
+use Rattle.events.proofs.Report as P
+use Rattle.events.proofs.Report.Laws as P′
 use Rattle.lent.proofs.take_event as take-event
 use Rattle.lent.proofs.take_event.Symbol as take-event-def
 use Rattle.lent.proofs.take_event.Symbol.{name as #lent·take-event}
