@@ -15,24 +15,25 @@ use Rattle.laws.specs.Bytes.{numberAt, bytesOf, putNumber}
 use Rattle.automaton.specs.Automaton.{Automaton, automatonOf, next, final, wellFormed}
 use Rattle.automaton.specs.Table.{tableOf}
 use Rattle.automaton.proofs.AutomatonLaws.{not-well-formed, well-formed-says}
-use Rattle.events.specs.Monitor.{recordOf, reported, maxTotal, raised, refusedWith, movedTo, taken, reportNumber, refusalNumber}
+use Rattle.events.specs.Monitor.{reported, maxTotal, recordAfter, refusedWith, movedTo, taken, reportNumber, refusalNumber}
 use Rattle.events.specs.declared.Record.{Record}
 use Rattle.events.specs.declared.Taken.{Taken}
 use Rattle.events.specs.declared.Report.{Report}
-use Rattle.events.specs.declared.Report.the-variants.{Quiet, Alarm, Refused}
+use Rattle.events.specs.declared.Report.the-variants.{Quiet, Alarm}
 use Rattle.events.proofs.MonitorLaws.{taken-13, taken-14, taken-15, TakenCase, no-rule, no-symbol, no-state, moves, taken-moved, taken-case}
 use Rattle.events.proofs.FormLaws.{refuses}
-use Rattle.eventbytes.specs.Event.{ruleIn, fieldIn, recordIn, eventTaken, recordBytes, leftBy, recordLeft, refusalOf, refusedBy, RefusesInOrder}
+use Rattle.eventbytes.specs.Event.{ruleIn, statePlace, totalPlace, recordSize, recordAt, noRecord, recordIn, eventTaken, recordBytes, leftBy, recordLeft, refusalOf, refusedBy, RefusesInOrder}
 
 -- ---- reading
 
-pub field-of : (l : List ℕ) (i d : ℕ) → length l ≡ 16 → fieldIn l i d ≡ numberAt 8 l i
-unfolding fieldIn
-field-of l i d e = simp (eq-eqb (length l) 16 e)
+-- a record of its length is read, and no other
+pub record-read : (l : List ℕ) → length l ≡ recordSize → recordIn l ≡ recordAt l
+unfolding recordIn
+record-read l e = simp (eq-eqb (length l) recordSize e)
 
-pub field-none : (l : List ℕ) (i d : ℕ) → (length l ≡ 16 → ⊥) → fieldIn l i d ≡ d
-unfolding fieldIn
-field-none l i d e = simp (ne-eqb (length l) 16 e)
+pub record-none : (l : List ℕ) → (length l ≡ recordSize → ⊥) → recordIn l ≡ noRecord
+unfolding recordIn
+record-none l e = simp (ne-eqb (length l) recordSize e)
 
 pub rule-of : (l : List ℕ) (s a f : ℕ) → length l ≡ 256 → ruleIn l s a f ≡ automatonOf (tableOf l) s a f
 unfolding ruleIn
@@ -71,11 +72,14 @@ put-whole n m l u v e =
     ∙ ap (λ (r : List ℕ). take n r ++ second) head
     ∙ ap (λ (r : List ℕ). r ++ second) (take-at first (drop (0 + length first) l) n long)
 
--- ---- the call
+-- a record's numbers, each written in its place
+pub record-put
+    : (l : List ℕ) (r : Record) → length l ≡ recordSize
+    → putNumber 8 (putNumber 8 l statePlace (r .state)) totalPlace (r .alarms) ≡ recordBytes r
+unfolding recordBytes
+record-put l r e = put-whole 8 8 l (r .state) (r .alarms) e
 
--- the record as it is read, with any answer
-pub read-back : (f : Record → Taken) (rec : List ℕ) (q n : ℕ) → q ≡ fieldIn rec 0 maxTotal → n ≡ fieldIn rec 8 0 → f (recordOf q n) ≡ f (recordIn rec)
-read-back f rec q n e d = ap (λ (k : ℕ). f (recordOf k n)) e ∙ ap (λ (k : ℕ). f (recordOf (fieldIn rec 0 maxTotal) k)) d
+-- ---- the call
 
 -- a rule of 256 bytes is taken by the table t that they spell
 pub event-taken
@@ -92,14 +96,19 @@ pub event-no-rule
 unfolding eventTaken
 event-no-rule rule s a f c rec e = sym (taken-13 _ c (recordIn rec) (rule-none rule s a f e))
 
--- a state below S is held by a record of 16 bytes alone
-state-length : (rec : List ℕ) (s : ℕ) → fieldIn rec 0 maxTotal < s → s ≤ 16 → length rec ≡ 16
-state-length rec s h k =
-    by-cases (ℕ-discrete (length rec) 16) (λ e. e) (λ e. absurd (lt-irrefl maxTotal (omega (arith, field-none rec 0 maxTotal e))))
+-- the state that is read
+state-read : (rec : List ℕ) → length rec ≡ recordSize → recordIn rec .state ≡ numberAt 8 rec statePlace
+state-read rec e = ap (λ (r : Record). r .state) (record-read rec e)
 
--- an event has a record of 16 bytes
+-- a state below S is held by the bytes of a record alone
+state-length : (rec : List ℕ) (s : ℕ) → recordIn rec .state < s → s ≤ 16 → length rec ≡ recordSize
+state-length rec s h k =
+    by-cases (ℕ-discrete (length rec) recordSize) (λ e. e)
+    (λ e. absurd (lt-irrefl maxTotal (omega (arith, ap (λ (r : Record). r .state) (record-none rec e)))))
+
+-- an event has the bytes of a record
 pub event-length
-    : (rule : List ℕ) (s a f c : ℕ) (rec : List ℕ) → refuses (eventTaken rule s a f c rec) ≡ false → length rec ≡ 16
+    : (rule : List ℕ) (s a f c : ℕ) (rec : List ℕ) → refuses (eventTaken rule s a f c rec) ≡ false → length rec ≡ recordSize
 unfolding eventTaken
 event-length rule s a f c rec e = go (taken-case m c r)
   where
@@ -109,10 +118,10 @@ event-length rule s a f c rec e = go (taken-case m c r)
     r : Record
     r = recordIn rec
 
-    no-event : {t : Taken} → taken m c r ≡ t → refuses t ≡ true → length rec ≡ 16
+    no-event : {t : Taken} → taken m c r ≡ t → refuses t ≡ true → length rec ≡ recordSize
     no-event u h = absurd (true≢false (sym h ∙ ap refuses (sym u) ∙ e))
 
-    go : TakenCase m c r → length rec ≡ 16
+    go : TakenCase m c r → length rec ≡ recordSize
     go (no-rule w) = no-event (taken-13 m c r w) refl
     go (no-symbol w k) = no-event (taken-14 m c r w k) refl
     go (no-state w k l) = no-event (taken-15 m c r w k l) refl
@@ -121,24 +130,24 @@ event-length rule s a f c rec e = go (taken-case m c r)
 -- the number and the bytes of an answer t that reports x, where u is what the definition has
 pub answered
     : (rec : List ℕ) (t u : Taken) (x : Report) → t ≡ u → t .report ≡ x
-    → (reportNumber x ≡ reportNumber (u .report)) × (leftBy x rec (recordBytes (t .state) (t .alarms)) ≡ recordLeft rec u)
+    → (reportNumber x ≡ reportNumber (u .report)) × (leftBy x rec (recordBytes (t .left)) ≡ recordLeft rec u)
 answered rec t u x e r = (
   ap reportNumber (sym r ∙ ap (λ (v : Taken). v .report) e),
-  ap (λ (y : Report). leftBy y rec (recordBytes (t .state) (t .alarms))) (sym r) ∙ ap (λ (v : Taken). recordLeft rec v) e,
+  ap (λ (y : Report). leftBy y rec (recordBytes (t .left))) (sym r) ∙ ap (λ (v : Taken). recordLeft rec v) e,
 )
 
--- an answer that reports an event has a record of 16 bytes
+-- an answer that reports an event has the bytes of a record
 pub answered-length
     : (rule : List ℕ) (s a f c : ℕ) (rec : List ℕ) (t : Taken) (x : Report) → t ≡ eventTaken rule s a f c rec → t .report ≡ x
-    → refusalNumber (reportNumber x) ≡ false → length rec ≡ 16
+    → refusalNumber (reportNumber x) ≡ false → length rec ≡ recordSize
 answered-length rule s a f c rec t x e r h = event-length rule s a f c rec (ap refuses (sym e) ∙ ap (λ (y : Report). refusalNumber (reportNumber y)) r ∙ h)
 
 -- a move is refused by nothing
-moved-unrefused : (m : Automaton) (q n : ℕ) → refusedBy (movedTo m q n .report) ≡ 0
+moved-unrefused : (m : Automaton) (q : ℕ) (r : Record) → refusedBy (movedTo m q r .report) ≡ 0
 unfolding movedTo
-moved-unrefused m q n = go (final m q)
+moved-unrefused m q r = go (final m q)
   where
-    go : (b : Bool) → refusedBy (cond b (reported (recordOf q (raised n)) Alarm) (reported (recordOf q n) Quiet) .report) ≡ 0
+    go : (b : Bool) → refusedBy (cond b (reported (recordAfter q true r) Alarm) (reported (recordAfter q false r) Quiet) .report) ≡ 0
     go true = refl
     go false = refl
 
@@ -155,24 +164,30 @@ refuses-case rule s a f symbol rec e (no-symbol w h) =
 refuses-case rule s a f symbol rec e (no-state w h k) =
     ap (λ (t : Taken). refusedBy (t .report)) (taken-15 _ symbol (recordIn rec) w h k)
     ∙ sym
-    (by-cases (ℕ-discrete (length rec) 16)
-    (λ (g : length rec ≡ 16).
-    simp (eq-eqb (length rule) 256 e, w, lt-ltb symbol a h, eq-eqb (length rec) 16 g, le-ltb (numberAt 8 rec 0) s (rw (field-of rec 0 maxTotal g) at k)))
-    (λ g. simp (eq-eqb (length rule) 256 e, w, lt-ltb symbol a h, ne-eqb (length rec) 16 g)))
+    (by-cases (ℕ-discrete (length rec) recordSize)
+    (λ (g : length rec ≡ recordSize).
+    simp (
+      eq-eqb (length rule) 256 e,
+      w,
+      lt-ltb symbol a h,
+      eq-eqb (length rec) recordSize g,
+      le-ltb (numberAt 8 rec statePlace) s (rw (state-read rec g) at k),
+    ))
+    (λ g. simp (eq-eqb (length rule) 256 e, w, lt-ltb symbol a h, ne-eqb (length rec) recordSize g)))
 refuses-case rule s a f symbol rec e (moves w h k) =
     let m = automatonOf (tableOf rule) s a f in
     let r = recordIn rec in
     let q = next m (r .state) symbol in
-    let g : length rec ≡ 16 = state-length rec s k (well-formed-says m .0 w .few-states) in
+    let g : length rec ≡ recordSize = state-length rec s k (well-formed-says m .0 w .few-states) in
     ap (λ (t : Taken). refusedBy (t .report)) (taken-moved m symbol r q w h k refl)
-    ∙ moved-unrefused m q (r .alarms)
+    ∙ moved-unrefused m q r
     ∙ sym
     (simp (
       eq-eqb (length rule) 256 e,
       w,
       lt-ltb symbol a h,
-      eq-eqb (length rec) 16 g,
-      lt-ltb (numberAt 8 rec 0) s (rw (field-of rec 0 maxTotal g) at k),
+      eq-eqb (length rec) recordSize g,
+      lt-ltb (numberAt 8 rec statePlace) s (rw (state-read rec g) at k),
     ))
 
 -- without 256 bytes

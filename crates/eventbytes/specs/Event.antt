@@ -3,7 +3,7 @@
 use mathlib.Core.Path.{_≡_}
 use mathlib.Core.Bool.{cond, _&&_}
 use mathlib.Core.List.{List, _++_}
-use Prim.Native.Nat.{ℕ}
+use Prim.Native.Nat.{ℕ, _+_}
 use lib.Dec.{eqb, ltb}
 use lib.ListN.{length}
 use Rattle.laws.specs.Bytes.{numberAt, bytesOf}
@@ -20,22 +20,35 @@ use Rattle.events.specs.declared.Report.the-variants.{Quiet, Alarm, Refused}
 unfoldable pub ruleIn : List ℕ → ℕ → ℕ → ℕ → Automaton
 ruleIn bytes s a f = automatonOf (tableOf bytes) (cond (eqb (length bytes) 256) s 0) a f
 
--- "the record is 16 bytes: state, then alarm total, each eight bytes with the lowest first": the number at place i,
--- or another where the length is another
-unfoldable pub fieldIn : List ℕ → ℕ → ℕ → ℕ
-fieldIn bytes i other = cond (eqb (length bytes) 16) (numberAt 8 bytes i) other
+-- "the record is 16 bytes: state, then alarm total, each eight bytes with the lowest first": where each number stands, and the length
+abbrev pub statePlace : ℕ
+statePlace = 0
 
--- the record; bytes of any other length hold a state that no rule has, which the event step refuses as 15
-abbrev pub recordIn : List ℕ → Record
-recordIn bytes = recordOf (fieldIn bytes 0 maxTotal) (fieldIn bytes 8 0)
+abbrev pub totalPlace : ℕ
+totalPlace = statePlace + 8
+
+abbrev pub recordSize : ℕ
+recordSize = totalPlace + 8
+
+-- the record of these numbers
+abbrev pub recordAt : List ℕ → Record
+recordAt bytes = recordOf (numberAt 8 bytes statePlace) (numberAt 8 bytes totalPlace)
+
+-- a record in a state that no rule has, which the event step refuses as 15
+abbrev pub noRecord : Record
+noRecord = recordOf maxTotal 0
+
+-- the record that bytes spell; those of any other length spell none
+unfoldable pub recordIn : List ℕ → Record
+recordIn bytes = cond (eqb (length bytes) recordSize) (recordAt bytes) noRecord
 
 -- what the call reports and leaves
 unfoldable pub eventTaken : List ℕ → ℕ → ℕ → ℕ → ℕ → List ℕ → Taken
 eventTaken rule s a f symbol rec = taken (ruleIn rule s a f) symbol (recordIn rec)
 
--- a record as its 16 bytes
-unfoldable pub recordBytes : ℕ → ℕ → List ℕ
-recordBytes q n = bytesOf 8 q ++ bytesOf 8 n
+-- a record as its bytes
+unfoldable pub recordBytes : Record → List ℕ
+recordBytes r = bytesOf 8 (r .state) ++ bytesOf 8 (r .alarms)
 
 -- the record's bytes after a call, by what it reports: "a refusal leaves the record unchanged"
 abbrev pub leftBy : Report → List ℕ → List ℕ → List ℕ
@@ -45,13 +58,13 @@ leftBy (Refused k) old new = old
 
 -- the same of what a call reports and leaves
 abbrev pub recordLeft : List ℕ → Taken → List ℕ
-recordLeft old t = leftBy (t .report) old (recordBytes (t .state) (t .alarms))
+recordLeft old t = leftBy (t .report) old (recordBytes (t .left))
 
 -- the refusals read off the bytes, 0 for none: 13, 14 and 15 in that order, a wrong length of the rule as 13 and of the record as 15
 unfoldable pub refusalOf : List ℕ → ℕ → ℕ → ℕ → ℕ → List ℕ → ℕ
 refusalOf rule s a f symbol rec =
     cond (eqb (length rule) 256 && wellFormed (automatonOf (tableOf rule) s a f))
-    (cond (ltb symbol a) (cond (eqb (length rec) 16 && ltb (numberAt 8 rec 0) s) 0 15) 14)
+    (cond (ltb symbol a) (cond (eqb (length rec) recordSize && ltb (numberAt 8 rec statePlace) s) 0 15) 14)
     13
 
 -- the number of a refusal, 0 for an event

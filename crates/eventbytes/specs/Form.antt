@@ -6,19 +6,26 @@ use Prim.Native.Nat.{ℕ, _^_, _<_}
 use lib.ListN.{take, drop}
 use Rattle.laws.specs.Bytes.{AreBytes, numberAt}
 use Rattle.automaton.specs.Automaton.{Automaton, SameRule}
-use Rattle.events.specs.Monitor.{reportNumber, alarmNumber, refusalNumber}
+use Rattle.events.specs.Monitor.{RecordIs, reportNumber, alarmNumber, refusalNumber}
 use Rattle.events.specs.Form.{EventForm}
+use Rattle.events.specs.declared.Record.{Record}
 use Rattle.events.specs.declared.Taken.{Taken}
-use Rattle.eventbytes.specs.Event.{ruleIn, eventTaken, recordBytes, recordLeft}
+use Rattle.eventbytes.specs.Event.{ruleIn, totalPlace, recordSize, eventTaken, recordBytes, recordLeft}
 
--- what is held: any bytes, and the place of the record's 16 among them
+-- the bytes of a record in state q and with total n
+pub record BytesHold (q n : ℕ) (bytes : List ℕ) : Type 0 where
+  pub kept : Record
+  pub is : RecordIs q n kept
+  pub spelled : bytes ≡ recordBytes kept
+
+-- what is held: any bytes, and the place of the record's among them
 pub record HeldBytes : Type 0 where
   pub bytes : List ℕ
   pub place : ℕ
 
 -- the record's bytes
 abbrev pub recordAmong : HeldBytes → List ℕ
-recordAmong h = take 16 (drop (h .place) (h .bytes))
+recordAmong h = take recordSize (drop (h .place) (h .bytes))
 
 -- what a call is given: the rule's bytes, S, A, the final set, the symbol, and which of the bytes held are lent as its record:
 -- `count` of them from `start` on, a wrong number of them too
@@ -44,7 +51,7 @@ pub record ByteCallIs (m : Automaton) (a : ℕ) (c : ByteCall) (h : HeldBytes) :
   pub rule : SameRule m (ruleIn (c .rule) (c .states) (c .symbols) (c .finals))
   pub symbol : c .symbol ≡ a
   pub start : c .start ≡ h .place
-  pub count : c .count ≡ 16
+  pub count : c .count ≡ recordSize
 
 -- the bytes that a call is lent
 abbrev pub lent : ByteCall → List ℕ → List ℕ
@@ -59,7 +66,7 @@ abbrev pub bytesLeft : ByteCall → List ℕ → List ℕ
 bytesLeft c bytes = take (c .start) bytes ++ (recordLeft (lent c bytes) (takenOn c bytes) ++ drop (c .count) (drop (c .start) bytes))
 
 -- across the C call (`dapohiru_event`): the answer is the number returned; an event's call is lent the record, and a call between may be
--- lent any of the bytes, fewer than 16 or more; the bytes around the record are free
+-- lent any of the bytes, fewer than a record's or more; the bytes around the record are free
 abbrev pub callForm : EventForm
 callForm =
     record {
@@ -72,6 +79,6 @@ callForm =
       refusal = refusalNumber;
       Passable = ByteCallFits;
       Gives = ByteCallIs;
-      Begins = λ q n h. recordAmong h ≡ recordBytes q n;
-      total = λ h. numberAt 8 (recordAmong h) 8;
+      Begins = λ q n h. BytesHold q n (recordAmong h);
+      total = λ h. numberAt 8 (recordAmong h) totalPlace;
     }

@@ -10,12 +10,16 @@ use native.Mathlib.Omega.{arith}
 use borrow.Author.Tests.{lt-ltb, le-ltb}
 use Rattle.laws.specs.Bits.{has}
 use Rattle.laws.proofs.Tests.{passes-or-fails}
-use Rattle.automaton.specs.Automaton.{Automaton, next, final, wellFormed, SameRule}
+use Rattle.automaton.specs.Automaton.{Automaton, next, final, wellFormed}
 use Rattle.automaton.proofs.AutomatonLaws.{well-formed-same}
-use Rattle.events.specs.Monitor.{recordOf, reported, maxTotal, raised, counted, refusedWith, movedTo, taken, reportNumber, reportRead, LooksAtNoOtherCell, ReportByNumber}
+use Rattle.events.specs.Monitor.{recordOf, RecordIs, reported, maxTotal, raised, counted, recordAfter, refusedWith, movedTo, taken, reportNumber, reportRead, LooksAtNoOtherCell, ReportByNumber}
 use Rattle.events.specs.declared.Record.{Record}
 use Rattle.events.specs.declared.Taken.{Taken}
 use Rattle.events.specs.declared.Report.the-variants.{Quiet, Alarm}
+
+-- there is a record in every state and with every total
+pub record-with : (q n : ℕ) → (r : Record) × RecordIs q n r
+record-with q n = (recordOf q n, record { state = refl; total = refl })
 
 -- below the ceiling the total rises, at the ceiling it stays
 pub raised-rises : (n : ℕ) → n < maxTotal → raised n ≡ n + 1
@@ -50,18 +54,18 @@ taken-15 m a r w h k = simp (w, lt-ltb a (m .symbols) h, le-ltb (r .state) (m .s
 -- the event that is taken, where the next state is q
 pub taken-moved
     : (m : Automaton) (a : ℕ) (r : Record) (q : ℕ) → wellFormed m ≡ true → a < m .symbols → r .state < m .states → q ≡ next m (r .state) a
-    → taken m a r ≡ movedTo m q (r .alarms)
+    → taken m a r ≡ movedTo m q r
 unfolding taken
 taken-moved m a r q w h k e = simp (w, lt-ltb a (m .symbols) h, lt-ltb (r .state) (m .states) k, ← e)
 
--- a move to a final state alarms, with the total n after it, and any other is quiet
-pub moved-alarm : (m : Automaton) (q k n : ℕ) → final m q ≡ true → n ≡ raised k → movedTo m q k ≡ reported (recordOf q n) Alarm
+-- a move to a final state alarms, and any other is quiet
+pub moved-alarm : (m : Automaton) (q : ℕ) (r : Record) → final m q ≡ true → movedTo m q r ≡ reported (recordAfter q true r) Alarm
 unfolding movedTo
-moved-alarm m q k n f e = simp f (ap (λ (t : ℕ). reported (recordOf q t) Alarm) (sym e))
+moved-alarm m q r f = simp f
 
-pub moved-quiet : (m : Automaton) (q k : ℕ) → final m q ≡ false → movedTo m q k ≡ reported (recordOf q k) Quiet
+pub moved-quiet : (m : Automaton) (q : ℕ) (r : Record) → final m q ≡ false → movedTo m q r ≡ reported (recordAfter q false r) Quiet
 unfolding movedTo
-moved-quiet m q k f = simp f
+moved-quiet m q r f = simp f
 
 -- the four cases of a call, as its tests find them
 pub data TakenCase (m : Automaton) (a : ℕ) (r : Record) : Type 0 where
@@ -80,9 +84,9 @@ taken-case m a r =
     (passes-or-fails (wellFormed m))
 
 -- the move looks at the final states alone
-moved-same : (m n : Automaton) (q k : ℕ) → m .finals ≡ n .finals → movedTo m q k ≡ movedTo n q k
+moved-same : (m n : Automaton) (q : ℕ) (r : Record) → m .finals ≡ n .finals → movedTo m q r ≡ movedTo n q r
 unfolding movedTo
-moved-same m n q k e = ap (λ (f : ℕ). cond (has f q) (reported (recordOf q (raised k)) Alarm) (reported (recordOf q k) Quiet)) e
+moved-same m n q r e = ap (λ (f : ℕ). cond (has f q) (reported (recordAfter q true r) Alarm) (reported (recordAfter q false r) Quiet)) e
 
 -- the event step looks at no cell past S or A
 pub taken-same : LooksAtNoOtherCell
@@ -97,18 +101,18 @@ taken-same m n a r e = go (taken-case m a r)
     go (no-state w h k) = taken-15 m a r w h k ∙ sym (taken-15 n a r (w′ w) (omega arith) (omega arith))
     go (moves w h k) =
         taken-moved m a r _ w h k refl
-        ∙ moved-same m n (next m (r .state) a) (r .alarms) (e .finals)
+        ∙ moved-same m n (next m (r .state) a) r (e .finals)
         ∙ sym (taken-moved n a r _ (w′ w) (omega arith) (omega arith) (e .cells (r .state) a k h))
 
 -- the report of a move is read back
-moved-read : (m : Automaton) (q n : ℕ) → reportRead (reportNumber (movedTo m q n .report)) ≡ movedTo m q n .report
+moved-read : (m : Automaton) (q : ℕ) (r : Record) → reportRead (reportNumber (movedTo m q r .report)) ≡ movedTo m q r .report
 unfolding movedTo
-moved-read m q n = go (final m q)
+moved-read m q r = go (final m q)
   where
     go
         : (b : Bool)
-        → reportRead (reportNumber (cond b (reported (recordOf q (raised n)) Alarm) (reported (recordOf q n) Quiet) .report))
-        ≡ cond b (reported (recordOf q (raised n)) Alarm) (reported (recordOf q n) Quiet) .report
+        → reportRead (reportNumber (cond b (reported (recordAfter q true r) Alarm) (reported (recordAfter q false r) Quiet) .report))
+        ≡ cond b (reported (recordAfter q true r) Alarm) (reported (recordAfter q false r) Quiet) .report
     go true = refl
     go false = refl
 
@@ -124,4 +128,4 @@ report-by-number m a r = go (taken-case m a r)
     go (no-rule w) = read (taken-13 m a r w) refl
     go (no-symbol w h) = read (taken-14 m a r w h) refl
     go (no-state w h k) = read (taken-15 m a r w h k) refl
-    go (moves w h k) = read (taken-moved m a r _ w h k refl) (moved-read m (next m (r .state) a) (r .alarms))
+    go (moves w h k) = read (taken-moved m a r _ w h k refl) (moved-read m (next m (r .state) a) r)

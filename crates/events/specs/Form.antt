@@ -3,11 +3,11 @@
 -- Assumes nothing.
 use mathlib.Core.Path.{_≡_}
 use mathlib.Core.Bool.{Bool, true, false}
-use mathlib.Core.List.{List, []}
+use mathlib.Core.List.{[]}
 use Prim.Native.Nat.{ℕ, _^_, _<_, _≤_}
 use lib.ListN.{length, getD}
 use Rattle.automaton.specs.Automaton.{Automaton, cell, next, final, WellFormed, SameRule}
-use Rattle.events.specs.Monitor.{recordOf, keptFrom, maxTotal, counted, taken, reportNumber, alarmNumber, refusalNumber}
+use Rattle.events.specs.Monitor.{RecordIs, maxTotal, counted, taken, reportNumber, alarmNumber, refusalNumber}
 use Rattle.events.specs.declared.Record.{Record}
 use Rattle.events.specs.declared.Taken.{Taken}
 use Rattle.events.specs.declared.Report.{Report}
@@ -71,12 +71,7 @@ pub record GivenIs (m : Automaton) (a : ℕ) (c : Given) : Type 0 where
   pub rule : SameRule m (c .rule)
   pub symbol : c .symbol ≡ a
 
--- a record in state q and with total n
-pub record RecordIs (q n : ℕ) (r : Record) : Type 0 where
-  pub state : r .state ≡ q
-  pub total : r .alarms ≡ n
-
--- on values (`step`): the answer has the state and the total that the caller keeps for the next call
+-- on values (`step`): the answer has the record that the caller keeps for the next call
 abbrev pub valueForm : EventForm
 valueForm =
     record {
@@ -84,7 +79,7 @@ valueForm =
       Held = Record;
       Answer = Taken;
       answer = λ c r. taken (c .rule) (c .symbol) r;
-      left = λ c r. keptFrom (taken (c .rule) (c .symbol) r);
+      left = λ c r. taken (c .rule) (c .symbol) r .left;
       alarm = λ t. alarmNumber (reportNumber (t .report));
       refusal = λ t. refusalNumber (reportNumber (t .report));
       Passable = GivenFits;
@@ -100,8 +95,8 @@ lentForm =
       Call = Given;
       Held = Record;
       Answer = Report;
-      answer = λ c r. taken (c .rule) (c .symbol) r .report;
-      left = λ c r. recordOf (taken (c .rule) (c .symbol) r .state) (taken (c .rule) (c .symbol) r .alarms);
+      answer = λ c held. taken (c .rule) (c .symbol) held .report;
+      left = λ c held. taken (c .rule) (c .symbol) held .left;
       alarm = λ x. alarmNumber (reportNumber x);
       refusal = λ x. refusalNumber (reportNumber x);
       Passable = GivenFits;

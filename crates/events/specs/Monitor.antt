@@ -1,7 +1,7 @@
 -- The event step (document 01, "The rule and the monitor"; refusals 13, 14 and 15 in that order).
 -- Assumes nothing.
 use mathlib.Core.Path.{_≡_}
-use mathlib.Core.Bool.{Bool, cond}
+use mathlib.Core.Bool.{Bool, true, false, cond}
 use Prim.Native.Nat.{ℕ, _+_, _-_, _^_}
 use lib.Dec.{eqb, ltb}
 use Rattle.callnumber.specs.CallNumber.{acceptedFrom}
@@ -15,13 +15,14 @@ use Rattle.events.specs.declared.Report.the-variants.{Quiet, Alarm, Refu
 abbrev pub recordOf : ℕ → ℕ → Record
 recordOf q n = record { state = q; alarms = n }
 
--- a record with what is reported
-abbrev pub reported : Record → Report → Taken
-reported r x = record { state = r .state; alarms = r .alarms; report = x }
+-- a record in state q and with total n, all else free
+pub record RecordIs (q n : ℕ) (r : Record) : Type 0 where
+  pub state : r .state ≡ q
+  pub total : r .alarms ≡ n
 
--- the record that an answer has beside its report
-abbrev pub keptFrom : Taken → Record
-keptFrom t = recordOf (t .state) (t .alarms)
+-- the record that is left, with what is reported
+abbrev pub reported : Record → Report → Taken
+reported r x = record { left = r; report = x }
 
 -- the highest alarm total
 abbrev pub maxTotal : ℕ
@@ -35,21 +36,25 @@ raised n = cond (ltb n maxTotal) (n + 1) n
 abbrev pub counted : Bool → ℕ → ℕ
 counted alarm n = cond alarm (raised n) n
 
+-- the record after an event that moves it to state q: the total rises at an alarm
+abbrev pub recordAfter : ℕ → Bool → Record → Record
+recordAfter q alarm r = recordOf q (counted alarm (r .alarms))
+
 -- "a refusal leaves the record unchanged"
 abbrev pub refusedWith : ℕ → Record → Taken
 refusedWith k r = reported r (Refused k)
 
 -- "moves to the next state; it alarms exactly when the state moved to is final, also when it was final before":
--- the move to state q with n alarms before
-unfoldable pub movedTo : Automaton → ℕ → ℕ → Taken
-movedTo m q n = cond (final m q) (reported (recordOf q (raised n)) Alarm) (reported (recordOf q n) Quiet)
+-- the move of a record to state q
+unfoldable pub movedTo : Automaton → ℕ → Record → Taken
+movedTo m q r = cond (final m q) (reported (recordAfter q true r) Alarm) (reported (recordAfter q false r) Quiet)
 
 -- the event step: 13 for a rule that is none, 14 for a symbol of A or more, 15 for a state of S or more, else the move
 unfoldable pub taken : Automaton → ℕ → Record → Taken
 taken m a r =
     cond (wellFormed m)
     (cond (ltb a (m .symbols))
-    (cond (ltb (r .state) (m .states)) (movedTo m (next m (r .state) a) (r .alarms)) (refusedWith 15 r))
+    (cond (ltb (r .state) (m .states)) (movedTo m (next m (r .state) a) r) (refusedWith 15 r))
     (refusedWith 14 r))
     (refusedWith 13 r)
 

@@ -18,7 +18,6 @@ pub struct Record {
 
 // What an event call leaves: the record, and what is reported.
 pub struct Taken {
-    pub state: u64,
-    pub alarms: u64,
+    pub left: Record,
     pub report: Report,
 }

@@ -1,9 +1,10 @@
 // The event step on values: one event moves the state, and alarms when the state moved to is final.
+use events::Record;
 use events::Report;
 use events::Taken;
 ghost use mathlib.Core.Path.{_≡_};
 ghost use Rattle.automaton.specs.Automaton.{automatonOf};
-ghost use Rattle.events.specs.Monitor.{recordOf, raised, refusedWith, taken};
+ghost use Rattle.events.specs.Monitor.{raised, refusedWith, taken};
 
 // The alarm total after one alarm more.
 fn raise(alarms: u64) -> u64
@@ -16,48 +17,50 @@ fn raise(alarms: u64) -> u64
 }
 
 // The record as it was, with a refusal's number.
-fn refuse(number: u64, state: u64, alarms: u64) -> Taken
-    ensures { λ r. ⌜ r ≡ refusedWith number (recordOf state alarms) ⌝ }
+fn refuse(number: u64, r: Record) -> Taken
+    ensures { λ t. ⌜ t ≡ refusedWith number r ⌝ }
 {
     Taken {
-        state: state,
-        alarms: alarms,
+        left: r,
         report: Report::Refused(number),
     }
 }
 
-// Takes one event: the state moves on, and the total rises at an alarm. A refusal leaves both.
+// Takes one event: the state moves on, and the total rises at an alarm. A refusal leaves the record.
 pub fn step(
     table: [[u8; 16]; 16],
     states: u64,
     symbols: u64,
     finals: u64,
     symbol: u64,
-    state: u64,
-    alarms: u64,
+    r: Record,
 ) -> Taken
-    ensures { λ r. ⌜ r ≡ taken (automatonOf table states symbols finals) symbol (recordOf state alarms) ⌝ }
+    ensures { λ t. ⌜ t ≡ taken (automatonOf table states symbols finals) symbol r ⌝ }
 {
     if wellformed::is_well_formed(table, states, symbols, finals) {
         if symbols <= symbol {
-            return refuse(14, state, alarms);
+            return refuse(14, r);
         }
-        if states <= state {
-            return refuse(15, state, alarms);
+        if states <= r.state {
+            return refuse(15, r);
         }
-        let moved = automaton::rule::next(&table, state, symbol);
+        let moved = automaton::rule::next(&table, r.state, symbol);
         if automaton::rule::is_final(finals, moved) {
             return Taken {
-                state: moved,
-                alarms: raise(alarms),
+                left: Record {
+                    state: moved,
+                    alarms: raise(r.alarms),
+                },
                 report: Report::Alarm,
             };
         }
         return Taken {
-            state: moved,
-            alarms: alarms,
+            left: Record {
+                state: moved,
+                alarms: r.alarms,
+            },
             report: Report::Quiet,
         };
     }
-    refuse(13, state, alarms)
+    refuse(13, r)
 }

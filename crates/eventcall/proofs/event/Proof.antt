@@ -15,8 +15,8 @@ enum-told c = search needs
 
 store-requires : tie.Need-store-requires
 store-requires c κs =
-    let x = c .before .before .before .before .before .before .before .args in
-    let t = c .before .before .before .take in
+    let x = c .before .before .before .before .before .before .before .before .args in
+    let t = c .before .before .before .before .take in
     answered-length (x .rule .now) (x .states) (x .symbols) (x .finals) (x .symbol) (x .rec .now) (t .result) Quiet (t .ensures)
     (c .before .enum-told .given .1) refl
 
@@ -25,8 +25,8 @@ enum-told-2 c = search needs
 
 store-requires-2 : tie.Need-store-requires-2
 store-requires-2 c κs =
-    let x = c .before .before .before .before .before .before .before .args in
-    let t = c .before .before .before .take in
+    let x = c .before .before .before .before .before .before .before .before .args in
+    let t = c .before .before .before .before .take in
     answered-length (x .rule .now) (x .states) (x .symbols) (x .finals) (x .symbol) (x .rec .now) (t .result) Alarm (t .ensures)
     (c .before .enum-told2 .given .1) refl
 
@@ -38,8 +38,8 @@ same-length c = search needs
 
 returns : tie.Need-returns
 returns c =
-    let t = c .before .before .before .before .before .before .take in
-    let a = answered (c .before .before .before .before .before .before .before .before .before .before .args .rec .now) (t .result) _ Quiet (t .ensures)
+    let t = c .before .before .before .before .before .before .before .take in
+    let a = answered (c .before .before .before .before .before .before .before .before .before .before .before .args .rec .now) (t .result) _ Quiet (t .ensures)
     (c .before .before .before .before .enum-told .given .1) in
     (a .0, c .before .before .store .ensures ∙ a .1)
 
@@ -48,8 +48,8 @@ same-length-2 c = search needs
 
 returns-2 : tie.Need-returns-2
 returns-2 c =
-    let t = c .before .before .before .before .before .before .take in
-    let a = answered (c .before .before .before .before .before .before .before .before .before .before .args .rec .now) (t .result) _ Alarm (t .ensures)
+    let t = c .before .before .before .before .before .before .before .take in
+    let a = answered (c .before .before .before .before .before .before .before .before .before .before .before .args .rec .now) (t .result) _ Alarm (t .ensures)
     (c .before .before .before .before .enum-told2 .given .1) in
     (a .0, c .before .before .store2 .ensures ∙ a .1)
 
@@ -58,8 +58,8 @@ same-length-3 c = search needs
 
 returns-3 : tie.Need-returns-3
 returns-3 c =
-    let t = c .before .before .before .take in
-    answered (c .before .before .before .before .before .before .before .args .rec .now) (t .result) _ (Refused (c .before .report .given .0 .0)) (t .ensures)
+    let t = c .before .before .before .before .take in
+    answered (c .before .before .before .before .before .before .before .before .args .rec .now) (t .result) _ (Refused (c .before .report .given .0 .0)) (t .ensures)
     (c .before .report .given .1)
 
 pub event-spec : {M : Type 1} → statement M

@@ -1,11 +1,11 @@
--- `eventcall::store` meets its contract: the two numbers fill the sixteen bytes.
+-- `eventcall::store` meets its contract: the record's numbers fill its bytes.
 -- Assumes nothing.
 use mathlib.Core.Path.{ap, _∙_}
 use mathlib.Core.List.{List}
 use Prim.Native.Nat.{ℕ}
 use Rattle.laws.specs.Bytes.{putNumber}
-use Rattle.eventbytes.specs.Event.{recordBytes}
-use Rattle.eventbytes.proofs.EventLaws.{put-whole}
+use Rattle.eventbytes.specs.Event.{totalPlace}
+use Rattle.eventbytes.proofs.EventLaws.{record-put}
 use borrow.Author.Needs.{needs}
 use Rattle.eventcall.proofs.store.Statement.{statement}
 use Rattle.eventcall.proofs.store.Tie as tie
@@ -20,12 +20,11 @@ same-length : tie.Need-same-length
 same-length c = search needs
 
 returns : tie.Need-returns
-unfolding recordBytes
 returns c =
     let x = c .before .before .before .before .before .before .before .before .before in
     c .before .before .write642 .ensures
-    ∙ ap (λ (l : List ℕ). putNumber 8 l 8 (x .args .alarms)) (c .before .before .before .before .before .before .write64 .ensures)
-    ∙ put-whole 8 8 (x .args .rec .now) (x .args .state) (x .args .alarms) (x .pre)
+    ∙ ap (λ (l : List ℕ). putNumber 8 l totalPlace (x .args .r .alarms)) (c .before .before .before .before .before .before .write64 .ensures)
+    ∙ record-put (x .args .rec .now) (x .args .r) (x .pre)
 
 pub store-spec : {M : Type 1} → statement M
 store-spec = tie.close (tie.spec write64-requires write64-requires-2 same-length returns)
