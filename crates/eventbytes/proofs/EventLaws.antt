@@ -3,15 +3,16 @@
 use mathlib.Core.Path.{_≡_, refl, sym, ap, _∙_}
 use mathlib.Core.Logic.{by-cases}
 use mathlib.Core.Bool.{Bool, true, false, cond, true≢false}
-use mathlib.Core.List.{List, _++_, append-nil}
+use mathlib.Core.List.{List, [], _++_}
 use Prim.Native.Nat.{ℕ, zero, suc, _+_, _/_, _<_, _≤_}
 use native.Mathlib.Nat.{not-suc-le-zero, lt-irrefl}
 use native.Mathlib.Decide.{ℕ-discrete}
 use native.Mathlib.Omega.{arith}
-use lib.ListN.{length, take, drop, drop-of-length-le}
-use lib.Seq.{sets, sets-eq, length-sets, take-at}
+use lib.ListN.{length, take, drop, length-append}
+use lib.Seq.{sets-eq, take-at, take-all}
 use borrow.Author.Tests.{eq-eqb, ne-eqb, lt-ltb, le-ltb}
 use Rattle.laws.specs.Bytes.{numberAt, bytesOf, putNumber}
+use Rattle.laws.proofs.Bytes.{length-put}
 use Rattle.automaton.specs.Automaton.{Automaton, automatonOf, next, final, wellFormed}
 use Rattle.automaton.specs.Table.{tableOf}
 use Rattle.automaton.proofs.AutomatonLaws.{not-well-formed, well-formed-says}
@@ -53,31 +54,31 @@ unfolding bytesOf
 length-bytes zero v = refl
 length-bytes (suc n) v = ap suc (length-bytes n (v / 256))
 
--- two numbers that fill a list are its bytes
-pub put-whole
-    : (n m : ℕ) (l : List ℕ) (u v : ℕ) → length l ≡ n + m
-    → putNumber m (putNumber n l 0 u) n v ≡ bytesOf n u ++ bytesOf m v
+-- a number written after the first n bytes of a list: they stand first, and then its bytes
+put-next
+    : (n m : ℕ) (l first : List ℕ) (v : ℕ) → n + m ≤ length l → length first ≡ n → take n l ≡ first
+    → take (n + m) (putNumber m l n v) ≡ first ++ bytesOf m v
 unfolding putNumber
-put-whole n m l u v e =
-    let first = bytesOf n u in
-    let second = bytesOf m v in
-    let long : length first ≡ n = length-bytes n u in
-    let short : length second ≡ m = length-bytes m v in
-    let x = sets l 0 first in
-    let whole : length x ≡ n + m = length-sets l 0 first ∙ e in
-    let head : x ≡ first ++ drop (0 + length first) l = sets-eq first l 0 (omega arith) in
-    sets-eq second x n (omega arith)
-    ∙ ap (λ (r : List ℕ). (take n x ++ second) ++ r) (drop-of-length-le x {i = n + length second} (omega arith))
-    ∙ append-nil (take n x ++ second)
-    ∙ ap (λ (r : List ℕ). take n r ++ second) head
-    ∙ ap (λ (r : List ℕ). r ++ second) (take-at first (drop (0 + length first) l) n long)
+put-next n m l first v room long e =
+    let new = bytesOf m v in
+    let short : length new ≡ m = length-bytes m v in
+    ap (take (n + m))
+    (sets-eq new l n (omega arith) ∙ ap (λ (x : List ℕ). (x ++ new) ++ drop (n + length new) l) e)
+    ∙ take-at (first ++ new) (drop (n + length new) l) (n + m) (omega (arith, length-append first new))
 
 -- a record's numbers, each written in its place
 pub record-put
     : (l : List ℕ) (r : Record) → length l ≡ recordSize
     → putNumber 8 (putNumber 8 l statePlace (r .state)) totalPlace (r .alarms) ≡ recordBytes r
 unfolding recordBytes
-record-put l r e = put-whole 8 8 l (r .state) (r .alarms) e
+record-put l r e =
+    let x = putNumber 8 l statePlace (r .state) in
+    let y = putNumber 8 x totalPlace (r .alarms) in
+    let x-long : length x ≡ recordSize = length-put 8 l statePlace (r .state) ∙ e in
+    let y-long : length y ≡ recordSize = length-put 8 x totalPlace (r .alarms) ∙ x-long in
+    let state = put-next statePlace 8 l [] (r .state) (omega arith) refl refl in
+    let total = put-next totalPlace 8 x (bytesOf 8 (r .state)) (r .alarms) (omega arith) (length-bytes 8 (r .state)) state in
+    sym (take-all recordSize y (omega arith)) ∙ total
 
 -- ---- the call
 
