@@ -13,8 +13,8 @@ take-requires c κs = search needs
 enum-told : tie.Need-enum-told
 enum-told c = search needs
 
-store-requires : tie.Need-store-requires
-store-requires c κs =
+write-record-requires : tie.Need-write-record-requires
+write-record-requires c κs =
     let x = c .before .before .before .before .before .before .before .before .args in
     let t = c .before .before .before .before .take in
     answered-length (x .rule .now) (x .states) (x .symbols) (x .finals) (x .symbol) (x .rec .now) (t .result) Quiet (t .ensures)
@@ -23,8 +23,8 @@ store-requires c κs =
 enum-told-2 : tie.Need-enum-told-2
 enum-told-2 c = search needs
 
-store-requires-2 : tie.Need-store-requires-2
-store-requires-2 c κs =
+write-record-requires-2 : tie.Need-write-record-requires-2
+write-record-requires-2 c κs =
     let x = c .before .before .before .before .before .before .before .before .args in
     let t = c .before .before .before .before .take in
     answered-length (x .rule .now) (x .states) (x .symbols) (x .finals) (x .symbol) (x .rec .now) (t .result) Alarm (t .ensures)
@@ -41,7 +41,7 @@ returns c =
     let t = c .before .before .before .before .before .before .before .take in
     let a = answered (c .before .before .before .before .before .before .before .before .before .before .before .args .rec .now) (t .result) _ Quiet (t .ensures)
     (c .before .before .before .before .enum-told .given .1) in
-    (a .0, c .before .before .store .ensures ∙ a .1)
+    (a .0, c .before .before .write-record .ensures ∙ a .1)
 
 same-length-2 : tie.Need-same-length-2
 same-length-2 c = search needs
@@ -51,7 +51,7 @@ returns-2 c =
     let t = c .before .before .before .before .before .before .before .take in
     let a = answered (c .before .before .before .before .before .before .before .before .before .before .before .args .rec .now) (t .result) _ Alarm (t .ensures)
     (c .before .before .before .before .enum-told2 .given .1) in
-    (a .0, c .before .before .store2 .ensures ∙ a .1)
+    (a .0, c .before .before .write-record2 .ensures ∙ a .1)
 
 same-length-3 : tie.Need-same-length-3
 same-length-3 c = search needs
@@ -68,9 +68,9 @@ event-spec =
     (tie.spec
     take-requires
     enum-told
-    store-requires
+    write-record-requires
     enum-told-2
-    store-requires-2
+    write-record-requires-2
     enum-known-report
     same-length
     returns

@@ -8,8 +8,8 @@ use borrow.Author.Needs.{needs}
 use Rattle.eventcall.proofs.take.Statement.{statement}
 use Rattle.eventcall.proofs.take.Tie as tie
 
-record-in-requires : tie.Need-record-in-requires
-record-in-requires c κs = search needs
+read-record-requires : tie.Need-read-record-requires
+read-record-requires c κs = search needs
 
 table-of-requires : tie.Need-table-of-requires
 table-of-requires c κs = search needs
@@ -23,15 +23,15 @@ returns c =
     let x = b .before .before .before .args in
     let rule = automatonOf (c .before .table-of .result) (x .states) (x .symbols) (x .finals) in
     c .take-event-on .ensures
-    ∙ ap (taken rule (x .symbol)) (b .record-in .ensures)
+    ∙ ap (taken rule (x .symbol)) (b .read-record .ensures)
     ∙ event-taken (x .rule .now) (x .states) (x .symbols) (x .finals) (x .symbol) (x .rec .now) (c .before .table-of .result) (c .before .before .if1 .taken)
     (c .before .table-of .ensures)
 
 returns-2 : tie.Need-returns-2
 returns-2 c =
     let x = c .before .before .before .before .args in
-    ap (refusedWith 13) (c .before .record-in .ensures)
+    ap (refusedWith 13) (c .before .read-record .ensures)
     ∙ event-no-rule (x .rule .now) (x .states) (x .symbols) (x .finals) (x .symbol) (x .rec .now) (c .if1 .left)
 
 pub take-spec : {M : Type 1} → statement M
-take-spec = tie.close (tie.spec record-in-requires table-of-requires take-event-on-requires returns returns-2)
+take-spec = tie.close (tie.spec read-record-requires table-of-requires take-event-on-requires returns returns-2)

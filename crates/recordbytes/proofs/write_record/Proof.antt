@@ -1,4 +1,4 @@
--- `eventcall::store` meets its contract: the record's numbers fill its bytes.
+-- `recordbytes::write_record` meets its contract: the record's numbers fill its bytes.
 -- Assumes nothing.
 use mathlib.Core.Path.{ap, _∙_}
 use mathlib.Core.List.{List}
@@ -7,8 +7,8 @@ use Rattle.laws.specs.Bytes.{putNumber}
 use Rattle.eventbytes.specs.Event.{totalPlace}
 use Rattle.eventbytes.proofs.EventLaws.{record-put}
 use borrow.Author.Needs.{needs}
-use Rattle.eventcall.proofs.store.Statement.{statement}
-use Rattle.eventcall.proofs.store.Tie as tie
+use Rattle.recordbytes.proofs.write_record.Statement.{statement}
+use Rattle.recordbytes.proofs.write_record.Tie as tie
 
 write64-requires : tie.Need-write64-requires
 write64-requires c κs = search needs
@@ -26,5 +26,5 @@ returns c =
     ∙ ap (λ (l : List ℕ). putNumber 8 l totalPlace (x .args .r .alarms)) (c .before .before .before .before .before .before .write64 .ensures)
     ∙ record-put (x .args .rec .now) (x .args .r) (x .pre)
 
-pub store-spec : {M : Type 1} → statement M
-store-spec = tie.close (tie.spec write64-requires write64-requires-2 same-length returns)
+pub write-record-spec : {M : Type 1} → statement M
+write-record-spec = tie.close (tie.spec write64-requires write64-requires-2 same-length returns)

@@ -1,11 +1,11 @@
--- `eventcall::record_in` meets its contract: both numbers are read, or the length is another.
+-- `recordbytes::read_record` meets its contract: both numbers are read, or the length is another.
 -- Assumes nothing.
 use mathlib.Core.Path.{sym, ap₂, _∙_}
 use Rattle.events.specs.Monitor.{recordOf}
 use Rattle.eventbytes.proofs.EventLaws.{record-read, record-none}
 use borrow.Author.Needs.{needs}
-use Rattle.eventcall.proofs.record_in.Statement.{statement}
-use Rattle.eventcall.proofs.record_in.Tie as tie
+use Rattle.recordbytes.proofs.read_record.Statement.{statement}
+use Rattle.recordbytes.proofs.read_record.Tie as tie
 
 read64-requires : tie.Need-read64-requires
 read64-requires c κs = search needs
@@ -21,5 +21,5 @@ returns c =
 returns-2 : tie.Need-returns-2
 returns-2 c = sym (record-none (c .before .before .args .rec .now) (c .if1 .left))
 
-pub record-in-spec : {M : Type 1} → statement M
-record-in-spec = tie.close (tie.spec read64-requires read64-requires-2 returns returns-2)
+pub read-record-spec : {M : Type 1} → statement M
+read-record-spec = tie.close (tie.spec read64-requires read64-requires-2 returns returns-2)
