@@ -5,7 +5,7 @@ use mathlib.Core.Path.{_≡_, refl, sym, ap, _∙_, subst}
 use mathlib.Core.Logic.{⊎-elim}
 use mathlib.Core.Bool.{Bool, true, false, cond}
 use mathlib.Core.List.{List}
-use Prim.Native.Nat.{ℕ, zero, suc, _+_, _^_, _≤_}
+use Prim.Native.Nat.{ℕ, zero, suc, _+_, _≤_}
 use native.Mathlib.Omega.{arith}
 use lib.Dec.{eqb, ltb}
 use lib.ListN.{length, getD}
@@ -13,6 +13,7 @@ use borrow.Author.Tests.{ltb-true, ltb-false, leb-true, eqb-true, eqb-false, ne-
 use Rattle.laws.specs.Bounded.{allBelow}
 use Rattle.laws.proofs.Bounded.{all-at, all-of}
 use Rattle.laws.proofs.Tests.{passes-or-fails}
+use Rattle.callnumber.specs.CallNumber.{acceptedFrom}
 use Rattle.job.specs.Job.{Kind, plain, event, call, Job, nodeAt, WellFormedJob}
 use Rattle.job.specs.Search.{faithful}
 use Rattle.job.proofs.Decide.{faithful-says, different-says}
@@ -205,7 +206,7 @@ checked-small file plan size = go (admitted file (ltb size workSize)) refl
 read-small : (v : Verdict) → SmallRefusal v → verdictRead (verdictNumber v) ≡ v
 read-small Faithful s = refl
 read-small Different s = refl
-read-small (Refused k) s = simp (ne-eqb k (2 ^ 48) (λ e. omega arith), ne-eqb k (2 ^ 48 + 1) (λ e. omega arith))
+read-small (Refused k) s = simp (ne-eqb k acceptedFrom (λ e. omega arith), ne-eqb k (acceptedFrom + 1) (λ e. omega arith))
 
 -- the verdict is read back
 pub verdict-by-number : VerdictByNumber

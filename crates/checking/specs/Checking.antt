@@ -3,10 +3,11 @@
 use mathlib.Core.Path.{_≡_}
 use mathlib.Core.Bool.{Bool, cond}
 use mathlib.Core.List.{List}
-use Prim.Native.Nat.{ℕ, zero, suc, _+_, _^_, _<_}
+use Prim.Native.Nat.{ℕ, zero, suc, _+_, _<_}
 use lib.Dec.{eqb, leb, ltb}
 use lib.ListN.{length, getD}
 use Rattle.laws.specs.Bounded.{allBelow}
+use Rattle.callnumber.specs.CallNumber.{acceptedFrom}
 use Rattle.job.specs.Job.{Kind, plain, event, call, Job, nodeAt}
 use Rattle.job.specs.Search.{faithful}
 use Rattle.jobfile.specs.File.{Answer, accepted, turned}
@@ -54,8 +55,8 @@ workLeft (Refused k) work = refusedLeft k work
 
 -- "faithful is 2^48, different is 2^48 plus 1, a refusal is its number"
 abbrev pub verdictNumber : Verdict → ℕ
-verdictNumber Faithful = 2 ^ 48
-verdictNumber Different = 2 ^ 48 + 1
+verdictNumber Faithful = acceptedFrom
+verdictNumber Different = acceptedFrom + 1
 verdictNumber (Refused k) = k
 
 -- ---- what the parts of the check leave

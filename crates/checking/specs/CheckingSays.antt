@@ -5,9 +5,10 @@ use mathlib.Core.Path.{_≡_}
 use mathlib.Core.Logic.{_↔_}
 use mathlib.Core.Bool.{cond}
 use mathlib.Core.List.{List}
-use Prim.Native.Nat.{ℕ, _+_, _^_, _≤_, _<_}
+use Prim.Native.Nat.{ℕ, _+_, _≤_, _<_}
 use lib.Dec.{eqb}
 use lib.ListN.{length, getD}
+use Rattle.callnumber.specs.CallNumber.{acceptedFrom}
 use Rattle.job.specs.Job.{Kind, event, Job, nodeAt}
 use Rattle.job.specs.Plan.{enables, Faithful as FaithfulPlan, Different as DifferentPlan}
 use Rattle.jobfile.specs.File.{accepted, maxFile, readJob}
@@ -50,7 +51,7 @@ pub record WorkBufferSays : Type 0 where
 
 -- the verdict that a number tells: 2^48 is faithful, 2^48 plus 1 different, any other a refusal
 abbrev pub verdictRead : ℕ → Verdict
-verdictRead n = cond (eqb n (2 ^ 48)) Faithful (cond (eqb n (2 ^ 48 + 1)) Different (Refused n))
+verdictRead n = cond (eqb n acceptedFrom) Faithful (cond (eqb n (acceptedFrom + 1)) Different (Refused n))
 
 -- the statement: a caller reads back the verdict or the refusal from the number
 abbrev pub VerdictByNumber : Type 0

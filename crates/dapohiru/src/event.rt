@@ -1,7 +1,7 @@
 // The event step on bytes: the rule is 256 bytes in row order, the record 16.
 ghost use mathlib.Core.Path.{_≡_};
-ghost use Rattle.monitor.specs.Monitor.{reportNumber};
-ghost use Rattle.eventcall.specs.Event.{eventTaken, recordLeft};
+ghost use Rattle.events.specs.Monitor.{reportNumber};
+ghost use Rattle.eventbytes.specs.Event.{eventTaken, recordLeft};
 
 // Takes one event on the record's 16 bytes and returns 2^48 for quiet, 2^48 + 1 for alarm, or the refusal's number.
 #[no_mangle]

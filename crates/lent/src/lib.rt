@@ -1,11 +1,11 @@
 // One record, lent to the call that takes an event and altered there.
-use monitor::step::Record;
-use monitor::step::Report;
-use monitor::step::Taken;
-use monitor::step::step;
+use events::Record;
+use events::Report;
+use events::Taken;
+use step::step;
 ghost use mathlib.Core.Path.{_≡_};
 ghost use Rattle.automaton.specs.Automaton.{automatonOf};
-ghost use Rattle.monitor.specs.Monitor.{recordOf, reported, taken};
+ghost use Rattle.events.specs.Monitor.{reported, taken};
 
 // Takes one event on the lent record. A refusal leaves it as it was.
 pub fn take_event(
@@ -18,32 +18,26 @@ pub fn take_event(
 ) -> Report
     ensures { λ x. ⌜ reported (now (r .exit)) x ≡ taken (automatonOf table states symbols finals) symbol (now (r .entry)) ⌝ }
 {
-    let t = step(table, states, symbols, finals, symbol, r.state, r.alarms);
-    r.state = t.state;
-    r.alarms = t.alarms;
+    let t = step(table, states, symbols, finals, symbol, *r);
+    *r = t.left;
     t.report
 }
 
-// Makes a record, lends it to the call that takes an event, and reads it back.
+// Lends a record to the call that takes an event, and gives it back with the report.
 pub fn take_event_on(
     table: [[u8; 16]; 16],
     states: u64,
     symbols: u64,
     finals: u64,
     symbol: u64,
-    state: u64,
-    alarms: u64,
+    r: Record,
 ) -> Taken
-    ensures { λ x. ⌜ x ≡ taken (automatonOf table states symbols finals) symbol (recordOf state alarms) ⌝ }
+    ensures { λ x. ⌜ x ≡ taken (automatonOf table states symbols finals) symbol r ⌝ }
 {
-    let mut r = Record {
-        state: state,
-        alarms: alarms,
-    };
-    let report = take_event(&mut r, table, states, symbols, finals, symbol);
+    let mut held = r;
+    let report = take_event(&mut held, table, states, symbols, finals, symbol);
     Taken {
-        state: r.state,
-        alarms: r.alarms,
+        left: held,
         report: report,
     }
 }

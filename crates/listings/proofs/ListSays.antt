@@ -3,12 +3,13 @@
 use mathlib.Core.Path.{_≡_, refl, sym, ap, _∙_}
 use mathlib.Core.Bool.{Bool, true≢false, _||_}
 use mathlib.Core.List.{List}
-use Prim.Native.Nat.{ℕ, _+_, _-_, _^_, _≤_}
+use Prim.Native.Nat.{ℕ, _+_, _-_, _≤_}
 use native.Mathlib.Omega.{arith}
 use lib.Dec.{ltb}
 use lib.ListN.{length}
 use borrow.Author.Tests.{ltb-false, lt-ltb, le-ltb}
 use Rattle.laws.proofs.Tests.{fails-of, or-right}
+use Rattle.callnumber.specs.CallNumber.{acceptedFrom}
 use Rattle.jobfile.specs.File.{Answer, accepted, turned}
 use Rattle.jobfile.proofs.SpellableLaws.{read-written}
 use Rattle.jobfile.proofs.ListingLength.{listing-in-buffer}
@@ -47,12 +48,12 @@ length-few file short n e = go (admitted file short) refl e
 -- a length is read back
 read-length : (n : ℕ) → listedRead (listNumber (Length n)) ≡ Length n
 read-length n =
-    let same : 2 ^ 48 + n - 2 ^ 48 ≡ n = omega arith in
-    simp (le-ltb (2 ^ 48 + n) (2 ^ 48) (omega arith), same)
+    let same : acceptedFrom + n - acceptedFrom ≡ n = omega arith in
+    simp (le-ltb (acceptedFrom + n) acceptedFrom (omega arith), same)
 
 -- a refusal's number is read back
 read-refusal : (k : ℕ) → k ≤ 15 → listedRead (listNumber (Refused k)) ≡ Refused k
-read-refusal k small = simp (lt-ltb k (2 ^ 48) (omega arith))
+read-refusal k small = simp (lt-ltb k acceptedFrom (omega arith))
 
 -- the answer is read back
 pub listed-by-number : ListedByNumber

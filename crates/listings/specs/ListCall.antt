@@ -3,10 +3,11 @@
 -- Assumes nothing.
 use mathlib.Core.Bool.{_||_}
 use mathlib.Core.List.{List}
-use Prim.Native.Nat.{ℕ, _+_, _^_}
+use Prim.Native.Nat.{ℕ, _+_}
 use lib.Dec.{ltb}
 use lib.ListN.{length}
 use lib.Seq.{sets}
+use Rattle.callnumber.specs.CallNumber.{acceptedFrom}
 use Rattle.job.specs.Job.{Job}
 use Rattle.job.specs.Listing.{listingOf}
 use Rattle.jobfile.specs.File.{Answer, accepted, turned}
@@ -41,5 +42,5 @@ listingAfter (turned k) listing = listing
 
 -- across the C call: 2^48 plus the length, or the refusal's number
 abbrev pub listNumber : Listed → ℕ
-listNumber (Length n) = 2 ^ 48 + n
+listNumber (Length n) = acceptedFrom + n
 listNumber (Refused k) = k

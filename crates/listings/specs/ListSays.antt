@@ -4,9 +4,10 @@
 use mathlib.Core.Path.{_≡_}
 use mathlib.Core.Bool.{cond}
 use mathlib.Core.List.{List}
-use Prim.Native.Nat.{ℕ, _-_, _^_, _≤_}
+use Prim.Native.Nat.{ℕ, _-_, _≤_}
 use lib.Dec.{ltb}
 use lib.ListN.{length}
+use Rattle.callnumber.specs.CallNumber.{acceptedFrom}
 use Rattle.job.specs.Job.{Job}
 use Rattle.jobfile.specs.File.{Answer, accepted, turned}
 use Rattle.admission.specs.Admission.{WrittenFirst}
@@ -31,7 +32,7 @@ ListingBytesSay =
 
 -- the answer that a number tells: below 2^48 a refusal, from there on the length
 abbrev pub listedRead : ℕ → Listed
-listedRead n = cond (ltb n (2 ^ 48)) (Refused n) (Length (n - 2 ^ 48))
+listedRead n = cond (ltb n acceptedFrom) (Refused n) (Length (n - acceptedFrom))
 
 -- the statement: a caller reads back the length or the refusal from the number
 abbrev pub ListedByNumber : Type 0

@@ -1,4 +1,5 @@
 // The number that a C call returns for each answer of the plan check, of planning and of listing.
+use callnumber::ACCEPTED;
 use checking::check::Verdict;
 use listings::list::Listed;
 use plans::plan::Outcome;
@@ -13,8 +14,8 @@ pub fn of_verdict(verdict: Verdict) -> u64
     ensures { λ r. ⌜ r ≡ verdictNumber verdict ⌝ }
 {
     match verdict {
-        Verdict::Faithful => 281_474_976_710_656,
-        Verdict::Different => 281_474_976_710_657,
+        Verdict::Faithful => ACCEPTED,
+        Verdict::Different => ACCEPTED + 1,
         Verdict::Refused(number) => number,
     }
 }
@@ -26,7 +27,7 @@ pub fn of_outcome(outcome: Outcome) -> u64
 {
     match outcome {
         Outcome::Planned(counts) => {
-            281_474_976_710_656
+            ACCEPTED
                 + counts.shadows as u64 * 4_294_967_296
                 + counts.enabled as u64 * 65_536
                 + counts.passes as u64
@@ -41,7 +42,7 @@ pub fn of_listed(listed: Listed) -> u64
     ensures { λ r. ⌜ r ≡ listNumber listed ⌝ }
 {
     match listed {
-        Listed::Length(length) => 281_474_976_710_656 + length as u64,
+        Listed::Length(length) => ACCEPTED + length as u64,
         Listed::Refused(number) => number,
     }
 }

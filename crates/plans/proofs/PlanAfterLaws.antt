@@ -10,6 +10,7 @@ use lib.Dec.{ltb}
 use lib.ListN.{length, take}
 use borrow.Author.Tests.{ltb-false, lt-ltb, le-ltb}
 use Rattle.laws.proofs.Tests.{fails-of, or-right}
+use Rattle.callnumber.specs.CallNumber.{acceptedFrom}
 use Rattle.job.specs.Job.{Job}
 use Rattle.job.specs.Plan.{IsPlan}
 use Rattle.job.specs.Listing.{planOf}
@@ -92,11 +93,11 @@ read-counts c fit =
     let shadows : n / 2 ^ 32 % 2 ^ 16 ≡ c .shadows = omega (arith, fit .shadows, fit .enabled, fit .passes) in
     let enabled : n / 2 ^ 16 % 2 ^ 16 ≡ c .enabled = omega (arith, fit .shadows, fit .enabled, fit .passes) in
     let passes : n % 2 ^ 16 ≡ c .passes = omega (arith, fit .shadows, fit .enabled, fit .passes) in
-    simp (le-ltb n (2 ^ 48) (omega arith), shadows, enabled, passes)
+    simp (le-ltb n acceptedFrom (omega arith), shadows, enabled, passes)
 
 -- a refusal's number is read back
 read-refusal : (k : ℕ) → k ≤ 15 → outcomeRead (planNumber (Refused k)) ≡ Refused k
-read-refusal k small = simp (lt-ltb k (2 ^ 48) (omega arith))
+read-refusal k small = simp (lt-ltb k acceptedFrom (omega arith))
 
 module _ (file : List ℕ) (work plan : ℕ) where
   -- one of the lent buffers is too short
@@ -105,7 +106,7 @@ module _ (file : List ℕ) (work plan : ℕ) where
 
   -- a number of 2^48 or more is that of a job that was planned
   number-accepted
-      : (a : Answer) → planAnswer file work plan ≡ a → 2 ^ 48 ≤ planNumber (outcomeOf a) → (j : Job) × (planAnswer file work plan ≡ accepted j)
+      : (a : Answer) → planAnswer file work plan ≡ a → acceptedFrom ≤ planNumber (outcomeOf a) → (j : Job) × (planAnswer file work plan ≡ accepted j)
   number-accepted (accepted j) e large = (j, e)
   number-accepted (turned k) e large = absurd (omega (arith, admitted-small file short k e))
 
@@ -120,7 +121,7 @@ seen-by-number =
     record {
       accepted-seen = λ file work plan. (
         λ large. number-accepted file work plan (planAnswer file work plan) refl large,
-        λ a. subst (λ (x : Answer). 2 ^ 48 ≤ planNumber (outcomeOf x)) (sym (a .1)) (omega arith),
+        λ a. subst (λ (x : Answer). acceptedFrom ≤ planNumber (outcomeOf x)) (sym (a .1)) (omega arith),
       );
       read-back = λ file work plan. answer-read file work plan (planAnswer file work plan) refl;
     }

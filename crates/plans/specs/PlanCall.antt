@@ -5,6 +5,7 @@ use mathlib.Core.List.{List}
 use Prim.Native.Nat.{ℕ, _+_, _*_, _^_}
 use lib.Dec.{ltb}
 use lib.Seq.{sets}
+use Rattle.callnumber.specs.CallNumber.{acceptedFrom}
 use Rattle.job.specs.Listing.{planOf}
 use Rattle.jobfile.specs.File.{Answer, accepted, turned}
 use Rattle.buffer.specs.Layout.{workSize}
@@ -33,5 +34,5 @@ planAfter (turned k) plan = plan
 
 -- "accepted planning is 2^48 plus event nodes times 2^32, watched points times 2^16, and passes; a refusal is its number"
 abbrev pub planNumber : Outcome → ℕ
-planNumber (Planned c) = 2 ^ 48 + c .shadows * 2 ^ 32 + c .enabled * 2 ^ 16 + c .passes
+planNumber (Planned c) = acceptedFrom + c .shadows * 2 ^ 32 + c .enabled * 2 ^ 16 + c .passes
 planNumber (Refused k) = k

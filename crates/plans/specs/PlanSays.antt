@@ -8,6 +8,7 @@ use mathlib.Core.List.{List}
 use Prim.Native.Nat.{ℕ, _^_, _/_, _%_, _≤_}
 use lib.Dec.{ltb}
 use lib.ListN.{length, take}
+use Rattle.callnumber.specs.CallNumber.{acceptedFrom}
 use Rattle.job.specs.Job.{Job}
 use Rattle.job.specs.Plan.{IsPlan}
 use Rattle.job.specs.Listing.{planOf}
@@ -46,14 +47,14 @@ PlanCountsFit = (file : List ℕ) (work plan : ℕ) (j : Job) → planAnswer fil
 -- the outcome that a number tells: below 2^48 a refusal, from there on the counts
 abbrev pub outcomeRead : ℕ → Outcome
 outcomeRead n =
-    cond (ltb n (2 ^ 48)) (Refused n)
+    cond (ltb n acceptedFrom) (Refused n)
     (Planned (record { shadows = n / 2 ^ 32 % 2 ^ 16; enabled = n / 2 ^ 16 % 2 ^ 16; passes = n % 2 ^ 16 }))
 
 -- the statement: a caller sees by the number whether the job was planned, and reads back the counts or the refusal
 pub record SeenByNumber : Type 0 where
   pub accepted-seen
       : (file : List ℕ) (work plan : ℕ)
-      → (2 ^ 48 ≤ planNumber (outcomeOf (planAnswer file work plan))) ↔ ((j : Job) × (planAnswer file work plan ≡ accepted j))
+      → (acceptedFrom ≤ planNumber (outcomeOf (planAnswer file work plan))) ↔ ((j : Job) × (planAnswer file work plan ≡ accepted j))
   pub read-back
       : (file : List ℕ) (work plan : ℕ)
       → outcomeRead (planNumber (outcomeOf (planAnswer file work plan))) ≡ outcomeOf (planAnswer file work plan)

@@ -18,17 +18,17 @@ use Rattle.laws.proofs.Bits.{below-says}
 use Rattle.laws.proofs.Bytes.{byte-lt}
 use Rattle.automaton.specs.Automaton.{Automaton, cell, WellFormed, SameRule}
 use Rattle.automaton.specs.Table.{rowOf, tableOf}
-use Rattle.monitor.specs.Monitor.{recordOf, refusedWith, taken}
-use Rattle.monitor.specs.Form.{Given, GivenFits, GivenIs, valueForm, lentForm}
-use Rattle.monitor.specs.declared.step.Record.{Record}
-use Rattle.monitor.proofs.MonitorLaws.{taken-13}
-use Rattle.monitor.proofs.FormLaws.{refuses}
+use Rattle.events.specs.Monitor.{refusedWith, taken}
+use Rattle.events.specs.Form.{Given, GivenFits, GivenIs, valueForm, lentForm}
+use Rattle.events.specs.declared.Record.{Record}
+use Rattle.events.proofs.MonitorLaws.{record-with, taken-13}
+use Rattle.events.proofs.FormLaws.{refuses}
 use Rattle.twomonitors.specs.Monitors.{RecordsExist, RefusedExist}
 use Rattle.twomonitors.proofs.MonitorsMore.{FormGives}
-use Rattle.eventcall.specs.Event.{ruleIn, recordIn, eventTaken, recordBytes}
-use Rattle.eventcall.specs.Form.{HeldBytes, ByteCall, lent, callForm}
-use Rattle.eventcall.proofs.EventLaws.{rule-of, rule-none}
-use Rattle.eventcall.proofs.FormLaws.{record-bytes-length}
+use Rattle.eventbytes.specs.Event.{ruleIn, recordSize, recordIn, eventTaken, recordBytes}
+use Rattle.eventbytes.specs.Form.{HeldBytes, ByteCall, lent, callForm}
+use Rattle.eventbytes.proofs.EventLaws.{rule-of, rule-none}
+use Rattle.eventbytes.proofs.FormLaws.{record-bytes-length}
 
 -- ---- the rule as bytes
 
@@ -135,10 +135,10 @@ given-fits l s a f b bytes hs ha hf hb =
 givenOf : Automaton → ℕ → Given
 givenOf m a = record { rule = ruleIn (ruleBytes m) (m .states) (m .symbols) (m .finals); symbol = a }
 
--- and across the C call, lent the 16 bytes from a place on
+-- and across the C call, lent a record's bytes from a place on
 byteCallOf : ℕ → Automaton → ℕ → ByteCall
 byteCallOf start m a =
-    record { rule = ruleBytes m; states = m .states; symbols = m .symbols; finals = m .finals; symbol = a; start = start; count = 16 }
+    record { rule = ruleBytes m; states = m .states; symbols = m .symbols; finals = m .finals; symbol = a; start = start; count = recordSize }
 
 given-passable : (m : Automaton) (a : ℕ) → WellFormed m → a < m .symbols → GivenFits (givenOf m a)
 unfolding givenOf
@@ -206,7 +206,7 @@ lent-refused r = (noGiven, no-given-passable, ap refuses (no-rule-refused r))
 
 -- across the C call
 noByteCall : ByteCall
-noByteCall = record { rule = []; states = 0; symbols = 0; finals = 0; symbol = 0; start = 0; count = 16 }
+noByteCall = record { rule = []; states = 0; symbols = 0; finals = 0; symbol = 0; start = 0; count = recordSize }
 
 -- it is refused
 pub call-refused : RefusedExist callForm
@@ -220,14 +220,15 @@ call-refused h = (
 -- ---- records
 
 pub value-records : RecordsExist valueForm
-value-records q n h k = (recordOf q n, record { state = refl; total = refl })
+value-records q n h k = record-with q n
 
 pub lent-records : RecordsExist lentForm
-lent-records q n h k = (recordOf q n, record { state = refl; total = refl })
+lent-records q n h k = record-with q n
 
 -- across the C call: the record's bytes alone
 pub call-records : RecordsExist callForm
 call-records q n h k =
-    let l = recordBytes q n in
+    let r = record-with q n in
+    let l = recordBytes (r .0) in
     let held : HeldBytes = record { bytes = l; place = 0 } in
-    (held, take-all 16 l (omega (arith, record-bytes-length q n)))
+    (held, record { kept = r .0; is = r .1; spelled = take-all recordSize l (omega (arith, record-bytes-length (r .0))) })

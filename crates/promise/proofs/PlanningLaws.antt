@@ -5,7 +5,7 @@ use mathlib.Core.List.{List}
 use Prim.Native.Nat.{ℕ}
 use lib.ListN.{length}
 use borrow.Author.Tests.{le-ltb}
-use Rattle.monitor.specs.Form.{EventForm, FormMoves}
+use Rattle.events.specs.Form.{EventForm, FormMoves}
 use Rattle.twomonitors.specs.Monitors.{AlarmsKept, PointsNeeded, CallsExist}
 use Rattle.twomonitors.proofs.TwoMonitors.{plan-keeps-alarms}
 use Rattle.jobfile.specs.File.{maxFile, writeJob}

@@ -1,15 +1,15 @@
 -- The third promise: planning and the event step together, from the bytes of the job file to the alarms, in all three forms of the event step.
 -- Each form takes events as it must (`FormMoves`), so the plan keeps the alarms and each watched point is needed; and each has lists of calls.
 -- Assumes nothing.
-use Rattle.monitor.specs.Form.{EventForm, FormMoves, valueForm, lentForm}
-use Rattle.monitor.proofs.MonitorLaws.{report-by-number}
-use Rattle.monitor.proofs.FormLaws.{value-moves, lent-moves}
+use Rattle.events.specs.Form.{EventForm, FormMoves, valueForm, lentForm}
+use Rattle.events.proofs.MonitorLaws.{report-by-number}
+use Rattle.events.proofs.FormLaws.{value-moves, lent-moves}
 use Rattle.twomonitors.specs.Monitors.{RecordsExist, RefusedExist, ListsExist}
 use Rattle.twomonitors.proofs.MonitorsMore.{FormGives, lists-exist}
 use Rattle.twomonitors.proofs.OrderLaws.{any-order}
 use Rattle.plans.proofs.PlanAfterLaws.{plan-bytes-say, seen-by-number}
-use Rattle.eventcall.specs.Form.{callForm}
-use Rattle.eventcall.proofs.FormLaws.{call-moves}
+use Rattle.eventbytes.specs.Form.{callForm}
+use Rattle.eventbytes.proofs.FormLaws.{call-moves}
 use Rattle.promise.specs.Promise.{PromiseIn, ThirdPromise}
 use Rattle.promise.proofs.PlanningLaws.{planning-accepts, both-halves}
 use Rattle.promise.proofs.CallsLaws.{value-gives, lent-gives, call-gives, value-refused, lent-refused, call-refused, value-records, lent-records, call-records}

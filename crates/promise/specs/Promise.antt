@@ -1,12 +1,12 @@
 -- The third promise (document 01, "Two monitors on one walk"), from the bytes of the job file to the alarms. The lists of calls and both halves
--- are `twomonitors`'s `Monitors.antt`; the forms are `monitor`'s and `eventcall`'s `Form.antt`.
+-- are `twomonitors`'s `Monitors.antt`; the forms are `events`'s and `eventbytes`'s `Form.antt`.
 -- Assumes nothing.
 use mathlib.Core.Path.{_≡_}
 use mathlib.Core.List.{List}
 use Prim.Native.Nat.{ℕ, _≤_}
 use lib.ListN.{length, take}
-use Rattle.monitor.specs.Monitor.{ReportByNumber}
-use Rattle.monitor.specs.Form.{EventForm, valueForm, lentForm}
+use Rattle.events.specs.Monitor.{ReportByNumber}
+use Rattle.events.specs.Form.{EventForm, valueForm, lentForm}
 use Rattle.job.specs.Job.{Job}
 use Rattle.twomonitors.specs.Monitors.{AlarmsKept, PointsNeeded, ListsExist, AnyOrder}
 use Rattle.jobfile.specs.File.{accepted, writeJob}
@@ -14,7 +14,7 @@ use Rattle.jobfile.specs.Spellable.{Spellable}
 use Rattle.buffer.specs.Layout.{workSize}
 use Rattle.plans.specs.PlanCall.{planSize, planAnswer, planAfter}
 use Rattle.plans.specs.PlanSays.{PlanBytesSay, SeenByNumber}
-use Rattle.eventcall.specs.Form.{callForm}
+use Rattle.eventbytes.specs.Form.{callForm}
 
 -- the plan bytes that planning leaves: those of nodes 0 to N-1
 abbrev pub planBytes : List ℕ → List ℕ → ℕ → Job → List ℕ

@@ -11,9 +11,9 @@ use Prim.Native.Nat.{ℕ, zero, suc, _<_, _≤_}
 use native.Mathlib.Omega.{arith}
 use lib.ListN.{getD}
 use Rattle.automaton.specs.Automaton.{Automaton, next, final, WellFormed}
-use Rattle.monitor.specs.Monitor.{maxTotal, counted}
-use Rattle.monitor.specs.Form.{EventForm, FormMoves}
-use Rattle.monitor.proofs.MonitorLaws.{counted-most}
+use Rattle.events.specs.Monitor.{maxTotal, counted}
+use Rattle.events.specs.Form.{EventForm, FormMoves}
+use Rattle.events.proofs.MonitorLaws.{counted-most}
 use Rattle.job.specs.Job.{Job, WellFormedJob}
 use Rattle.job.specs.Walk.{Event, shadow, word, symbolOf, Place, Walk, stop, move, tell, Start, WalkFrom}
 use Rattle.job.specs.Plan.{Enabling, full, enables, takes, stateAt, alarmAt, stateAfter, alarms, Faithful, DifferAt, Different}

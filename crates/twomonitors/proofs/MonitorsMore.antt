@@ -7,7 +7,7 @@ use mathlib.Core.Bool.{true}
 use mathlib.Core.List.{List, [], _∷_, _++_}
 use Prim.Native.Nat.{ℕ, _<_}
 use Rattle.automaton.specs.Automaton.{Automaton, WellFormed}
-use Rattle.monitor.specs.Form.{EventForm, RefusalKeeps, FormMoves}
+use Rattle.events.specs.Form.{EventForm, RefusalKeeps, FormMoves}
 use Rattle.job.specs.Job.{Job, WellFormedJob}
 use Rattle.job.specs.Walk.{Event, symbolOf}
 use Rattle.job.specs.Plan.{Enabling, enables}

@@ -8,8 +8,8 @@ use mathlib.Core.List.{List, [], _∷_, head-eq-of-cons-eq, tail-eq-of-cons-eq}
 use native.Mathlib.Omega.{arith}
 use lib.ListN.{length}
 use Rattle.automaton.specs.Automaton.{Automaton}
-use Rattle.monitor.specs.Form.{EventForm}
-use Rattle.monitor.specs.Run.{Seen, seen, run, consIf}
+use Rattle.events.specs.Form.{EventForm}
+use Rattle.events.specs.Run.{Seen, seen, run, consIf}
 use Rattle.job.specs.Walk.{Event, symbolOf}
 use Rattle.job.specs.Plan.{Enabling, takes, enables}
 use Rattle.twomonitors.specs.Monitors.{Entry, walked, on-full, on-planned, elsewhere, eventsIn, Both, afterEntry, ProperList, Single, to-full, to-planned, to-another, callsToFull, callsToPlanned, afterSingle, seenOnFull, seenOnPlanned, OwnCall, takes-event, is-refused, ownCalls, ownOfFull, ownOfPlanned, entriesOnFull, entriesOnPlanned, SeenAlike, ownEvents, ProperOwn, givenOf, AllListed, AnyOrder}

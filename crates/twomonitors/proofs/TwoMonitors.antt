@@ -5,7 +5,7 @@ use mathlib.Core.Path.{_≡_}
 use mathlib.Core.Bool.{true}
 use Prim.Native.Nat.{ℕ}
 use lib.ListN.{set}
-use Rattle.monitor.specs.Form.{EventForm, FormMoves}
+use Rattle.events.specs.Form.{EventForm, FormMoves}
 use Rattle.job.specs.Job.{Job, WellFormedJob}
 use Rattle.job.specs.Plan.{enables, Different}
 use Rattle.job.specs.Search.{faithful}

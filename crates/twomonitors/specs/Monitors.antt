@@ -7,9 +7,9 @@ use mathlib.Core.List.{List, [], _∷_, _++_}
 use Prim.Native.Nat.{ℕ, _<_, _≤_}
 use lib.ListN.{length, set}
 use Rattle.automaton.specs.Automaton.{Automaton}
-use Rattle.monitor.specs.Monitor.{maxTotal}
-use Rattle.monitor.specs.Form.{EventForm}
-use Rattle.monitor.specs.Run.{Seen, seen, consIf}
+use Rattle.events.specs.Monitor.{maxTotal}
+use Rattle.events.specs.Form.{EventForm}
+use Rattle.events.specs.Run.{Seen, seen, consIf}
 use Rattle.job.specs.Job.{Job, WellFormedJob}
 use Rattle.job.specs.Walk.{Event, symbolOf, Start, WalkFrom}
 use Rattle.job.specs.Plan.{Enabling, takes, enables}

@@ -1,0 +1,3 @@
+-- The numbers of calls.
+-- Assumes nothing.
+pub mod CallNumber
