@@ -7,7 +7,7 @@ use Prim.Native.Nat.{ℕ, _≤_, _<_}
 use lib.Dec.{eqb}
 use lib.ListN.{getD, length}
 use Rattle.automaton.specs.Automaton.{Automaton, next, final}
-use Rattle.job.specs.Job.{event, Job, nodeAt}
+use Rattle.job.specs.Job.{isEvent, Job, nodeAt}
 use Rattle.job.specs.Walk.{Event, shadow, word, symbolOf, Start, WalkFrom}
 
 -- which nodes are enabled ("watched")
@@ -26,7 +26,7 @@ enables plan n = eqb (getD plan n 0) 1
 pub record IsPlan (j : Job) (plan : List ℕ) : Type 0 where
   pub long : length plan ≡ length (j .nodes)
   pub bytes : (n : ℕ) → getD plan n 0 ≤ 1
-  pub shadows : (n : ℕ) → enables plan n ≡ true → (a : ℕ) × (nodeAt j n .kind ≡ event a)
+  pub shadows : (n : ℕ) → enables plan n ≡ true → isEvent (nodeAt j n .kind) ≡ true
 
 -- "events at unwatched points are skipped; events of call words and after words are always taken"
 abbrev pub takes : Enabling → Event → Bool

@@ -3,9 +3,8 @@ ghost use mathlib.Core.Path.{_≡_};
 ghost use mathlib.Core.Bool.{cond};
 ghost use Prim.Native.Nat.{ℕ, _%_, _≤_, _<_};
 ghost use lib.ListN.{length};
-ghost use Rattle.job.specs.Job.{event};
+ghost use Rattle.job.specs.Job.{point, pointOf, callSet, isEvent};
 ghost use Rattle.joblines.specs.Layout.{nodeIn, startIn, targetIn};
-ghost use Rattle.tables.specs.Rows.{callSet, isEvent};
 ghost use Rattle.tables.specs.Tables.{enabledIn};
 use joblines::layout::PLAN;
 use joblines::layout::STARTS;
@@ -23,7 +22,7 @@ pub fn is_shadow(work: &[u8], n: usize) -> bool
 // The symbol of a shadow, as a number below 16; free at any other node.
 pub fn symbol_at(work: &[u8], n: usize) -> usize
     requires { ⌜ (65536 ≤ length (now work)) × (n < 512) ⌝ }
-    ensures { λ r. ⌜ (r < 16) × ((a : ℕ) → nodeIn (now (work .entry)) n .kind ≡ event a → r ≡ a % 16) ⌝ }
+    ensures { λ r. ⌜ (r < 16) × ((a : ℕ) → pointOf (nodeIn (now (work .entry)) n .kind) ≡ point a → r ≡ a % 16) ⌝ }
 {
     (read16(work, n * 8) as usize) % 16
 }

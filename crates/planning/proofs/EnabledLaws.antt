@@ -12,7 +12,7 @@ use lib.ListN.{length, getD, set}
 use lib.Seq.{getD-set-same, getD-set-other, ext-getD}
 use Rattle.laws.specs.Bounded.{sumBelow}
 use Rattle.laws.proofs.Bounded.{sum-none, sum-more, sum-cong}
-use Rattle.job.specs.Job.{Kind, plain, event, call, Node, Job, nodeAt}
+use Rattle.job.specs.Job.{Kind, isEvent, Node, Job, nodeAt}
 use Rattle.job.specs.Plan.{enables, IsPlan}
 use Rattle.job.specs.Planning.{shadowByte, allEnabled, enabledCount}
 use Rattle.job.specs.Listing.{planOf}
@@ -20,7 +20,6 @@ use Rattle.job.specs.Search.{faithful}
 use Rattle.job.proofs.PlanBytes.{count-says, all-enabled-byte, all-enabled-length, all-enabled-count}
 use Rattle.job.proofs.PlanningResult.{planned-plan}
 use Rattle.joblines.specs.Layout.{nodeIn, SameOutside}
-use Rattle.tables.specs.Rows.{isEvent}
 use Rattle.tables.specs.Tables.{enabledIn}
 use Rattle.tables.specs.Held.{Usable, JobHeld, AfterHeld}
 use Rattle.planning.specs.declared.passes.Counts.{Counts}
@@ -32,21 +31,19 @@ use Rattle.planning.proofs.PlanInLaws.{node-kept, usable-kept, job-kept
 
 -- a shadow has the byte 1
 pub shadow-byte-one : (k : Kind) → isEvent k ≡ true → 1 ≡ shadowByte k
-shadow-byte-one plain e = absurd (false≢true e)
-shadow-byte-one (event a) e = refl
-shadow-byte-one (call s) e = absurd (false≢true e)
+shadow-byte-one k e = rw e refl
 
 -- any other node the byte 0
 pub shadow-byte-zero : (k : Kind) → isEvent k ≡ false → 0 ≡ shadowByte k
-shadow-byte-zero plain e = refl
-shadow-byte-zero (event a) e = absurd (true≢false e)
-shadow-byte-zero (call s) e = refl
+shadow-byte-zero k e = rw e refl
 
 -- it is at most 1
 pub shadow-byte-le : (k : Kind) → shadowByte k ≤ 1
-shadow-byte-le plain = omega arith
-shadow-byte-le (event a) = omega arith
-shadow-byte-le (call s) = omega arith
+shadow-byte-le k = go (isEvent k)
+  where
+    go : (b : Bool) → cond b 1 0 ≤ 1
+    go true = omega arith
+    go false = omega arith
 
 -- a mark is at most 1
 pub mark-small : (l : List ℕ) (n mark : ℕ) → mark ≡ shadowByte (nodeIn l n .kind) → mark ≤ 1

@@ -14,8 +14,9 @@ use Rattle.laws.specs.Bits.{has}
 use Rattle.laws.proofs.Bits.{has-empty}
 use Rattle.laws.proofs.Tests.{passes-or-fails, same-or-contrary}
 use Rattle.automaton.specs.Automaton.{next, final}
-use Rattle.job.specs.Job.{Kind, plain, event, call, Node, Job, nodeAt, noNode, leads, WellFormedJob}
-use Rattle.job.specs.Walk.{shadow, begin-after, report, call-word}
+use Rattle.job.specs.Job.{Point, no-point, point, pointOf, isEvent, Node, Job, nodeAt, noNode, leads, WellFormedJob}
+use Rattle.job.specs.Walk.{shadow, begin-after}
+use Rattle.job.proofs.KindLaws.{point-some, event-point, words-none, reports-point, reports-word}
 use Rattle.job.specs.Plan.{Enabling, full, enables, stateAt, Different}
 use Rattle.job.specs.Search.{faithful, arrives}
 use Rattle.job.specs.Words.{WordApart, apart-here, apart-later}
@@ -23,7 +24,7 @@ use Rattle.job.proofs.Pairs.{Pairs, Admitted, Kept, told-splits, apart-now, apa
 use Rattle.job.proofs.Bounds.{entry-node, pair-within}
 use Rattle.job.proofs.Decide.{different-says}
 use Rattle.job.proofs.Rules.{pair-different, faithful-true, arrives-true, arrives-false}
-use Rattle.job.proofs.Nodes.{Table, NoEvent, plain-no-event, call-no-event, PastNode, past-silent, past-event, Spelt, no-word, one-more, past-map}
+use Rattle.job.proofs.Nodes.{Table, PastNode, past-silent, past-event, Spelt, no-word, one-more, past-map}
 use Rattle.job.proofs.Nodes.{PairAt, pair-at-start, pair-at-event, pair-at-silent, past-pair, pair-at-edge, pair-at-word, pair-at-within}
 use Rattle.job.proofs.Nodes.{ReachedIn, NodeKept, NodeInvariant, node-kept, node-invariant, word-apart}
 use Rattle.tables.specs.Tables.{Held, pairRowIn, classRowIn, SearchKept}
@@ -47,25 +48,20 @@ both-moved P {p} {q} {r} {s} e f h = subst (λ (x : ℕ). P r x) f (subst (λ (x
 -- what stands past a node that has a pair
 pub past-of
     : {j : Job} {w : Enabling} {H : Table} (n p q : ℕ) → H n p q → PastNode j full w H n (pastNode j full n p) (pastNode j w n q)
-past-of {j} {w} {H} n p q h = go (nodeAt j n .kind) refl
+past-of {j} {w} {H} n p q h = go (pointOf (nodeAt j n .kind)) refl
   where
-    go : (k : Kind) → nodeAt j n .kind ≡ k → PastNode j full w H n (pastState (j .rule) full n k p) (pastState (j .rule) w n k q)
-    go plain e = past-silent (plain-no-event e) h
-    go (event a) e = past-event e h
-    go (call set) e = past-silent (call-no-event e) h
+    go : (x : Point) → pointOf (nodeAt j n .kind) ≡ x → PastNode j full w H n (pastState (j .rule) full n x p) (pastState (j .rule) w n x q)
+    go no-point e = past-silent e h
+    go (point a) e = past-event e h
 
--- a node with no event leaves the state
-past-none : (j : Job) (v : Enabling) (n p : ℕ) → NoEvent (nodeAt j n .kind) → pastNode j v n p ≡ p
-past-none j v n p s = go (nodeAt j n .kind) s
-  where
-    go : (k : Kind) → NoEvent k → pastState (j .rule) v n k p ≡ p
-    go plain s = refl
-    go (event a) s = absurd (s a refl)
-    go (call set) s = refl
+-- a node with no point leaves the state
+past-none : (j : Job) (v : Enabling) (n p : ℕ) → pointOf (nodeAt j n .kind) ≡ no-point → pastNode j v n p ≡ p
+past-none j v n p e = ap (λ (x : Point). pastState (j .rule) v n x p) e
 
--- an event node moves it
-past-own : (j : Job) (v : Enabling) (n p a : ℕ) → nodeAt j n .kind ≡ event a → pastNode j v n p ≡ stateAt (j .rule) v p (shadow n a)
-past-own j v n p a e = ap (λ (k : Kind). pastState (j .rule) v n k p) e
+-- a point moves it
+past-own
+    : (j : Job) (v : Enabling) (n p a : ℕ) → pointOf (nodeAt j n .kind) ≡ point a → pastNode j v n p ≡ stateAt (j .rule) v p (shadow n a)
+past-own j v n p a e = ap (λ (x : Point). pastState (j .rule) v n x p) e
 
 -- a pair past a node, and the one that it comes from
 record PastFrom (j : Job) (w : Enabling) (H : Table) (n p q : ℕ) : Type 0 where
@@ -88,7 +84,7 @@ past-from {j} {w} {n = n} (past-event {a = a} {p = p} {q = q} e h) =
 pub follows-reached
     : {j : Job} {w : Enabling} {n p q k r s : ℕ} → PairAt j full w n p q → Follows j w n p q k r s → PairAt j full w k r s
 follows-reached {n = n} {p = p} {q = q} h (over-edge l) = pair-at-edge (past-of n p q h) l
-follows-reached h (by-word a e m) = pair-at-word a e m h
+follows-reached h (by-word a m) = pair-at-word a m h
 
 -- what follows a table of reached pairs
 pub following-reached
@@ -103,9 +99,9 @@ following-reached r (follows f g) = follows-reached (following-reached r f) g
 pub split-different
     : {j : Job} {w : Enabling} {work : List ℕ} {nodes n p q : ℕ} → WellFormedJob j → AfterHeld j work nodes → n < nodes
     → PairAt j full w n p q → SplitPair j w work n p q → Different j w
-split-different wf a l r (split-point e d) = pair-different (pair-at-event e r) (apart-now (told-splits (report e) d))
-split-different wf a l r (split-call s e m d) =
-    pair-different (pair-at-silent (call-no-event e) r) (apart-now (told-splits (call-word e m) d))
+split-different wf a l r (split-point e d) = pair-different (pair-at-event e r) (apart-now (told-splits (reports-point e) d))
+split-different {j} {n = n} wf a l r (split-call s m d) =
+    pair-different (pair-at-silent (words-none (nodeAt j n .kind) s m) r) (apart-now (told-splits (reports-word n s m) d))
 split-different {j} {w} {n = n} {p = p} {q = q} wf a l r (split-exit h) =
     let x = past-pair (past-of n p q r) in
     let s = a .sound n (pastNode j full n p) (pastNode j w n q) l (omega (arith, pair-within wf x .one, wf .rule .few-states)) h in
@@ -152,7 +148,7 @@ module _ {j : Job} {w : Enabling} {work : List ℕ} (t : ClosedTable j w work) w
       record {
         starts = t .starts;
         edges = λ m n p q h l. edge-held n h l;
-        words = λ n set a p q e m h. closed-pair h .alike .words set a e m;
+        words = λ n a p q m h. closed-pair h .alike .words a m;
       }
 
   -- and under it the monitors alarm alike
@@ -161,7 +157,7 @@ module _ {j : Job} {w : Enabling} {work : List ℕ} (t : ClosedTable j w work) w
       record {
         kept = closed-kept;
         at-point = λ n a p q e h. closed-pair h .alike .at-point a e;
-        at-call = λ n set a p q e m h. closed-pair h .alike .at-call set a e m;
+        at-call = λ n a p q m h. closed-pair h .alike .at-call a m;
         at-exit = λ n a p q x m h.
             ⊎-elim
             (λ (e : final (j .rule) (next (j .rule) p a) ≡ final (j .rule) (next (j .rule) q a)). e)
@@ -188,24 +184,24 @@ one-side {j} {w} k =
     }
 
 -- an event node is one of the job
-pub event-node : (j : Job) (n a : ℕ) → nodeAt j n .kind ≡ event a → n < length (j .nodes)
-event-node j n a e =
+pub event-node : (j : Job) (n : ℕ) → isEvent (nodeAt j n .kind) ≡ true → n < length (j .nodes)
+event-node j n e =
     lt-of-not-le (λ l.
-    plain-no-event (ap (λ (m : Node). m .kind) (List·getD-eq-default (j .nodes) noNode l)) a e)
+    true≢false (sym e ∙ ap (λ (m : Node). isEvent (m .kind)) (List·getD-eq-default (j .nodes) noNode l)))
 
 -- the rows of an event node in a closed table of reached pairs
 pub closed-before
     : {j : Job} {w : Enabling} {work : List ℕ} → ClosedTable j w work → length (j .nodes) ≤ 512
     → ((n p q : ℕ) → n < 512 → p < 16 → Held work n p q → PairAt j full w n p q)
-    → (n a q : ℕ) → nodeAt j n .kind ≡ event a → q < j .rule .states → eqb (pairRowIn work n q) 0 ≡ not (arrives j n q)
-closed-before {j} {w} {work} t few reached n a q e l =
+    → (n q : ℕ) → isEvent (nodeAt j n .kind) ≡ true → q < j .rule .states → eqb (pairRowIn work n q) 0 ≡ not (arrives j n q)
+closed-before {j} {w} {work} t few reached n q e l =
     ⊎-elim
     (λ (z : eqb (pairRowIn work n q) 0 ≡ true).
     z ∙ sym (ap not (arrives-false (t .formed) n q (one-side (node-kept (closed-kept t))) (λ r. has-nothing (r .0) (eqb-true _ _ z) (r .1 .1)))))
     (λ (z : eqb (pairRowIn work n q) 0 ≡ false).
     let s = any-member (pairRowIn work n q) (eqb-false _ _ z) in
-    let h = reached n q (s .0) (omega (arith, event-node j n a e)) (omega (arith, t .formed .rule .few-states)) (s .1) in
-    z ∙ sym (ap not (arrives-true (t .formed) n q (pair-at-event e h))))
+    let h = reached n q (s .0) (omega (arith, event-node j n e)) (omega (arith, t .formed .rule .few-states)) (s .1) in
+    z ∙ sym (ap not (arrives-true (t .formed) n q (pair-at-event (event-point (nodeAt j n .kind) e .1) h))))
     (passes-or-fails (eqb (pairRowIn work n q) 0))
 
 -- ---- the search, round by round

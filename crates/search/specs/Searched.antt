@@ -5,7 +5,7 @@ use mathlib.Core.Bool.{Bool, true, not}
 use mathlib.Core.List.{List}
 use Prim.Native.Nat.{ℕ, _<_}
 use lib.Dec.{eqb}
-use Rattle.job.specs.Job.{event, Job, nodeAt, WellFormedJob}
+use Rattle.job.specs.Job.{isEvent, Job, nodeAt, WellFormedJob}
 use Rattle.job.specs.Planning.{allEnabled}
 use Rattle.job.specs.Search.{faithful, arrives}
 use Rattle.tables.specs.Tables.{pairRowIn, SearchKept}
@@ -15,7 +15,7 @@ use Rattle.tables.specs.Held.{JobHeld, PlanHeld, AfterHeld}
 pub record Searched (j : Job) (plan l m : List ℕ) (answer : Bool) : Type 0 where
   pub exact : answer ≡ faithful j plan
   pub before
-      : answer ≡ true → (n a q : ℕ) → nodeAt j n .kind ≡ event a → q < j .rule .states
+      : answer ≡ true → (n q : ℕ) → isEvent (nodeAt j n .kind) ≡ true → q < j .rule .states
       → eqb (pairRowIn m n q) 0 ≡ not (arrives j n q)
 
 -- the same for every job and plan that the buffer holds, with its after words in the class rows
@@ -31,4 +31,4 @@ abbrev pub AllEnabledFinds : Type 0
 AllEnabledFinds =
     (j : Job) (l m : List ℕ) (answer : Bool) → WellFormedJob j → Searched j (allEnabled j) l m answer
     → (answer ≡ true)
-    × ((n a q : ℕ) → nodeAt j n .kind ≡ event a → q < j .rule .states → eqb (pairRowIn m n q) 0 ≡ not (arrives j n q))
+    × ((n q : ℕ) → isEvent (nodeAt j n .kind) ≡ true → q < j .rule .states → eqb (pairRowIn m n q) 0 ≡ not (arrives j n q))

@@ -8,7 +8,7 @@ use borrow.Author.Needs.{needs}
 use Rattle.laws.specs.Bytes.{numberAt}
 use Rattle.jobfile.specs.File.{kindOf}
 use Rattle.joblines.specs.Layout.{nodeIn}
-use Rattle.tables.specs.Rows.{callSet}
+use Rattle.job.specs.Job.{callSet}
 use Rattle.places.proofs.call_set.Statement.{statement}
 use Rattle.places.proofs.call_set.Tie as tie
 

@@ -10,7 +10,7 @@ use borrow.Author.Needs.{needs}
 use Rattle.laws.specs.Bytes.{numberAt}
 use Rattle.jobfile.specs.File.{kindOf}
 use Rattle.joblines.specs.Layout.{nodeIn}
-use Rattle.tables.specs.Rows.{isEvent}
+use Rattle.job.specs.Job.{isEvent}
 use Rattle.places.proofs.is_shadow.Statement.{statement}
 use Rattle.places.proofs.is_shadow.Tie as tie
 
