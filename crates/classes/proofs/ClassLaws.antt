@@ -20,7 +20,7 @@ use Rattle.job.specs.Job.{Point, no-point, point, pointOf, callSet, isPoint, is
 use Rattle.job.specs.Walk.{past, take-edge, begin-after}
 use Rattle.job.specs.Plan.{full}
 use Rattle.job.proofs.Pairs.{ApartAt, told-splits, apart-now, apart-moved, apart-told}
-use Rattle.job.proofs.Bounds.{Within, told-symbol}
+use Rattle.job.proofs.Bounds.{Within}
 use Rattle.job.proofs.Decide.{apart-at}
 use Rattle.job.proofs.Rules.{apart-true, apart-false}
 use Rattle.job.proofs.KindLaws.{point-some, reports-word}
@@ -469,7 +469,7 @@ growing-more table finals states nodes l m k grown new u s g = record {
 pub after-apart : (j : Job) (l : List ℕ) (nodes : ℕ) → AfterHeld j l nodes → AllApart j nodes l
 after-apart j l nodes a n p q h b e =
     let r = a .sound n p q h b e in
-    apart-at .1 (apart-moved (begin-after (r .0)) (word-apart (r .0) (r .1)))
+    apart-at .1 (apart-moved (begin-after (r .0)) (word-apart (λ k l h. absurd h) (r .0) (r .1)))
 
 -- rows that are closed and hold the after words are closed backwards
 pub closed-nodes

@@ -2,18 +2,17 @@
 -- Forwards, the set of an event node holds the pairs before it; any other node is entered silently, and its set holds the pairs past it.
 -- Backwards, every set holds pairs past its node. The word after an exit has no set of its own.
 -- Assumes nothing.
-use mathlib.Core.Path.{_≡_, refl}
-use mathlib.Core.Logic.{_⊎_, inl, inr, ⊎-elim}
+use mathlib.Core.Path.{_≡_}
+use mathlib.Core.Logic.{_⊎_, ⊎-elim}
 use mathlib.Core.Bool.{true, not}
 use Prim.Native.Nat.{ℕ}
-use native.Mathlib.Omega.{arith}
 use Rattle.laws.specs.Bits.{has}
 use Rattle.automaton.specs.Automaton.{Automaton, next, final}
 use Rattle.job.specs.Job.{no-point, point, pointOf, callSet, Job, nodeAt, leads, WellFormedJob}
 use Rattle.job.specs.Walk.{Event, shadow, Place, before, past, ended, Silent, pass-plain, begin-word, take-edge, begin-after}
 use Rattle.job.specs.Walk.{Told, report, call-word, after-word}
 use Rattle.job.specs.Plan.{Enabling, stateAt, alarmAt}
-use Rattle.job.specs.Words.{WordApart, apart-here, apart-later}
+use Rattle.job.specs.Words.{WordApart, apart-here, apart-later, apart-after, NothingMore}
 use Rattle.job.proofs.Pairs.{Pairs, Pair, begins, moves, tells, Admitted, admitted, Kept, Invariant}
 use Rattle.job.proofs.Pairs.{told-splits, ApartAt, apart-now, apart-moved, apart-told, Backwards}
 use Rattle.job.proofs.Bounds.{Within, pair-within}
@@ -59,6 +58,14 @@ pub spelt-map
     : {m : Automaton} {set p q : ℕ} {P Q : ℕ → ℕ → Type 0} → ((k l : ℕ) → P k l → Q k l) → Spelt m set P p q → Spelt m set Q p q
 spelt-map f (no-word {p = p} {q = q} h) = no-word (f p q h)
 spelt-map f (one-more a m h) = one-more a m (spelt-map f h)
+
+-- what tells apart after a word for one reason does so for another
+pub word-map
+    : {m : Automaton} {set p q : ℕ} {More Other : ℕ → ℕ → Type 0} → ((k l : ℕ) → More k l → Other k l)
+    → WordApart m set More p q → WordApart m set Other p q
+word-map f (apart-here a m d) = apart-here a m d
+word-map f (apart-later a m h) = apart-later a m (word-map f h)
+word-map f (apart-after {p = p} {q = q} h) = apart-after (f p q h)
 
 -- past a node with no event of its own there is what its set holds
 pub past-at-silent : {j : Job} {v w : Enabling} {H : Table} {n p q : ℕ} → pointOf (nodeAt j n .kind) ≡ no-point → PastNode j v w H n p q → H n p q
@@ -204,11 +211,15 @@ pub data BeforeNode (j : Job) (v w : Enabling) (T : Table) (n : ℕ) : ℕ → �
       : {a p q : ℕ} → pointOf (nodeAt j n .kind) ≡ point a → alarmAt (j .rule) v p (shadow n a) ≡ not (alarmAt (j .rule) w q (shadow n a))
       → BeforeNode j v w T n p q
 
+-- the pairs told apart where the word after an exit ends, by a table of those told apart past nodes
+abbrev pub AfterExit : Job → Enabling → Enabling → Table → ℕ → ℕ → Type 0
+AfterExit j v w T = NothingMore
+
 -- the pairs at all places
 abbrev pub placesBack : Job → Enabling → Enabling → Table → Pairs
 placesBack j v w T (before n) p q = BeforeNode j v w T n p q
 placesBack j v w T (past n) p q = T n p q
-placesBack j v w T (ended n) p q = WordApart (j .rule) (nodeAt j n .after) p q
+placesBack j v w T (ended n) p q = WordApart (j .rule) (nodeAt j n .after) (AfterExit j v w T) p q
 
 -- a table that holds, of the pairs of the job, those that edges, call words and after words lead back to
 pub record NodeBackwards (j : Job) (v w : Enabling) (T : Table) : Type 0 where
@@ -220,7 +231,8 @@ pub record NodeBackwards (j : Job) (v w : Enabling) (T : Table) : Type 0 where
       : (n a p q : ℕ) → Within j (past n) p q → has (callSet (nodeAt j n .kind)) a ≡ true
       → T n (next (j .rule) p a) (next (j .rule) q a) → T n p q
   pub after-words
-      : (n p q : ℕ) → Within j (past n) p q → nodeAt j n .exit ≡ true → WordApart (j .rule) (nodeAt j n .after) p q → T n p q
+      : (n p q : ℕ) → Within j (past n) p q → nodeAt j n .exit ≡ true
+      → WordApart (j .rule) (nodeAt j n .after) (AfterExit j v w T) p q → T n p q
 
 module _ {j : Job} {v w : Enabling} where
   -- a table that is closed backwards is a set of pairs that is
@@ -258,11 +270,18 @@ module _ {j : Job} {v w : Enabling} where
   before-apart (before-event k a) = apart-told (reports-point k) a
   before-apart (event-splits k d) = apart-now (told-splits (reports-point k) d)
 
-  -- what tells them apart in the word after an exit
+  -- what tells them apart in the word after an exit, or where it ends
   pub word-apart
-      : {n p q : ℕ} → nodeAt j n .exit ≡ true → WordApart (j .rule) (nodeAt j n .after) p q → ApartAt j v w (ended n) p q
-  word-apart e (apart-here a m d) = apart-now (told-splits (after-word e m) d)
-  word-apart e (apart-later a m h) = apart-told (after-word e m) (word-apart e h)
+      : {n p q : ℕ} {More : ℕ → ℕ → Type 0} → ((k l : ℕ) → More k l → ApartAt j v w (ended n) k l) → nodeAt j n .exit ≡ true
+      → WordApart (j .rule) (nodeAt j n .after) More p q → ApartAt j v w (ended n) p q
+  word-apart more e (apart-here a m d) = apart-now (told-splits (after-word e m) d)
+  word-apart more e (apart-later a m h) = apart-told (after-word e m) (word-apart more e h)
+  word-apart more e (apart-after {p = p} {q = q} h) = more p q h
+
+  -- what tells them apart where the word after an exit ends
+  pub exit-apart
+      : (n k l : ℕ) → AfterExit j v w (λ m. ApartAt j v w (past m)) k l → ApartAt j v w (ended n) k l
+  exit-apart n k l h = absurd h
 
   -- the pairs told apart past nodes are closed backwards
   pub apart-nodes : NodeBackwards j v w (λ n. ApartAt j v w (past n))
@@ -271,5 +290,5 @@ module _ {j : Job} {v w : Enabling} where
         edges = λ m n p q r l h. apart-moved (take-edge l) (before-apart h);
         call-splits = λ n a p q r m d. apart-now (told-splits (reports-word n a m) d);
         call-words = λ n a p q r m h. apart-told (reports-word n a m) h;
-        after-words = λ n p q r k h. apart-moved (begin-after k) (word-apart k h);
+        after-words = λ n p q r k h. apart-moved (begin-after k) (word-apart (exit-apart n) k h);
       }

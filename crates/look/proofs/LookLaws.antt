@@ -15,7 +15,7 @@ use Rattle.laws.specs.Bits.{has}
 use Rattle.laws.proofs.Bits.{has-below, has-empty}
 use Rattle.laws.proofs.Tests.{fails-of}
 use Rattle.automaton.specs.Automaton.{next, final, cell}
-use Rattle.job.specs.Job.{point, pointOf, callSet, isPoint, isEvent, Job, Node, nodeAt}
+use Rattle.job.specs.Job.{point, pointOf, callSet, isEvent, Job, Node, nodeAt}
 use Rattle.job.specs.Plan.{Enabling, full, enables}
 use Rattle.joblines.specs.Layout.{nodeIn}
 use Rattle.moves.specs.declared.Past.{Past}

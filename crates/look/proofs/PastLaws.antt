@@ -1,14 +1,13 @@
 -- Laws of a row past a node, by the point of the node.
 -- Assumes nothing.
 use mathlib.Core.Path.{_≡_, refl, sym, ap, subst, _∙_}
-use mathlib.Core.Bool.{Bool, true, false, not, true≢false, false≢true}
+use mathlib.Core.Bool.{Bool, true, false, not, false≢true}
 use mathlib.Core.List.{List}
 use Prim.Native.Nat.{ℕ, _^_, _<_}
 use native.Mathlib.Nat.{lt-of-lt-of-le}
-use native.Mathlib.Omega.{arith}
 use lib.Count.{trailingZeros}
 use Rattle.laws.specs.Bits.{has}
-use Rattle.laws.proofs.Bits.{has-below, has-empty}
+use Rattle.laws.proofs.Bits.{has-below}
 use Rattle.laws.proofs.Walk.{trailing-member}
 use Rattle.automaton.specs.Automaton.{Automaton, next, final, cell}
 use Rattle.job.specs.Job.{Point, no-point, point, pointOf, callSet, isPoint, Job, nodeAt, WellFormedJob}

@@ -16,10 +16,10 @@ use Rattle.laws.proofs.Tests.{passes-or-fails, same-or-contrary}
 use Rattle.automaton.specs.Automaton.{next, final}
 use Rattle.job.specs.Job.{Point, no-point, point, pointOf, isEvent, Node, Job, nodeAt, noNode, leads, WellFormedJob}
 use Rattle.job.specs.Walk.{shadow, begin-after}
-use Rattle.job.proofs.KindLaws.{point-some, event-point, words-none, reports-point, reports-word}
+use Rattle.job.proofs.KindLaws.{event-point, words-none, reports-point, reports-word}
 use Rattle.job.specs.Plan.{Enabling, full, enables, stateAt, Different}
 use Rattle.job.specs.Search.{faithful, arrives}
-use Rattle.job.specs.Words.{WordApart, apart-here, apart-later}
+use Rattle.job.specs.Words.{WordApart, apart-here, apart-later, NothingMore}
 use Rattle.job.proofs.Pairs.{Pairs, Admitted, Kept, told-splits, apart-now, apart-moved}
 use Rattle.job.proofs.Bounds.{entry-node, pair-within}
 use Rattle.job.proofs.Decide.{different-says}
@@ -105,7 +105,7 @@ split-different {j} {n = n} wf a l r (split-call s m d) =
 split-different {j} {w} {n = n} {p = p} {q = q} wf a l r (split-exit h) =
     let x = past-pair (past-of n p q r) in
     let s = a .sound n (pastNode j full n p) (pastNode j w n q) l (omega (arith, pair-within wf x .one, wf .rule .few-states)) h in
-    pair-different x (apart-moved (begin-after (s .0)) (word-apart (s .0) (s .1)))
+    pair-different x (apart-moved (begin-after (s .0)) (word-apart (λ k l h. absurd h) (s .0) (s .1)))
 
 -- ---- a closed table
 
@@ -134,7 +134,7 @@ module _ {j : Job} {w : Enabling} {work : List ℕ} (t : ClosedTable j w work) w
   never-apart
       : {n p q : ℕ} → nodeAt j n .exit ≡ true
       → Spelt (j .rule) (nodeAt j n .after) (PastNode j full w (ReachedIn j full w (Held work)) n) p q
-      → WordApart (j .rule) (nodeAt j n .after) p q → ⊥
+      → WordApart (j .rule) (nodeAt j n .after) NothingMore p q → ⊥
   never-apart {n} x (no-word {p = p} {q = q} h) a =
       let f = past-from h in
       let b = pair-within (t .formed) (past-pair (past-map (λ k l r. r .0) h)) in
