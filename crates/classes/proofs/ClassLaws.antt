@@ -18,10 +18,9 @@ use Rattle.laws.proofs.Bits.{has-or, has-empty}
 use Rattle.automaton.specs.Automaton.{cell, next, final}
 use Rattle.job.specs.Job.{Point, no-point, point, pointOf, callSet, isPoint, isEvent, Node, Job, nodeAt, leads}
 use Rattle.job.specs.Walk.{past, take-edge, begin-after}
-use Rattle.job.specs.Plan.{full}
-use Rattle.job.proofs.Pairs.{ApartAt, told-splits, apart-now, apart-moved, apart-told}
+use Rattle.job.specs.Plan.{full, ApartAt}
+use Rattle.job.proofs.Pairs.{told-splits, apart-now, apart-moved, apart-told}
 use Rattle.job.proofs.Bounds.{Within}
-use Rattle.job.proofs.Decide.{apart-at}
 use Rattle.job.proofs.Rules.{apart-true, apart-false}
 use Rattle.job.proofs.KindLaws.{point-some, reports-word}
 use Rattle.job.proofs.Nodes.{BeforeNode, before-silent, before-event, event-splits}
@@ -366,13 +365,12 @@ node-end table finals states l m n set grown p hn few below within set-is g all 
   kept = g .kept;
   held = g .held;
   sound = λ j nodes h a many old k x y b c d.
-      apart-at .1
-      (g .sound j
+      g .sound j
       (λ w s rest r q e f v.
       back-sound h below w n set a many few within set-is (kept-part l w n hn s)
       (λ i u z o i-small t. rest i u z (omega arith) i-small t (rw (h .nodes-are) at o)) r q e f)
-      (λ i u z o i-small t v. apart-at .0 (old i u z (rw (h .nodes-are) v) i-small t))
-      k x y (omega arith) c d (rw (h .nodes-are) at b));
+      (λ i u z o i-small t v. old i u z (rw (h .nodes-are) v) i-small t)
+      k x y (omega arith) c d (rw (h .nodes-are) at b);
   none = g .none;
   closed = λ e x y a b. g .closed e x y (omega arith) (subst (λ (v : ℕ). ApartBack table finals states l n v x y) (sym set-is) b);
   left = g .left;
@@ -469,7 +467,7 @@ growing-more table finals states nodes l m k grown new u s g = record {
 pub after-apart : (j : Job) (l : List ℕ) (nodes : ℕ) → AfterHeld j l nodes → AllApart j nodes l
 after-apart j l nodes a n p q h b e =
     let r = a .sound n p q h b e in
-    apart-at .1 (apart-moved (begin-after (r .0)) (word-apart (λ k l h. absurd h) (r .0) (r .1)))
+    apart-moved (begin-after (r .0)) (word-apart (λ k l h. absurd h) (r .0) (r .1))
 
 -- rows that are closed and hold the after words are closed backwards
 pub closed-nodes
@@ -540,7 +538,7 @@ growing-end table finals states nodes l m grown u s z = record {
       (λ (e : has (classRowIn m n p) q ≡ true).
       e
       ∙ sym
-      (apart-true (h .formed) n p q node hp hq (apart-at .0 (s .sound j h (after-apart j l nodes a) n p q hn small e))))
+      (apart-true (h .formed) n p q node hp hq (s .sound j h (after-apart j l nodes a) n p q hn small e)))
       (λ (e : has (classRowIn m n p) q ≡ false).
       e
       ∙ sym

@@ -342,7 +342,6 @@ words-whole table finals states more m n set a r below few after symbols closed 
 
     leads-below : (x : ℕ) → x < states → next a x s < states
     leads-below x l = omega (arith, r .formed .next-below x s (omega (arith, r .states-are)) (symbols s h), r .states-are)
-
 words-whole table finals states more m n set a r below few after symbols closed p q hp hq (apart-after h) = after p q h
 
 -- no row has grown

@@ -20,13 +20,13 @@ use Rattle.laws.proofs.Tests.{or-passes, or-left, or-right}
 use Rattle.job.specs.Job.{Point, no-point, point, pointOf, callSet, Edge, Job, nodeAt, holds, WellFormedJob}
 use Rattle.job.specs.Walk.{Event, word, Place, before, past, ended, Silent, pass-plain, begin-word, take-edge, begin-after}
 use Rattle.job.specs.Walk.{Told, report, call-word, after-word}
-use Rattle.job.specs.Plan.{Enabling, alarmAt}
+use Rattle.job.specs.Plan.{Enabling, alarmAt, ApartAt}
 use Rattle.job.specs.Search.{anyOf, numbersOf, Config, configOf, placeCode, configCode, configCount, targets, entered, silentMoves}
 use Rattle.job.specs.Search.{Telling, telling, words, reports, toldMoves, toldConfig, afterConfig, unlike, splits, startsBelow, configs}
 use Rattle.job.proofs.KindLaws.{plain-none, call-none, point-own, call-has, enters, reports-point, reports-word}
 use Rattle.job.proofs.SearchLaws.{Reached, at-start, further, any-of-says, any-reached-says}
 use Rattle.job.proofs.Pairs.{Pairs, Pair, begins, moves, tells, Admitted, admitted, Only, only, Kept, pair-least}
-use Rattle.job.proofs.Pairs.{Splits, ApartAt, apart-now, pair-apart, apart-splits}
+use Rattle.job.proofs.Pairs.{Splits, apart-now, pair-apart, apart-splits}
 use Rattle.job.proofs.Bounds.{nodeOf, Within, entry-node, admitted-within, told-symbol, within-kept}
 
 -- ---- lists

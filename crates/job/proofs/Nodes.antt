@@ -11,10 +11,10 @@ use Rattle.automaton.specs.Automaton.{Automaton, next, final}
 use Rattle.job.specs.Job.{no-point, point, pointOf, callSet, Job, nodeAt, leads, WellFormedJob}
 use Rattle.job.specs.Walk.{Event, shadow, Place, before, past, ended, Silent, pass-plain, begin-word, take-edge, begin-after}
 use Rattle.job.specs.Walk.{Told, report, call-word, after-word}
-use Rattle.job.specs.Plan.{Enabling, stateAt, alarmAt}
+use Rattle.job.specs.Plan.{Enabling, stateAt, alarmAt, ApartAt}
 use Rattle.job.specs.Words.{WordApart, apart-here, apart-later, apart-after, NothingMore}
 use Rattle.job.proofs.Pairs.{Pairs, Pair, begins, moves, tells, Admitted, admitted, Kept, Invariant}
-use Rattle.job.proofs.Pairs.{told-splits, ApartAt, apart-now, apart-moved, apart-told, Backwards}
+use Rattle.job.proofs.Pairs.{told-splits, apart-now, apart-moved, apart-told, Backwards}
 use Rattle.job.proofs.Bounds.{Within, pair-within}
 use Rattle.job.proofs.KindLaws.{point-some, point-or-none, plain-none, call-none, point-own, call-has, words-none, enters, reports-point, reports-word}
 use Rattle.job.proofs.Rules.{at-admitted}

@@ -7,27 +7,25 @@ use mathlib.Core.List.{List}
 use Prim.Native.Nat.{ℕ, _≤_, _<_}
 use native.Mathlib.Nat.{lt-of-not-le}
 use native.Mathlib.Omega.{arith}
-use lib.Dec.{eqb}
 use lib.ListN.{length, List·getD-eq-default}
-use borrow.Author.Tests.{eqb-true, eqb-false}
 use Rattle.laws.specs.Bits.{has}
 use Rattle.laws.proofs.Bits.{has-empty}
-use Rattle.laws.proofs.Tests.{passes-or-fails, same-or-contrary}
+use Rattle.laws.proofs.Tests.{same-or-contrary}
 use Rattle.automaton.specs.Automaton.{next, final}
 use Rattle.job.specs.Job.{Point, no-point, point, pointOf, isEvent, Node, Job, nodeAt, noNode, leads, WellFormedJob}
-use Rattle.job.specs.Walk.{shadow, begin-after}
+use Rattle.job.specs.Walk.{shadow, before, begin-after}
 use Rattle.job.proofs.KindLaws.{event-point, words-none, reports-point, reports-word}
-use Rattle.job.specs.Plan.{Enabling, full, enables, stateAt, Different}
-use Rattle.job.specs.Search.{faithful, arrives}
+use Rattle.job.specs.Plan.{Enabling, full, enables, stateAt, ArrivesAt, Different}
+use Rattle.job.specs.Search.{faithful}
 use Rattle.job.specs.Words.{WordApart, apart-here, apart-later, NothingMore}
-use Rattle.job.proofs.Pairs.{Pairs, Admitted, Kept, told-splits, apart-now, apart-moved}
+use Rattle.job.proofs.Pairs.{pair-least, arrives-at-says, told-splits, apart-now, apart-moved}
 use Rattle.job.proofs.Bounds.{entry-node, pair-within}
 use Rattle.job.proofs.Decide.{different-says}
-use Rattle.job.proofs.Rules.{pair-different, faithful-true, arrives-true, arrives-false}
+use Rattle.job.proofs.Rules.{pair-different, faithful-true}
 use Rattle.job.proofs.Nodes.{Table, PastNode, past-silent, past-event, Spelt, no-word, one-more, past-map}
 use Rattle.job.proofs.Nodes.{PairAt, pair-at-start, pair-at-event, pair-at-silent, past-pair, pair-at-edge, pair-at-word, pair-at-within}
 use Rattle.job.proofs.Nodes.{ReachedIn, NodeKept, NodeInvariant, node-kept, node-invariant, word-apart}
-use Rattle.tables.specs.Tables.{Held, pairRowIn, classRowIn, SearchKept}
+use Rattle.tables.specs.Tables.{Held, classRowIn, SearchKept}
 use Rattle.tables.specs.Held.{Usable, JobHeld, PlanHeld, AfterHeld}
 use Rattle.look.specs.Looking.{pastState, pastNode, Follows, over-edge, by-word, ClosedPair, SplitPair, split-point, split-call, split-exit}
 use Rattle.rounds.specs.Rounds.{ClosedAt, Following, held-first, follows, Settled, Rounded, RoundedAt}
@@ -36,7 +34,7 @@ use Rattle.starts.specs.Started.{Started}
 use Rattle.rounds.proofs.RoundLaws.{nothing-difference, rows-difference}
 use Rattle.rounds.specs.declared.Seen.{Seen}
 use Rattle.rounds.specs.declared.Seen.the-variants.{Nothing, Rows, Difference}
-use Rattle.tables.proofs.RowLaws.{any-member, has-nothing}
+use Rattle.tables.proofs.RowLaws.{has-nothing}
 use Rattle.tables.proofs.KeptLaws.{search-kept-none, search-kept-both, node-same, class-same, usable-same, job-same, plan-same}
 
 -- ---- past a node
@@ -170,18 +168,7 @@ module _ {j : Job} {w : Enabling} {work : List ℕ} (t : ClosedTable j w work) w
 pub closed-faithful : {j : Job} (plan : List ℕ) {work : List ℕ} → ClosedTable j (enables plan) work → faithful j plan ≡ true
 closed-faithful plan t = faithful-true (t .formed) plan (node-invariant (closed-invariant t))
 
--- ---- before sets
-
--- the states of the full monitor in a set of pairs that is kept
-one-side
-    : {j : Job} {w : Enabling} {R : Pairs} → Kept j full w (Admitted j) R
-    → Kept j full full (Admitted j) (λ x p q. (r : ℕ) × R x p r)
-one-side {j} {w} k =
-    record {
-      starts = λ x p q s. (q, k .starts x p q s);
-      moved = λ x y p q r m. (r .0, k .moved x y p (r .0) (r .1) m);
-      told = λ x y e p q r t. (stateAt (j .rule) w (r .0) e, k .told x y e p (r .0) (r .1) t);
-    }
+-- ---- the pairs at an event node
 
 -- an event node is one of the job
 pub event-node : (j : Job) (n : ℕ) → isEvent (nodeAt j n .kind) ≡ true → n < length (j .nodes)
@@ -189,20 +176,16 @@ event-node j n e =
     lt-of-not-le (λ l.
     true≢false (sym e ∙ ap (λ (m : Node). isEvent (m .kind)) (List·getD-eq-default (j .nodes) noNode l)))
 
--- the rows of an event node in a closed table of reached pairs
-pub closed-before
-    : {j : Job} {w : Enabling} {work : List ℕ} → ClosedTable j w work → length (j .nodes) ≤ 512
-    → ((n p q : ℕ) → n < 512 → p < 16 → Held work n p q → PairAt j full w n p q)
-    → (n q : ℕ) → isEvent (nodeAt j n .kind) ≡ true → q < j .rule .states → eqb (pairRowIn work n q) 0 ≡ not (arrives j n q)
-closed-before {j} {w} {work} t few reached n q e l =
-    ⊎-elim
-    (λ (z : eqb (pairRowIn work n q) 0 ≡ true).
-    z ∙ sym (ap not (arrives-false (t .formed) n q (one-side (node-kept (closed-kept t))) (λ r. has-nothing (r .0) (eqb-true _ _ z) (r .1 .1)))))
-    (λ (z : eqb (pairRowIn work n q) 0 ≡ false).
-    let s = any-member (pairRowIn work n q) (eqb-false _ _ z) in
-    let h = reached n q (s .0) (omega (arith, event-node j n e)) (omega (arith, t .formed .rule .few-states)) (s .1) in
-    z ∙ sym (ap not (arrives-true (t .formed) n q (pair-at-event (event-point (nodeAt j n .kind) e .1) h))))
-    (passes-or-fails (eqb (pairRowIn work n q) 0))
+-- a pair of its set that is reached arrives there
+reached-arrives
+    : {j : Job} {w : Enabling} {n p q : ℕ} → isEvent (nodeAt j n .kind) ≡ true → PairAt j full w n p q → ArrivesAt j full w (before n) p q
+reached-arrives {j} {w} {n} {p} {q} e h =
+    arrives-at-says (before n) p q .0 (pair-at-event (event-point (nodeAt j n .kind) e .1) h)
+
+-- a closed table holds every pair that arrives before a node with a point
+arrives-held
+    : {j : Job} {w : Enabling} {work : List ℕ} {n p q : ℕ} → ClosedTable j w work → ArrivesAt j full w (before n) p q → Held work n p q
+arrives-held {n = n} {p = p} {q = q} t a = pair-least (node-kept (closed-kept t)) (arrives-at-says (before n) p q .1 a) .1
 
 -- ---- the search, round by round
 
@@ -306,6 +289,10 @@ module _
   all-kept : SearchKept o k
   all-kept = search-kept-both before (search-kept-both (s .kept) (r .kept))
 
+  -- an event node lies within the table
+  inside : (j : Job) → JobHeld j o table finals states nodes → (n : ℕ) → isEvent (nodeAt j n .kind) ≡ true → n < 512
+  inside j held n e = omega (arith, event-node j n e, held .nodes-are, u .few-nodes)
+
   -- a round that sees nothing ends the search: the plan is faithful
   pub searching-end : seen ≡ Nothing → SearchedAt table finals states nodes o k true
   searching-end none =
@@ -318,7 +305,8 @@ module _
             let t = searching-closed here words i none in
             record {
               exact = sym (closed-faithful plan t);
-              before = λ y. closed-before t (omega (arith, held .nodes-are, u .few-nodes)) (i .reached);
+              arrive = λ n p q e lp h. reached-arrives e (i .reached n p q (inside j held n e) lp h);
+              held = λ y n p q e a. arrives-held t a;
             };
       }
 
@@ -338,6 +326,8 @@ module _
                   sym (different-says (held .formed) plan .1
                   (split-different (held .formed) (after-kept (held .formed) (s .kept) (u .few-nodes) words) (f .small)
                   (following-reached (i .reached) (f .follows)) (f .splits)));
-              before = λ y. absurd (true≢false (sym y));
+              arrive = λ n p q e lp h.
+                  reached-arrives e (following-reached (i .reached) (rounded j plan here here-plan .new n p q (inside j held n e) lp h));
+              held = λ y. absurd (true≢false (sym y));
             };
       }
