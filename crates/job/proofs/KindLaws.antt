@@ -7,8 +7,9 @@ use Prim.Native.Nat.{ℕ, _<_}
 use native.Mathlib.Omega.{arith}
 use Rattle.laws.specs.Bits.{has}
 use Rattle.laws.proofs.Bits.{has-empty}
-use Rattle.job.specs.Job.{Kind, plain, event, call, Point, no-point, point, pointOf, callSet, isPoint, isEvent, Job, nodeAt, KindBelow}
-use Rattle.job.specs.Walk.{shadow, word, before, past, Silent, pass-plain, begin-word, Told, report, call-word}
+use Rattle.job.specs.Job.{Kind, plain, event, call, Point, no-point, point, pointOf, callSet, isPoint, isEvent, Job, nodeAt, leads, KindBelow}
+use Rattle.job.specs.Walk.{Event, shadow, word, Place, before, past, ended, Silent, pass-plain, begin-word, take-edge, begin-after}
+use Rattle.job.specs.Walk.{Told, report, call-word, after-word}
 
 -- ---- points
 
@@ -102,3 +103,34 @@ reports-word {j} n a h = go (nodeAt j n .kind) refl h
     go plain e h = none-has a h
     go (event b) e h = none-has a h
     go (call set) e h = call-word e h
+
+-- a silent move, whatever the kind of the node
+pub data SilentBy (j : Job) : Place → Place → Type 0 where
+  -- a node with no point is passed
+  by-pass : {n : ℕ} → pointOf (nodeAt j n .kind) ≡ no-point → SilentBy j (before n) (past n)
+  -- an edge is taken
+  by-edge : {m n : ℕ} → leads j m n ≡ true → SilentBy j (past m) (before n)
+  -- the word after an exit begins
+  by-exit : {n : ℕ} → nodeAt j n .exit ≡ true → SilentBy j (past n) (ended n)
+
+-- a told move, whatever the kind of the node
+pub data ToldBy (j : Job) : Place → Event → Place → Type 0 where
+  -- the point of a node
+  by-point : {n a : ℕ} → pointOf (nodeAt j n .kind) ≡ point a → ToldBy j (before n) (shadow n a) (past n)
+  -- a symbol of its word set
+  by-words : {n a : ℕ} → has (callSet (nodeAt j n .kind)) a ≡ true → ToldBy j (past n) (word a) (past n)
+  -- a symbol of an after word
+  by-after : {n a : ℕ} → nodeAt j n .exit ≡ true → has (nodeAt j n .after) a ≡ true → ToldBy j (ended n) (word a) (ended n)
+
+-- every silent move is one of these
+pub silent-by : {j : Job} {x y : Place} → Silent j x y → SilentBy j x y
+silent-by (pass-plain e) = by-pass (plain-none e)
+silent-by (begin-word e) = by-pass (call-none e)
+silent-by (take-edge l) = by-edge l
+silent-by (begin-after e) = by-exit e
+
+-- and every told move
+pub told-by : {j : Job} {x y : Place} {e : Event} → Told j x e y → ToldBy j x e y
+told-by (report e) = by-point (point-own e)
+told-by (call-word {a = a} e h) = by-words (call-has a e h)
+told-by (after-word e h) = by-after e h

@@ -9,14 +9,14 @@ use Prim.Native.Nat.{ℕ}
 use Rattle.laws.specs.Bits.{has}
 use Rattle.automaton.specs.Automaton.{Automaton, next, final}
 use Rattle.job.specs.Job.{no-point, point, pointOf, callSet, Job, nodeAt, leads, WellFormedJob}
-use Rattle.job.specs.Walk.{Event, shadow, Place, before, past, ended, Silent, pass-plain, begin-word, take-edge, begin-after}
-use Rattle.job.specs.Walk.{Told, report, call-word, after-word}
+use Rattle.job.specs.Walk.{Event, shadow, Place, before, past, ended, take-edge, begin-after}
+use Rattle.job.specs.Walk.{after-word}
 use Rattle.job.specs.Plan.{Enabling, stateAt, alarmAt, ApartAt}
 use Rattle.job.specs.Words.{WordApart, apart-here, apart-later, apart-after, NothingMore}
 use Rattle.job.proofs.Pairs.{Pairs, Pair, begins, moves, tells, Admitted, admitted, Kept, Invariant}
 use Rattle.job.proofs.Pairs.{told-splits, apart-now, apart-moved, apart-told, Backwards}
 use Rattle.job.proofs.Bounds.{Within, pair-within}
-use Rattle.job.proofs.KindLaws.{point-some, point-or-none, plain-none, call-none, point-own, call-has, words-none, enters, reports-point, reports-word}
+use Rattle.job.proofs.KindLaws.{point-some, point-or-none, words-none, enters, reports-point, reports-word, SilentBy, by-pass, by-edge, by-exit, silent-by, ToldBy, by-point, by-words, by-after, told-by}
 use Rattle.job.proofs.Rules.{at-admitted}
 
 -- a set of pairs for each node
@@ -166,35 +166,35 @@ module _ {j : Job} {v w : Enabling} {H : Table} where
   node-kept k =
       record {
         starts = at-admitted (placesOf j v w (ReachedIn j v w H)) (λ n q h. (pair-at-start h, k .starts n q h));
-        moved = λ x y p q r m. moved p q m r;
-        told = λ x y e p q r t. told p q t r;
+        moved = λ x y p q r m. moved p q (silent-by m) r;
+        told = λ x y e p q r t. told p q (told-by t) r;
       }
     where
-      moved : {x y : Place} (p q : ℕ) → Silent j x y → placesOf j v w (ReachedIn j v w H) x p q → placesOf j v w (ReachedIn j v w H) y p q
-      moved p q (pass-plain e) h = past-silent (plain-none e) h
-      moved p q (begin-word e) h = past-silent (call-none e) h
-      moved p q (take-edge {m = m} {n = n} l) h = (pair-at-edge (past-map (λ a b r. r .0) h) l, k .edges m n p q h l)
-      moved p q (begin-after e) h = no-word h
+      moved : {x y : Place} (p q : ℕ) → SilentBy j x y → placesOf j v w (ReachedIn j v w H) x p q → placesOf j v w (ReachedIn j v w H) y p q
+      moved p q (by-pass e) h = past-silent e h
+      moved p q (by-edge {m = m} {n = n} l) h = (pair-at-edge (past-map (λ a b r. r .0) h) l, k .edges m n p q h l)
+      moved p q (by-exit e) h = no-word h
 
       told
-          : {x y : Place} {e : Event} (p q : ℕ) → Told j x e y → placesOf j v w (ReachedIn j v w H) x p q
+          : {x y : Place} {e : Event} (p q : ℕ) → ToldBy j x e y → placesOf j v w (ReachedIn j v w H) x p q
           → placesOf j v w (ReachedIn j v w H) y (stateAt (j .rule) v p e) (stateAt (j .rule) w q e)
-      told p q (report e) h = past-event (point-own e) h
-      told p q (call-word {n = n} {a = a} e m) h =
-          let r = past-at-silent (call-none e) h in
-          past-silent (call-none e) (pair-at-word a (call-has a e m) (r .0), k .words n a p q (call-has a e m) r)
-      told p q (after-word {a = a} e m) h = one-more a m h
+      told p q (by-point e) h = past-event e h
+      told p q (by-words {n = n} {a = a} m) h =
+          let none = words-none (nodeAt j n .kind) a m in
+          let r = past-at-silent none h in
+          past-silent none (pair-at-word a m (r .0), k .words n a p q m r)
+      told p q (by-after {a = a} e m) h = one-more a m h
 
   -- an invariant table is an invariant
   pub node-invariant : NodeInvariant j v w H → Invariant j v w (Admitted j) (placesOf j v w (ReachedIn j v w H))
-  node-invariant k = record { kept = node-kept (k .kept); alike = λ x y e p q r t. alike p q t r }
+  node-invariant k = record { kept = node-kept (k .kept); alike = λ x y e p q r t. alike p q (told-by t) r }
     where
       alike
-          : {x y : Place} {e : Event} (p q : ℕ) → Told j x e y → placesOf j v w (ReachedIn j v w H) x p q
+          : {x y : Place} {e : Event} (p q : ℕ) → ToldBy j x e y → placesOf j v w (ReachedIn j v w H) x p q
           → alarmAt (j .rule) v p e ≡ alarmAt (j .rule) w q e
-      alike p q (report {n = n} {a = a} e) h = k .at-point n a p q (point-own e) h
-      alike p q (call-word {n = n} {a = a} e m) h = k .at-call n a p q (call-has a e m) (past-at-silent (call-none e) h)
-      alike p q (after-word {n = n} {a = a} e m) h = k .at-exit n a p q e m h
+      alike p q (by-point {n = n} {a = a} e) h = k .at-point n a p q e h
+      alike p q (by-words {n = n} {a = a} m) h = k .at-call n a p q m (past-at-silent (words-none (nodeAt j n .kind) a m) h)
+      alike p q (by-after {n = n} {a = a} e m) h = k .at-exit n a p q e m h
 
 -- ---- backwards
 
@@ -239,30 +239,29 @@ module _ {j : Job} {v w : Enabling} where
   pub node-backwards : {T : Table} → NodeBackwards j v w T → Backwards j v w (Within j) (placesBack j v w T)
   node-backwards {T} b =
       record {
-        now = λ x p q d s. now p q d (s .told) (s .differ);
-        moving = λ x y p q d m t. moving p q d m t;
-        telling = λ x y e p q d t h. telling p q d t h;
+        now = λ x p q d s. now p q d (told-by (s .told)) (s .differ);
+        moving = λ x y p q d m t. moving p q d (silent-by m) t;
+        telling = λ x y e p q d t h. telling p q d (told-by t) h;
       }
     where
       now
-          : {x y : Place} {e : Event} (p q : ℕ) → Within j x p q → Told j x e y
+          : {x y : Place} {e : Event} (p q : ℕ) → Within j x p q → ToldBy j x e y
           → alarmAt (j .rule) v p e ≡ not (alarmAt (j .rule) w q e) → placesBack j v w T x p q
-      now p q d (report k) f = event-splits (point-own k) f
-      now p q d (call-word {n = n} {a = a} k m) f = b .call-splits n a p q d (call-has a k m) f
-      now p q d (after-word {a = a} k m) f = apart-here a m f
+      now p q d (by-point k) f = event-splits k f
+      now p q d (by-words {n = n} {a = a} m) f = b .call-splits n a p q d m f
+      now p q d (by-after {a = a} k m) f = apart-here a m f
 
-      moving : {x y : Place} (p q : ℕ) → Within j x p q → Silent j x y → placesBack j v w T y p q → placesBack j v w T x p q
-      moving p q d (pass-plain k) t = before-silent (plain-none k) t
-      moving p q d (begin-word k) t = before-silent (call-none k) t
-      moving p q d (take-edge {m = m} {n = n} l) t = b .edges m n p q d l t
-      moving p q d (begin-after {n = n} k) t = b .after-words n p q d k t
+      moving : {x y : Place} (p q : ℕ) → Within j x p q → SilentBy j x y → placesBack j v w T y p q → placesBack j v w T x p q
+      moving p q d (by-pass k) t = before-silent k t
+      moving p q d (by-edge {m = m} {n = n} l) t = b .edges m n p q d l t
+      moving p q d (by-exit {n = n} k) t = b .after-words n p q d k t
 
       telling
-          : {x y : Place} {e : Event} (p q : ℕ) → Within j x p q → Told j x e y
+          : {x y : Place} {e : Event} (p q : ℕ) → Within j x p q → ToldBy j x e y
           → placesBack j v w T y (stateAt (j .rule) v p e) (stateAt (j .rule) w q e) → placesBack j v w T x p q
-      telling p q d (report k) t = before-event (point-own k) t
-      telling p q d (call-word {n = n} {a = a} k m) t = b .call-words n a p q d (call-has a k m) t
-      telling p q d (after-word {a = a} k m) t = apart-later a m t
+      telling p q d (by-point k) t = before-event k t
+      telling p q d (by-words {n = n} {a = a} m) t = b .call-words n a p q d m t
+      telling p q d (by-after {a = a} k m) t = apart-later a m t
 
   -- what tells two states apart before a node
   pub before-apart : {n p q : ℕ} → BeforeNode j v w (λ m. ApartAt j v w (past m)) n p q → ApartAt j v w (before n) p q

@@ -9,8 +9,9 @@ use Prim.Native.Nat.{ℕ, zero, suc, _+_, _≤_}
 use native.Mathlib.Omega.{arith}
 use lib.ListN.{length, set}
 use Rattle.laws.specs.Bounded.{sumBelow}
-use Rattle.job.specs.Job.{isEvent, Job, nodeAt}
-use Rattle.job.specs.Walk.{Event, Place, Told, report, call-word, after-word, Walk, stop, move, tell}
+use Rattle.job.specs.Job.{isPoint, isEvent, Job, nodeAt}
+use Rattle.job.proofs.KindLaws.{ToldBy, by-point, by-words, by-after, told-by}
+use Rattle.job.specs.Walk.{Event, Place, Told, Walk, stop, move, tell}
 use Rattle.job.specs.Plan.{Enabling, full, enables, takes, stateAt, alarmAt, alarms, IsPlan, Faithful}
 use Rattle.job.specs.Planning.{allEnabled, tried, passed, Planned, enabledCount, planned}
 use Rattle.job.specs.Planning.{Tried, removed, needed, disabled, Passed, none, next-node, PassesTo, last, again}
@@ -54,9 +55,12 @@ passes-unique (again p ne h) (again q nf i) =
 pub takes-agree
     : {j : Job} (v w : Enabling) → ((n : ℕ) → isEvent (nodeAt j n .kind) ≡ true → v n ≡ w n) → {x y : Place} {e : Event} → Told j x e y
     → takes v e ≡ takes w e
-takes-agree v w h (report {n} i) = h n (ap isEvent i)
-takes-agree v w h (call-word i m) = refl
-takes-agree v w h (after-word i m) = refl
+takes-agree {j} v w h t = go (told-by t)
+  where
+    go : {x y : Place} {e : Event} → ToldBy j x e y → takes v e ≡ takes w e
+    go (by-point {n = n} i) = h n (ap isPoint i)
+    go (by-words m) = refl
+    go (by-after i m) = refl
 
 -- watches that agree at the event nodes alarm alike on every walk
 pub alarms-agree
