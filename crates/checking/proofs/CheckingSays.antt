@@ -7,14 +7,14 @@ use mathlib.Core.Bool.{Bool, true, false, cond}
 use mathlib.Core.List.{List}
 use Prim.Native.Nat.{ℕ, zero, suc, _+_, _≤_}
 use native.Mathlib.Omega.{arith}
-use lib.Dec.{eqb, ltb}
+use lib.Dec.{eqb, leb, ltb}
 use lib.ListN.{length, getD}
 use borrow.Author.Tests.{ltb-true, ltb-false, leb-true, eqb-true, eqb-false, ne-eqb}
 use Rattle.laws.specs.Bounded.{allBelow}
 use Rattle.laws.proofs.Bounded.{all-at, all-of}
 use Rattle.laws.proofs.Tests.{passes-or-fails}
 use Rattle.callnumber.specs.CallNumber.{acceptedFrom}
-use Rattle.job.specs.Job.{Kind, plain, event, call, Job, nodeAt, WellFormedJob}
+use Rattle.job.specs.Job.{Kind, isEvent, Job, nodeAt, WellFormedJob}
 use Rattle.job.specs.Search.{faithful}
 use Rattle.job.proofs.Decide.{faithful-says, different-says}
 use Rattle.jobfile.specs.File.{Answer, accepted, turned, maxFile, readJob}
@@ -33,22 +33,26 @@ use Rattle.checking.proofs.CheckLaws.{judged-11, judged-12, judged-verd
 
 -- a byte that passes the test is one of those
 good-mark : (k : Kind) (b : ℕ) → goodMark k b ≡ true → MarkFor k b
-good-mark plain b h = subst (λ (x : ℕ). MarkFor plain x) (sym (eqb-true b 0 h)) unwatched
-good-mark (event a) zero h = unwatched
-good-mark (event a) (suc zero) h = watched
-good-mark (event a) (suc (suc b)) h = let small = leb-true (suc (suc b)) 1 h in absurd (omega arith)
-good-mark (call set) b h = subst (λ (x : ℕ). MarkFor (call set) x) (sym (eqb-true b 0 h)) unwatched
+good-mark k b h = go b (isEvent k) refl h
+  where
+    go : (b : ℕ) (e : Bool) → isEvent k ≡ e → cond e (leb b 1) (eqb b 0) ≡ true → MarkFor k b
+    go b false is h = subst (λ (x : ℕ). MarkFor k x) (sym (eqb-true b 0 h)) unwatched
+    go zero true is h = unwatched
+    go (suc zero) true is h = watched is
+    go (suc (suc b)) true is h = let small = leb-true (suc (suc b)) 1 h in absurd (omega arith)
 
 -- and 0 passes everywhere
 zero-good : (k : Kind) → goodMark k 0 ≡ true
-zero-good plain = refl
-zero-good (event a) = refl
-zero-good (call set) = refl
+zero-good k = go (isEvent k)
+  where
+    go : (e : Bool) → cond e (leb 0 1) (eqb 0 0) ≡ true
+    go true = refl
+    go false = refl
 
 -- those pass
 mark-good : {k : Kind} {b : ℕ} → MarkFor k b → goodMark k b ≡ true
 mark-good (unwatched {k}) = zero-good k
-mark-good watched = refl
+mark-good (watched is) = rw is refl
 
 -- ---- verdicts
 

@@ -2,7 +2,7 @@
 -- Assumes nothing.
 use mathlib.Core.Path.{_≡_, refl, sym, _∙_, subst}
 use mathlib.Core.Logic.{⊎-elim}
-use mathlib.Core.Bool.{true, false, true≢false}
+use mathlib.Core.Bool.{true, false}
 use mathlib.Core.List.{List}
 use Prim.Native.Nat.{ℕ, _+_, _≤_, _<_}
 use native.Mathlib.Nat.{eq-or-lt-of-le}
@@ -10,23 +10,18 @@ use native.Mathlib.Omega.{arith}
 use lib.Dec.{eqb, leb}
 use lib.ListN.{length, getD, set}
 use lib.Seq.{getD-set-same, getD-set-other}
-use Rattle.job.specs.Job.{Kind, plain, event, call}
+use Rattle.job.specs.Job.{Kind, isEvent}
 use Rattle.buffer.proofs.KeptLaws.{kept-none, kept-both, kept-set}
-use Rattle.tables.specs.Rows.{isEvent}
 use Rattle.buffer.specs.Layout.{planPart, rulePart, Lent}
 use Rattle.checking.specs.Checking.{goodMark, PlanStored}
 
 -- the byte of a shadow is at most 1
 pub mark-shadow : (k : Kind) (b : ℕ) → isEvent k ≡ true → leb b 1 ≡ goodMark k b
-mark-shadow plain b e = absurd (true≢false (sym e))
-mark-shadow (event a) b e = refl
-mark-shadow (call set) b e = absurd (true≢false (sym e))
+mark-shadow k b e = rw e refl
 
 -- that of any other node is 0
 pub mark-other : (k : Kind) (b : ℕ) → isEvent k ≡ false → eqb b 0 ≡ goodMark k b
-mark-other plain b e = refl
-mark-other (event a) b e = absurd (true≢false e)
-mark-other (call set) b e = refl
+mark-other k b e = rw e refl
 
 -- no byte is stored
 pub plan-none : (plan l : List ℕ) → PlanStored plan l l 0

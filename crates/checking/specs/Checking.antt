@@ -8,7 +8,7 @@ use lib.Dec.{eqb, leb, ltb}
 use lib.ListN.{length, getD}
 use Rattle.laws.specs.Bounded.{allBelow}
 use Rattle.callnumber.specs.CallNumber.{acceptedFrom}
-use Rattle.job.specs.Job.{Kind, plain, event, call, Job, nodeAt}
+use Rattle.job.specs.Job.{Kind, isEvent, Job, nodeAt}
 use Rattle.job.specs.Search.{faithful}
 use Rattle.jobfile.specs.File.{Answer, accepted, turned}
 use Rattle.buffer.specs.Layout.{nodesPart, planPart, rulePart, workSize}
@@ -20,9 +20,7 @@ use Rattle.admission.specs.Admission.{admitted, refusedLeft}
 
 -- a plan byte that a node may have: 0, and 1 at an event node
 abbrev pub goodMark : Kind → ℕ → Bool
-goodMark plain b = eqb b 0
-goodMark (event a) b = leb b 1
-goodMark (call set) b = eqb b 0
+goodMark k b = cond (isEvent k) (leb b 1) (eqb b 0)
 
 -- a byte for each node
 abbrev pub hasLength : Job → List ℕ → Bool

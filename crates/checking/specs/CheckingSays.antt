@@ -3,13 +3,13 @@
 -- Assumes nothing.
 use mathlib.Core.Path.{_≡_}
 use mathlib.Core.Logic.{_↔_}
-use mathlib.Core.Bool.{cond}
+use mathlib.Core.Bool.{true, cond}
 use mathlib.Core.List.{List}
 use Prim.Native.Nat.{ℕ, _+_, _≤_, _<_}
 use lib.Dec.{eqb}
 use lib.ListN.{length, getD}
 use Rattle.callnumber.specs.CallNumber.{acceptedFrom}
-use Rattle.job.specs.Job.{Kind, event, Job, nodeAt}
+use Rattle.job.specs.Job.{Kind, isEvent, Job, nodeAt}
 use Rattle.job.specs.Plan.{enables, Faithful as FaithfulPlan, Different as DifferentPlan}
 use Rattle.jobfile.specs.File.{accepted, maxFile, readJob}
 use Rattle.buffer.specs.Layout.{workSize}
@@ -21,7 +21,7 @@ use Rattle.checking.specs.Checking.{checked, workLeft, verdictNumber}
 -- the bytes that a plan may have: 0 at any node, and 1 at an event node
 pub data MarkFor : Kind → ℕ → Type 0 where
   unwatched : {k : Kind} → MarkFor k 0
-  watched : {a : ℕ} → MarkFor (event a) 1
+  watched : {k : Kind} → isEvent k ≡ true → MarkFor k 1
 
 -- nothing is turned back: file and work buffer have their sizes, the file spells the job, and the plan has a byte for each of its nodes
 pub record Admissible (file plan : List ℕ) (size : ℕ) (j : Job) : Type 0 where

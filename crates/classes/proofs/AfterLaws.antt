@@ -12,7 +12,8 @@ use Rattle.laws.specs.Bytes.{numberAt}
 use Rattle.laws.proofs.Bits.{has-empty}
 use Rattle.automaton.specs.Automaton.{Automaton}
 use Rattle.job.specs.Job.{Node, Job, nodeAt}
-use Rattle.job.specs.Words.{WordApart, apart-here, apart-later}
+use Rattle.job.specs.Words.{WordApart, apart-here, apart-later, apart-after, NothingMore}
+use Rattle.job.proofs.Nodes.{word-map}
 use Rattle.buffer.specs.Layout.{classPart, foundPart}
 use Rattle.buffer.specs.Views.{nodeIn, classRowIn, HeldApart}
 use Rattle.buffer.specs.Kept.{SameOutside}
@@ -20,7 +21,7 @@ use Rattle.buffer.proofs.KeptLaws.{kept-none, kept-both, node-kept}
 use Rattle.tables.specs.Tables.{Zeroed}
 use Rattle.tables.specs.Held.{Usable, JobHeld}
 use Rattle.tables.proofs.JobKeptLaws.{FrontKept, front-kept, front-usable}
-use Rattle.classes.specs.Backwards.{RuleHeld, WordsClosed, AfterWords}
+use Rattle.classes.specs.Backwards.{RuleHeld, RowPairs, WordsClosed, AfterWords}
 use Rattle.classes.proofs.GrownLaws.{class-kept}
 
 -- the symbols of the word after a node; none where it is no exit
@@ -29,10 +30,10 @@ afterSet n = cond (n .exit) (n .after) 0
 
 -- the rows of node n hold what words over its after set tell apart
 pub record WordsHeld (table : List (List ℕ)) (finals states : ℕ) (m : List ℕ) (n set : ℕ) : Type 0 where
-  pub sound : (a : Automaton) → RuleHeld a table finals states → (p q : ℕ) → p < 16 → HeldApart m n p q → WordApart a set p q
+  pub sound : (a : Automaton) → RuleHeld a table finals states → (p q : ℕ) → p < 16 → HeldApart m n p q → WordApart a set NothingMore p q
   pub whole
       : (a : Automaton) → RuleHeld a table finals states → ((s : ℕ) → has set s ≡ true → s < a .symbols)
-      → (p q : ℕ) → p < states → q < states → WordApart a set p q → HeldApart m n p q
+      → (p q : ℕ) → p < states → q < states → WordApart a set NothingMore p q → HeldApart m n p q
 
 -- the nodes below n are done, and the rows of the others are empty
 pub record AfterSoFar (table : List (List ℕ)) (finals states : ℕ) (l m : List ℕ) (n : ℕ) : Type 0 where
@@ -69,6 +70,9 @@ after-more table finals states l m k n set hn s e g = record {
   empty = λ x p h a b. class-kept m k n x p (g .kept) b (λ q. absurd (omega arith)) ∙ s .empty x p (omega arith) a b;
 }
   where
+    empty-after : (x y : ℕ) → RowPairs (classRowIn m n) x y → NothingMore x y
+    empty-after x y h = true≢false (sym (h .1) ∙ ap (λ (v : ℕ). has v y) (s .empty n x (omega arith) hn (h .0)) ∙ has-empty y)
+
     set-is : set ≡ afterSet (nodeIn l n)
     set-is = e ∙ ap (λ (y : Node). afterSet y) (node-before l m (s .kept) n hn)
 
@@ -76,8 +80,8 @@ after-more table finals states l m k n set hn s e g = record {
     done x h =
         by-cases (ℕ-discrete x n)
         (λ (q : x ≡ n). rw (q, ← set-is) (record {
-          sound = λ a r p y b i. g .sound a r (λ z c. s .empty n z (omega arith) hn c) p y b i;
-          whole = g .whole;
+          sound = λ a r p y b i. word-map (λ k l h. empty-after k l h) (g .sound a r p y b i);
+          whole = λ a r u p y b c w. g .whole a r u p y b c (word-map (λ k l h. absurd h) w);
         }))
         (λ (ne : x ≢ n).
         let old = s .done x (omega arith) in
@@ -89,17 +93,18 @@ after-more table finals states l m k n set hn s e g = record {
         })
 
 -- no word over the empty set tells states apart
-pub no-words : (a : Automaton) (p q : ℕ) → WordApart a 0 p q → ⊥
+pub no-words : (a : Automaton) (p q : ℕ) → WordApart a 0 NothingMore p q → ⊥
 no-words a p q (apart-here s h d) = true≢false (sym h ∙ has-empty s)
 no-words a p q (apart-later s h w) = true≢false (sym h ∙ has-empty s)
+no-words a p q (apart-after h) = h
 
 -- what the words of a node tell apart, those after an exit do
-pub exit-words : (a : Automaton) (p q : ℕ) (n : Node) → WordApart a (afterSet n) p q → (n .exit ≡ true) × WordApart a (n .after) p q
+pub exit-words : (a : Automaton) (p q : ℕ) (n : Node) → WordApart a (afterSet n) NothingMore p q → (n .exit ≡ true) × WordApart a (n .after) NothingMore p q
 exit-words a p q n w = go (n .exit) refl
   where
-    go : (b : Bool) → n .exit ≡ b → (n .exit ≡ true) × WordApart a (n .after) p q
-    go true e = (e, subst (λ (v : Bool). WordApart a (cond v (n .after) 0) p q) e w)
-    go false e = absurd (no-words a p q (subst (λ (v : Bool). WordApart a (cond v (n .after) 0) p q) e w))
+    go : (b : Bool) → n .exit ≡ b → (n .exit ≡ true) × WordApart a (n .after) NothingMore p q
+    go true e = (e, subst (λ (v : Bool). WordApart a (cond v (n .after) 0) NothingMore p q) e w)
+    go false e = absurd (no-words a p q (subst (λ (v : Bool). WordApart a (cond v (n .after) 0) NothingMore p q) e w))
 
 -- the rule of a job that is held
 pub job-rule
@@ -116,13 +121,13 @@ after-end table finals states nodes o l m n few all z s = record {
   exact = λ j h. record {
     sound = λ k p q a b i.
         exit-words (j .rule) p q (nodeAt j k)
-        (subst (λ (v : ℕ). WordApart (j .rule) v p q) (set-is j h k a) (s .done k (omega arith) .sound (j .rule) (job-rule h) p q b i));
+        (subst (λ (v : ℕ). WordApart (j .rule) v NothingMore p q) (set-is j h k a) (s .done k (omega arith) .sound (j .rule) (job-rule h) p q b i));
     whole = λ k p q a b c x w.
         let is-after : afterSet (nodeIn l k) ≡ nodeAt j k .after = set-is j h k a ∙ ap (λ (v : Bool). cond v (nodeAt j k .after) 0) x in
         s .done k (omega arith) .whole (j .rule) (job-rule h)
         (λ y i. h .formed .afters k y (subst (λ (v : ℕ). has v y ≡ true) is-after i)) p q
         (omega (arith, h .states-are)) (omega (arith, h .states-are))
-        (subst (λ (v : ℕ). WordApart (j .rule) v p q) (sym is-after) w);
+        (subst (λ (v : ℕ). WordApart (j .rule) v NothingMore p q) (sym is-after) w);
   };
 }
   where

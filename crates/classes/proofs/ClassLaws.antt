@@ -16,24 +16,24 @@ use Rattle.laws.specs.Bits.{has}
 use Rattle.laws.proofs.Tests.{passes-or-fails, or-passes, or-left, or-right}
 use Rattle.laws.proofs.Bits.{has-or, has-empty}
 use Rattle.automaton.specs.Automaton.{cell, next, final}
-use Rattle.job.specs.Job.{Kind, plain, event, call, Node, Job, nodeAt, leads}
-use Rattle.job.specs.Walk.{past, take-edge, begin-after, report, call-word}
-use Rattle.job.specs.Plan.{full}
-use Rattle.job.proofs.Pairs.{ApartAt, told-splits, apart-now, apart-moved, apart-told}
-use Rattle.job.proofs.Bounds.{Within, told-symbol}
-use Rattle.job.proofs.Decide.{apart-at}
+use Rattle.job.specs.Job.{Point, no-point, point, pointOf, callSet, isPoint, isEvent, Node, Job, nodeAt, leads}
+use Rattle.job.specs.Walk.{past, take-edge, begin-after}
+use Rattle.job.specs.Plan.{full, ApartAt}
+use Rattle.job.proofs.Pairs.{told-splits, apart-now, apart-moved, apart-told}
+use Rattle.job.proofs.Bounds.{Within}
 use Rattle.job.proofs.Rules.{apart-true, apart-false}
-use Rattle.job.proofs.Nodes.{NoEvent, plain-no-event, call-no-event, BeforeNode, before-silent, before-event, event-splits}
+use Rattle.job.proofs.KindLaws.{point-some, reports-word}
+use Rattle.job.proofs.Nodes.{BeforeNode, before-silent, before-event, event-splits}
 use Rattle.job.proofs.Nodes.{NodeBackwards, node-backwards, before-apart, word-apart}
 use Rattle.buffer.specs.Layout.{startsPart, targetsPart, classPart, foundPart}
 use Rattle.buffer.specs.Views.{nodeIn, startIn, targetIn, classRowIn, EdgeIn, HeldApart}
 use Rattle.buffer.specs.Kept.{SameOutside}
 use Rattle.buffer.proofs.KeptLaws.{kept-none, kept-both, number-kept}
-use Rattle.tables.specs.Rows.{CellsBelow, unlikeStates, preimageOf, callSet, isEvent}
+use Rattle.tables.specs.Rows.{CellsBelow, unlikeStates, preimageOf}
 use Rattle.tables.specs.Tables.{apartLeft, ApartGrown}
 use Rattle.tables.specs.Held.{EdgesWithin, Usable, JobHeld, AfterHeld}
 use Rattle.classes.specs.Backwards.{apartBy, wordRow, ClassesFound}
-use Rattle.classes.specs.Classes.{beforeKind, beforeRow, ApartNext, NextRow, ApartBack, ClosedBack, AllApart, NodeGrown, ClassesGrown}
+use Rattle.classes.specs.Classes.{beforePoint, beforeRow, ApartNext, NextRow, ApartBack, ClosedBack, AllApart, NodeGrown, ClassesGrown}
 use Rattle.tables.proofs.RowLaws.{has-preimage}
 use Rattle.classes.proofs.GrownLaws.{RowsGrown, rows-more}
 use Rattle.classes.proofs.WordLaws.{has-word-row, apart-by-cases, apart-by-unlike, apart-by-rows}
@@ -113,28 +113,26 @@ module _ {l m : List ℕ} (s : SameOutside l m classPart foundPart) where
 -- at a shadow
 pub before-shadow
     : (table : List (List ℕ)) (finals states : ℕ) (work : List ℕ) (m p a state row unlike r : ℕ) → isEvent (nodeIn work m .kind) ≡ true
-    → ((x : ℕ) → nodeIn work m .kind ≡ event x → a ≡ x % 16) → state ≡ cell table p a → row ≡ classRowIn work m state
+    → ((x : ℕ) → pointOf (nodeIn work m .kind) ≡ point x → a ≡ x % 16) → state ≡ cell table p a → row ≡ classRowIn work m state
     → unlike ≡ unlikeStates finals state → r ≡ preimageOf table states a (bitOr row unlike) → r ≡ beforeRow table finals states work m p
 unfolding beforeRow
 before-shadow table finals states work m p a state row unlike r is symbol to row-is unlike-is r-is =
-    go (nodeIn work m .kind) is symbol
+    go (pointOf (nodeIn work m .kind)) is symbol
   where
-    go : (k : Kind) → isEvent k ≡ true → ((x : ℕ) → k ≡ event x → a ≡ x % 16) → r ≡ beforeKind table finals states (classRowIn work m) p k
-    go plain e f = absurd (false≢true e)
-    go (event x) e f = rw (← f x refl, ← to, ← row-is, ← unlike-is) r-is
-    go (call set) e f = absurd (false≢true e)
+    go : (k : Point) → isPoint k ≡ true → ((x : ℕ) → k ≡ point x → a ≡ x % 16) → r ≡ beforePoint table finals states (classRowIn work m) p k
+    go no-point e f = absurd (false≢true e)
+    go (point x) e f = rw (← f x refl, ← to, ← row-is, ← unlike-is) r-is
 
 -- at any other node
 pub before-other
     : (table : List (List ℕ)) (finals states : ℕ) (work : List ℕ) (m p r : ℕ) → isEvent (nodeIn work m .kind) ≡ false
     → r ≡ classRowIn work m p → r ≡ beforeRow table finals states work m p
 unfolding beforeRow
-before-other table finals states work m p r is r-is = go (nodeIn work m .kind) is
+before-other table finals states work m p r is r-is = go (pointOf (nodeIn work m .kind)) is
   where
-    go : (k : Kind) → isEvent k ≡ false → r ≡ beforeKind table finals states (classRowIn work m) p k
-    go plain e = r-is
-    go (event x) e = absurd (true≢false e)
-    go (call set) e = r-is
+    go : (k : Point) → isPoint k ≡ false → r ≡ beforePoint table finals states (classRowIn work m) p k
+    go no-point e = r-is
+    go (point x) e = absurd (true≢false e)
 
 -- ---- the row of the successors
 
@@ -192,12 +190,6 @@ next-end table finals states work n p i out s h q = (
 
 -- ---- steps back tell apart
 
--- a kind with symbols of a call is that call
-pub call-of : (k : Kind) (s : ℕ) → has (callSet k) s ≡ true → k ≡ call (callSet k)
-call-of plain s h = absurd (true≢false (sym h ∙ has-empty s))
-call-of (event a) s h = absurd (true≢false (sym h ∙ has-empty s))
-call-of (call set) s h = refl
-
 -- the full monitor on both sides
 abbrev pub ApartPast : Job → ℕ → ℕ → ℕ → Type 0
 ApartPast j n p q = ApartAt j full full (past n) p q
@@ -206,8 +198,8 @@ module _
     {j : Job} {work : List ℕ} {table : List (List ℕ)} {finals states nodes : ℕ} (h : JobHeld j work table finals states nodes)
     (below : CellsBelow table) where
   -- the symbol of an event node is below 16
-  pub event-small : (n a : ℕ) → nodeAt j n .kind ≡ event a → a < 16
-  event-small n a e = omega (arith, told-symbol (h .formed) (report e), h .formed .rule .few-symbols)
+  pub event-small : (n a : ℕ) → pointOf (nodeAt j n .kind) ≡ point a → a < 16
+  event-small n a e = omega (arith, h .formed .kinds n .point-below a e, h .formed .rule .few-symbols)
 
   -- the cells of two states, as the rule has them
   module _ (a p q : ℕ) (ha : a < 16) (hp : p < 16) (hq : q < 16) where
@@ -239,13 +231,12 @@ module _
       : (n : ℕ) (rows : ℕ → ℕ) (s p q : ℕ) → s < 16 → p < 16 → q < 16 → has (callSet (nodeAt j n .kind)) s ≡ true
       → ((x y : ℕ) → x < 16 → has (rows x) y ≡ true → ApartPast j n x y) → apartBy table finals rows s p q ≡ true → ApartPast j n p q
   apart-by-call n rows s p q hs hp hq m rest t =
-      let is-call = call-of (nodeAt j n .kind) s m in
       ⊎-elim
       (λ (e : has (rows (cell table p s)) (cell table q s) ≡ true).
-      apart-told (call-word is-call m)
+      apart-told (reports-word n s m)
       (pair-next s p q hs hp hq (ApartPast j n) (rest (cell table p s) (cell table q s) (below p s hp hs) e)))
       (λ (d : has finals (cell table p s) ≡ not (has finals (cell table q s))).
-      apart-now (told-splits (call-word is-call m) (differ-next s p q hs hp hq d)))
+      apart-now (told-splits (reports-word n s m) (differ-next s p q hs hp hq d)))
       (apart-by-cases table finals rows s p q (below q s hq hs) t)
 
   -- what the row before a node tells apart
@@ -254,14 +245,13 @@ module _
       → ((x y : ℕ) → x < 16 → HeldApart w n x y → ApartPast j n x y) → has (beforeRow table finals states w n p) q ≡ true
       → BeforeNode j full full (λ m. ApartPast j m) n p q
   unfolding beforeRow
-  before-row-sound w n p q same hp few rest t = go (nodeAt j n .kind) refl (rw same at t)
+  before-row-sound w n p q same hp few rest t = go (pointOf (nodeAt j n .kind)) refl (rw same at t)
     where
       go
-          : (k : Kind) → nodeAt j n .kind ≡ k → has (beforeKind table finals states (classRowIn w n) p k) q ≡ true
+          : (k : Point) → pointOf (nodeAt j n .kind) ≡ k → has (beforePoint table finals states (classRowIn w n) p k) q ≡ true
           → BeforeNode j full full (λ m. ApartPast j m) n p q
-      go plain e f = before-silent (plain-no-event e) (rest p q hp f)
-      go (call set) e f = before-silent (call-no-event e) (rest p q hp f)
-      go (event a) e f =
+      go no-point e f = before-silent e (rest p q hp f)
+      go (point a) e f =
           let small = event-small n a e in
           let is : a % 16 ≡ a = mod-eq-of-lt small in
           let both =
@@ -284,23 +274,22 @@ module _
   unfolding beforeRow
   before-row-whole w n p q same hp hq few t = rw same (go t)
     where
-      -- the row, by the kind of the node
-      Row : Kind → Type 0
-      Row k = has (beforeKind table finals states (classRowIn w n) p k) q ≡ true
+      -- the row, by the point of the node
+      Row : Point → Type 0
+      Row k = has (beforePoint table finals states (classRowIn w n) p k) q ≡ true
 
-      silent : (k : Kind) → NoEvent k → HeldApart w n p q → Row k
-      silent plain s f = f
-      silent (call set) s f = f
-      silent (event a) s f = absurd (s a refl)
+      silent : (k : Point) → k ≡ no-point → HeldApart w n p q → Row k
+      silent no-point s f = f
+      silent (point a) s f = absurd (point-some refl s)
 
-      at-event : (a : ℕ) → a < 16 → apartBy table finals (classRowIn w n) a p q ≡ true → Row (event a)
+      at-event : (a : ℕ) → a < 16 → apartBy table finals (classRowIn w n) a p q ≡ true → Row (point a)
       at-event a small f =
           rw (mod-eq-of-lt small)
           (has-preimage table states a (bitOr (classRowIn w n (cell table p a)) (unlikeStates finals (cell table p a))) q
           ∙ and-eq-true-iff (ltb q states) (apartBy table finals (classRowIn w n) a p q) .1 (lt-ltb q states hq, f))
 
-      go : BeforeNode j full full (HeldApart w) n p q → Row (nodeAt j n .kind)
-      go (before-silent s f) = silent (nodeAt j n .kind) s f
+      go : BeforeNode j full full (HeldApart w) n p q → Row (pointOf (nodeAt j n .kind))
+      go (before-silent s f) = silent (pointOf (nodeAt j n .kind)) s f
       go (before-event {a = a} e f) =
           let small = event-small n a e in
           subst Row (sym e)
@@ -378,13 +367,12 @@ node-end table finals states l m n set grown p hn few below within set-is g all 
   kept = g .kept;
   held = g .held;
   sound = λ j nodes h a many old k x y b c d.
-      apart-at .1
-      (g .sound j
+      g .sound j
       (λ w s rest r q e f v.
       back-sound h below w n set a many few within set-is (kept-part l w n hn s)
       (λ i u z o i-small t. rest i u z (omega arith) i-small t (rw (h .nodes-are) at o)) r q e f)
-      (λ i u z o i-small t v. apart-at .0 (old i u z (rw (h .nodes-are) v) i-small t))
-      k x y (omega arith) c d (rw (h .nodes-are) at b));
+      (λ i u z o i-small t v. old i u z (rw (h .nodes-are) v) i-small t)
+      k x y (omega arith) c d (rw (h .nodes-are) at b);
   none = g .none;
   closed = λ e x y a b. g .closed e x y (omega arith) (subst (λ (v : ℕ). ApartBack table finals states l n v x y) (sym set-is) b);
   left = g .left;
@@ -481,7 +469,7 @@ growing-more table finals states nodes l m k grown new u s g = record {
 pub after-apart : (j : Job) (l : List ℕ) (nodes : ℕ) → AfterHeld j l nodes → AllApart j nodes l
 after-apart j l nodes a n p q h b e =
     let r = a .sound n p q h b e in
-    apart-at .1 (apart-moved (begin-after (r .0)) (word-apart (r .0) (r .1)))
+    apart-moved (begin-after (r .0)) (word-apart (λ k l h. absurd h) (r .0) (r .1))
 
 -- rows that are closed and hold the after words are closed backwards
 pub closed-nodes
@@ -499,15 +487,15 @@ closed-nodes table finals states nodes l m j u kept old a held closed = record {
         edge = h .edges x n (in-nodes x (r .node)) .0 e;
         apart = before-row-whole h (u .cells) m n p q (h .node n there) (small p (r .one)) (in-states q (r .other)) (u .few-states) t;
       }));
-  call-splits = λ n set s p q r e i d.
-      let below = symbol-small n set s e i in
-      by-call n set s p q r e i
+  call-splits = λ n s p q r i d.
+      let below = symbol-small n s i in
+      by-call n s p q r i
       (apart-by-unlike table finals (classRowIn m n) s p q (u .cells q s (small q (r .other)) below)
       (differ-cells h (u .cells) s p q below (small p (r .one)) (small q (r .other)) d));
-  call-words = λ n set s p q r e i t.
-      by-call n set s p q r e i
+  call-words = λ n s p q r i t.
+      by-call n s p q r i
       (apart-by-rows table finals (classRowIn m n) s p q
-      (pair-cells h (u .cells) s p q (symbol-small n set s e i) (small p (r .one)) (small q (r .other)) (HeldApart m n) t));
+      (pair-cells h (u .cells) s p q (symbol-small n s i) (small p (r .one)) (small q (r .other)) (HeldApart m n) t));
   after-words = λ n p q r e t.
       held n p q (omega (arith, in-nodes n (r .node), u .few-nodes)) (small p (r .one))
       (a .whole n p q (in-nodes n (r .node)) (r .one) (r .other) e t);
@@ -525,19 +513,19 @@ closed-nodes table finals states nodes l m j u kept old a held closed = record {
     small : (p : ℕ) → p < j .rule .states → p < 16
     small p b = omega (arith, old .states-are, u .few-states)
 
-    symbol-small : (n set s : ℕ) → nodeAt j n .kind ≡ call set → has set s ≡ true → s < 16
-    symbol-small n set s e i = omega (arith, told-symbol (old .formed) (call-word e i), old .formed .rule .few-symbols)
+    symbol-small : (n s : ℕ) → has (callSet (nodeAt j n .kind)) s ≡ true → s < 16
+    symbol-small n s i = omega (arith, old .formed .kinds n .words-below s i, old .formed .rule .few-symbols)
 
     by-call
-        : (n set s p q : ℕ) → Within j (past n) p q → nodeAt j n .kind ≡ call set → has set s ≡ true
+        : (n s p q : ℕ) → Within j (past n) p q → has (callSet (nodeAt j n .kind)) s ≡ true
         → apartBy table finals (classRowIn m n) s p q ≡ true → HeldApart m n p q
-    by-call n set s p q r e i f =
-        let is : callSet (nodeIn m n .kind) ≡ set =
-        ap (λ (y : Node). callSet (y .kind)) (h .node n (in-nodes n (r .node))) ∙ ap (λ (k : Kind). callSet k) e in
+    by-call n s p q r i f =
+        let is : callSet (nodeIn m n .kind) ≡ callSet (nodeAt j n .kind) =
+        ap (λ (y : Node). callSet (y .kind)) (h .node n (in-nodes n (r .node))) in
         closed n (in-nodes n (r .node)) p q (in-states p (r .one))
         (inl
         (has-word-row table finals states (classRowIn m n) (callSet (nodeIn m n .kind)) p q .1
-        (in-states q (r .other), s, symbol-small n set s e i, ap (λ (x : ℕ). has x s) is ∙ i, f)))
+        (in-states q (r .other), s, symbol-small n s i, ap (λ (x : ℕ). has x s) is ∙ i, f)))
 
 -- no row has grown
 pub growing-end
@@ -552,7 +540,7 @@ growing-end table finals states nodes l m grown u s z = record {
       (λ (e : has (classRowIn m n p) q ≡ true).
       e
       ∙ sym
-      (apart-true (h .formed) n p q node hp hq (apart-at .0 (s .sound j h (after-apart j l nodes a) n p q hn small e))))
+      (apart-true (h .formed) n p q node hp hq (s .sound j h (after-apart j l nodes a) n p q hn small e)))
       (λ (e : has (classRowIn m n p) q ≡ false).
       e
       ∙ sym

@@ -18,7 +18,7 @@ use Rattle.laws.proofs.Bounded.{any-at, any-of}
 use Rattle.laws.proofs.Bits.{same-set, has-or, has-empty}
 use Rattle.laws.proofs.Walk.{Rest, rest-start, rest-from, rest-low, rest-lt, rest-none, rest-next, rest-done}
 use Rattle.automaton.specs.Automaton.{Automaton, cell, next}
-use Rattle.job.specs.Words.{WordApart, apart-here, apart-later}
+use Rattle.job.specs.Words.{WordApart, apart-here, apart-later, apart-after}
 use Rattle.job.specs.Search.{unlike}
 use Rattle.job.specs.Found.{setOf}
 use Rattle.job.proofs.FoundLaws.{has-set-of}
@@ -28,7 +28,7 @@ use Rattle.buffer.specs.Kept.{SameOutside}
 use Rattle.buffer.proofs.KeptLaws.{kept-none, kept-both}
 use Rattle.tables.specs.Rows.{CellsBelow, unlikeStates, preimageOf}
 use Rattle.tables.specs.Tables.{ApartGrown}
-use Rattle.classes.specs.Backwards.{RuleHeld, apartBy, wordRow, WordsGrown, WordsClosed}
+use Rattle.classes.specs.Backwards.{RuleHeld, apartBy, wordRow, RowPairs, WordsGrown, WordsClosed}
 use Rattle.tables.proofs.RowLaws.{has-unlike, has-preimage}
 use Rattle.classes.proofs.GrownLaws.{AllHeld, RowsGrown, rows-more}
 
@@ -179,9 +179,9 @@ unlike-says false false = (λ e. absurd (false≢true e), λ e. absurd (false≢
 abbrev pub WordPairs : List (List ℕ) → ℕ → ℕ → ℕ → ℕ → List ℕ → ℕ → ℕ → Type 0
 WordPairs table finals states n set w p q = has (wordRow table finals states (classRowIn w n) set p) q ≡ true
 
--- at node n, some word over the set tells the pair apart
-abbrev pub WordsAt : ℕ → ℕ → Automaton → ℕ → ℕ → ℕ → Type 0
-WordsAt n set a k p q = k ≡ n → WordApart a set p q
+-- at node n, some word over the set and the rows after it tell the pair apart
+abbrev pub WordsAt : ℕ → ℕ → Automaton × (ℕ → ℕ) → ℕ → ℕ → ℕ → Type 0
+WordsAt n set i k p q = k ≡ n → WordApart (i .0) set (RowPairs (i .1)) p q
 
 -- a symbol tells two states apart by what follows it, or at once
 pub apart-by-cases
@@ -200,26 +200,27 @@ apart-by-cases table finals rows s p q small h =
 module _ {a : Automaton} {table : List (List ℕ)} {finals states : ℕ} (r : RuleHeld a table finals states) (below : CellsBelow table) where
   -- what a symbol of the set tells apart
   pub apart-by-words
-      : (set : ℕ) (rows : ℕ → ℕ) (s p q : ℕ) → s < 16 → p < 16 → q < 16 → has set s ≡ true
-      → ((k l : ℕ) → k < 16 → has (rows k) l ≡ true → WordApart a set k l) → apartBy table finals rows s p q ≡ true → WordApart a set p q
-  apart-by-words set rows s p q hs hp hq m held h =
+      : (set : ℕ) (More : ℕ → ℕ → Type 0) (rows : ℕ → ℕ) (s p q : ℕ) → s < 16 → p < 16 → q < 16 → has set s ≡ true
+      → ((k l : ℕ) → k < 16 → has (rows k) l ≡ true → WordApart a set More k l) → apartBy table finals rows s p q ≡ true
+      → WordApart a set More p q
+  apart-by-words set More rows s p q hs hp hq m held h =
       ⊎-elim
       (λ (e : has (rows (cell table p s)) (cell table q s) ≡ true).
-      let w : WordApart a set (cell table p s) (cell table q s) = held (cell table p s) (cell table q s) (below p s hp hs) e in
+      let w : WordApart a set More (cell table p s) (cell table q s) = held (cell table p s) (cell table q s) (below p s hp hs) e in
       apart-later s m
-      (subst (λ (x : ℕ). WordApart a set x (next a q s)) (r .cells p s hp hs)
-      (subst (λ (x : ℕ). WordApart a set (cell table p s) x) (r .cells q s hq hs) w)))
+      (subst (λ (x : ℕ). WordApart a set More x (next a q s)) (r .cells p s hp hs)
+      (subst (λ (x : ℕ). WordApart a set More (cell table p s) x) (r .cells q s hq hs) w)))
       (λ (d : has finals (cell table p s) ≡ not (has finals (cell table q s))).
       apart-here s m (rw (r .finals-are, r .cells p s hp hs, r .cells q s hq hs) at d))
       (apart-by-cases table finals rows s p q (below q s hq hs) h)
 
   -- a row of words is right where the rows that it reads are
   pub word-row-sound
-      : (n set : ℕ) (w : List ℕ) → n < 512 → states ≤ 16 → AllHeld (WordsAt n set a) w → (p q : ℕ) → p < 16
-      → WordPairs table finals states n set w p q → WordsAt n set a n p q
-  word-row-sound n set w hn hs all p q hp h e =
+      : (n set : ℕ) (more : ℕ → ℕ) (w : List ℕ) → n < 512 → states ≤ 16 → AllHeld (WordsAt n set (a, more)) w → (p q : ℕ) → p < 16
+      → WordPairs table finals states n set w p q → WordsAt n set (a, more) n p q
+  word-row-sound n set more w hn hs all p q hp h e =
       let m = has-word-row table finals states (classRowIn w n) set p q .0 h in
-      apart-by-words set (classRowIn w n) (m .1) p q (m .2) hp (omega (arith, m .0)) (m .3) (λ k l b x. all n k l hn b x refl) (m .4)
+      apart-by-words set (RowPairs more) (classRowIn w n) (m .1) p q (m .2) hp (omega (arith, m .0)) (m .3) (λ k l b x. all n k l hn b x refl) (m .4)
 
 -- one row more
 pub round-more
@@ -239,8 +240,8 @@ pub round-end
 round-end table finals states l m n set grown p hn hs below g all = record {
   kept = g .kept;
   held = λ x y h e. g .held n x y hn h e;
-  sound = λ a r old x y h e.
-      g .sound a (λ w k at-all. word-row-sound r below n set w hn hs at-all) (λ k b c d f v i. old b c f (subst (λ (z : ℕ). HeldApart l z b c) i v))
+  sound = λ a more r old x y h e.
+      g .sound (a, more) (λ w k at-all. word-row-sound r below n set more w hn hs at-all) (λ k b c d f v i. old b c f (subst (λ (z : ℕ). HeldApart l z b c) i v))
       n x y hn h e refl;
   closed = λ e x y h f.
       subst (λ (w : List ℕ). HeldApart w n x y) (sym (g .none e))
@@ -254,8 +255,9 @@ round-end table finals states l m n set grown p hn hs below g all = record {
 pub record ClosingWords (table : List (List ℕ)) (finals states : ℕ) (l m : List ℕ) (n set grown : ℕ) : Type 0 where
   pub kept : SameOutside l m (classPart + n * 32) (classPart + n * 32 + 32)
   pub sound
-      : (a : Automaton) → RuleHeld a table finals states → ((p : ℕ) → p < 16 → classRowIn l n p ≡ 0)
-      → (p q : ℕ) → p < 16 → HeldApart m n p q → WordApart a set p q
+      : (a : Automaton) → RuleHeld a table finals states → (p q : ℕ) → p < 16 → HeldApart m n p q
+      → WordApart a set (RowPairs (classRowIn l n)) p q
+  pub held : (p q : ℕ) → p < 16 → HeldApart l n p q → HeldApart m n p q
   pub closed : grown ≡ 0 → (p q : ℕ) → p < states → WordPairs table finals states n set m p q → HeldApart m n p q
 
 -- no word over the empty set tells anything apart
@@ -269,7 +271,8 @@ no-words table finals states n set m p q e w =
 pub closing-start : (table : List (List ℕ)) (finals states : ℕ) (l : List ℕ) (n set : ℕ) → ClosingWords table finals states l l n set set
 closing-start table finals states l n set = record {
   kept = kept-none l (classPart + n * 32) (classPart + n * 32 + 32);
-  sound = λ a r none p q h m. absurd (true≢false (sym m ∙ ap (λ (x : ℕ). has x q) (none p h) ∙ has-empty q));
+  sound = λ a r p q h m. apart-after (h, m);
+  held = λ p q h m. m;
   closed = λ e p q h w. absurd (no-words table finals states n set l p q e w);
 }
 
@@ -280,7 +283,8 @@ pub closing-more
 closing-more table finals states l m k n set grown new s g = record {
   kept = kept-both l m k (classPart + n * 32) (classPart + n * 32 + 32) (classPart + n * 32) (classPart + n * 32 + 32) (s .kept) (g .kept)
       (omega arith) (omega arith);
-  sound = λ a r none p q h m. g .sound a r (s .sound a r none) p q h m;
+  sound = λ a r p q h m. g .sound a (classRowIn l n) r (s .sound a r) p q h m;
+  held = λ p q h m. g .held p q h (s .held p q h m);
   closed = g .closed;
 }
 
@@ -304,12 +308,12 @@ apart-by-rows table finals rows s p q h =
 
 -- rows that are closed hold what words tell apart
 pub words-whole
-    : (table : List (List ℕ)) (finals states : ℕ) (m : List ℕ) (n set : ℕ) (a : Automaton) → RuleHeld a table finals states
-    → CellsBelow table → states ≤ 16
+    : (table : List (List ℕ)) (finals states : ℕ) (more : ℕ → ℕ) (m : List ℕ) (n set : ℕ) (a : Automaton) → RuleHeld a table finals states
+    → CellsBelow table → states ≤ 16 → ((p q : ℕ) → RowPairs more p q → HeldApart m n p q)
     → ((s : ℕ) → has set s ≡ true → s < a .symbols)
     → ((p q : ℕ) → p < states → WordPairs table finals states n set m p q → HeldApart m n p q)
-    → (p q : ℕ) → p < states → q < states → WordApart a set p q → HeldApart m n p q
-words-whole table finals states m n set a r below few symbols closed p q hp hq (apart-here s h d) =
+    → (p q : ℕ) → p < states → q < states → WordApart a set (RowPairs more) p q → HeldApart m n p q
+words-whole table finals states more m n set a r below few after symbols closed p q hp hq (apart-here s h d) =
     closed p q hp
     (has-word-row table finals states (classRowIn m n) set p q .1 (
       hq,
@@ -322,7 +326,7 @@ words-whole table finals states m n set a r below few symbols closed p q hp hq (
   where
     hs : s < 16
     hs = omega (arith, symbols s h, r .formed .few-symbols)
-words-whole table finals states m n set a r below few symbols closed p q hp hq (apart-later s h w) =
+words-whole table finals states more m n set a r below few after symbols closed p q hp hq (apart-later s h w) =
     closed p q hp
     (has-word-row table finals states (classRowIn m n) set p q .1 (
       hq,
@@ -331,7 +335,7 @@ words-whole table finals states m n set a r below few symbols closed p q hp hq (
       h,
       apart-by-rows table finals (classRowIn m n) s p q
           (rw (r .cells p s (omega arith) hs, r .cells q s (omega arith) hs)
-          (words-whole table finals states m n set a r below few symbols closed (next a p s) (next a q s)
+          (words-whole table finals states more m n set a r below few after symbols closed (next a p s) (next a q s)
           (leads-below p hp) (leads-below q hq) w)),
     ))
   where
@@ -340,6 +344,7 @@ words-whole table finals states m n set a r below few symbols closed p q hp hq (
 
     leads-below : (x : ℕ) → x < states → next a x s < states
     leads-below x l = omega (arith, r .formed .next-below x s (omega (arith, r .states-are)) (symbols s h), r .states-are)
+words-whole table finals states more m n set a r below few after symbols closed p q hp hq (apart-after h) = after p q h
 
 -- no row has grown
 pub closing-end
@@ -348,5 +353,6 @@ pub closing-end
 closing-end table finals states l m n set grown below few s e = record {
   kept = s .kept;
   sound = s .sound;
-  whole = λ a r symbols p q hp hq w. words-whole table finals states m n set a r below few symbols (s .closed e) p q hp hq w;
+  whole = λ a r symbols p q hp hq w.
+      words-whole table finals states (classRowIn l n) m n set a r below few (λ x y h. s .held x y (h .0) (h .1)) symbols (s .closed e) p q hp hq w;
 }

@@ -36,25 +36,30 @@ apartBy table finals rows a p q = has (bitOr (rows (cell table p a)) (unlikeStat
 unfoldable pub wordRow : List (List ℕ) → ℕ → ℕ → (ℕ → ℕ) → ℕ → ℕ → ℕ
 wordRow table finals states rows set p = setOf states (λ q. anyBelow 16 (λ a. has set a && apartBy table finals rows a p q))
 
+-- the pairs of sixteen rows
+abbrev pub RowPairs : (ℕ → ℕ) → ℕ → ℕ → Type 0
+RowPairs rows p q = (p < 16) × (has (rows p) q ≡ true)
+
 -- one round of words over a set on the rows of node n; grown is the number of rows that grew
 pub record WordsGrown (table : List (List ℕ)) (finals states : ℕ) (l m : List ℕ) (n set grown : ℕ) : Type 0 where
   pub kept : SameOutside l m (classPart + n * 32) (classPart + n * 32 + 32)
   pub held : (p q : ℕ) → p < 16 → HeldApart l n p q → HeldApart m n p q
   pub sound
-      : (a : Automaton) → RuleHeld a table finals states
-      → ((p q : ℕ) → p < 16 → HeldApart l n p q → WordApart a set p q) → (p q : ℕ) → p < 16 → HeldApart m n p q → WordApart a set p q
+      : (a : Automaton) (more : ℕ → ℕ) → RuleHeld a table finals states
+      → ((p q : ℕ) → p < 16 → HeldApart l n p q → WordApart a set (RowPairs more) p q)
+      → (p q : ℕ) → p < 16 → HeldApart m n p q → WordApart a set (RowPairs more) p q
   pub closed : grown ≡ 0 → (p q : ℕ) → p < states → has (wordRow table finals states (classRowIn m n) set p) q ≡ true → HeldApart m n p q
   pub left : apartLeft m + grown ≤ apartLeft l
 
--- the rows of node n, empty before, hold the states told apart by words over the set
+-- the rows of node n hold the states told apart by words over the set, followed by what the rows held before
 pub record WordsClosed (table : List (List ℕ)) (finals states : ℕ) (l m : List ℕ) (n set : ℕ) : Type 0 where
   pub kept : SameOutside l m (classPart + n * 32) (classPart + n * 32 + 32)
   pub sound
-      : (a : Automaton) → RuleHeld a table finals states → ((p : ℕ) → p < 16 → classRowIn l n p ≡ 0)
-      → (p q : ℕ) → p < 16 → HeldApart m n p q → WordApart a set p q
+      : (a : Automaton) → RuleHeld a table finals states → (p q : ℕ) → p < 16 → HeldApart m n p q
+      → WordApart a set (RowPairs (classRowIn l n)) p q
   pub whole
       : (a : Automaton) → RuleHeld a table finals states → ((s : ℕ) → has set s ≡ true → s < a .symbols)
-      → (p q : ℕ) → p < states → q < states → WordApart a set p q → HeldApart m n p q
+      → (p q : ℕ) → p < states → q < states → WordApart a set (RowPairs (classRowIn l n)) p q → HeldApart m n p q
 
 -- the class rows of all nodes hold the after words of the exits
 pub record AfterWords (table : List (List ℕ)) (finals states nodes : ℕ) (l m : List ℕ) : Type 0 where

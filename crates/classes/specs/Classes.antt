@@ -8,26 +8,25 @@ use Prim.Native.Nat.{ℕ, _+_, _*_, _%_, _≤_, _<_}
 use lib.Bits.{bitOr}
 use Rattle.laws.specs.Bits.{has}
 use Rattle.automaton.specs.Automaton.{cell}
-use Rattle.job.specs.Job.{Kind, plain, event, call, Job}
+use Rattle.job.specs.Job.{Point, no-point, point, pointOf, callSet, Job}
 use Rattle.job.specs.Found.{Apart}
 use Rattle.buffer.specs.Layout.{classPart, foundPart}
 use Rattle.buffer.specs.Views.{nodeIn, classRowIn, EdgeIn, HeldApart}
 use Rattle.buffer.specs.Kept.{SameOutside}
-use Rattle.tables.specs.Rows.{unlikeStates, preimageOf, callSet}
+use Rattle.tables.specs.Rows.{unlikeStates, preimageOf}
 use Rattle.tables.specs.Tables.{apartLeft}
 use Rattle.tables.specs.Held.{JobHeld}
 use Rattle.classes.specs.Backwards.{wordRow}
 
--- the states told apart from p before a node of this kind, by what is told apart past it: at a shadow its own event comes first
-abbrev pub beforeKind : List (List ℕ) → ℕ → ℕ → (ℕ → ℕ) → ℕ → Kind → ℕ
-beforeKind table finals states rows p plain = rows p
-beforeKind table finals states rows p (event a) =
+-- the states told apart from p before a node, by what is told apart past it: at a shadow its own event comes first
+abbrev pub beforePoint : List (List ℕ) → ℕ → ℕ → (ℕ → ℕ) → ℕ → Point → ℕ
+beforePoint table finals states rows p no-point = rows p
+beforePoint table finals states rows p (point a) =
     preimageOf table states (a % 16) (bitOr (rows (cell table p (a % 16))) (unlikeStates finals (cell table p (a % 16))))
-beforeKind table finals states rows p (call set) = rows p
 
 -- before node m of a buffer
 unfoldable pub beforeRow : List (List ℕ) → ℕ → ℕ → List ℕ → ℕ → ℕ → ℕ
-beforeRow table finals states work m p = beforeKind table finals states (classRowIn work m) p (nodeIn work m .kind)
+beforeRow table finals states work m p = beforePoint table finals states (classRowIn work m) p (pointOf (nodeIn work m .kind))
 
 -- the pair is told apart before a successor of node n
 pub record ApartNext (table : List (List ℕ)) (finals states : ℕ) (work : List ℕ) (n p q : ℕ) : Type 0 where

@@ -100,12 +100,12 @@ module _ {table : List (List ℕ)} {states nodes : ℕ} {l a : List ℕ} {count 
       (stored : BeforeStored b m states nodes) where
     -- the rows that the search leaves at a point give its before set
     before-held : (j : Job) → JobHeld j l table finals states nodes → AfterHeld j l nodes → BeforeHeld j m
-    before-held j h r n x e =
+    before-held j h r n e =
         let job = job-kept (planning-plan (all .kept)) u h in
         let plan = subst (λ (p : List ℕ). PlanHeld p a nodes) (all .exact j table finals states h .0) (plan-in-held a nodes) in
         let found = all-enabled-finds j a b answer (h .formed) (s .exact j (allEnabled j) job plan (after-kept (planning-plan (all .kept)) u h r)) in
-        let here : n < nodes = omega (arith, event-node j n x e, h .nodes-are) in
-        stored .here n here ∙ ap (heldStates b n) (h .states-are) ∙ before-found j b n (λ q g. found .1 n x q e g)
+        let here : n < nodes = omega (arith, event-node j n e, h .nodes-are) in
+        stored .here n here ∙ ap (heldStates b n) (h .states-are) ∙ before-found j b n (λ q g. found .1 n q e g)
 
     -- the before sets were found
     pub before-searched : BeforeFound table finals states nodes l m
@@ -168,8 +168,8 @@ module _ {table : List (List ℕ)} {finals states nodes : ℕ} {l a : List ℕ} 
             let words″ = after-kept (made .kept) before-usable second words′ in (
               record {
                 job = front-job (front-kept (omega arith) (grown .kept)) plan-usable third;
-                before = λ n x e.
-                    before-stays n (omega (arith, event-node j n x e, h .nodes-are, u .few-nodes)) ∙ found .exact j first words n x e;
+                before = λ n e.
+                    before-stays n (omega (arith, event-node j n e, h .nodes-are, u .few-nodes)) ∙ found .exact j first words n e;
                 plan = plan-in-same c m nodes (grown .kept .long) (λ k g b. grown .kept .outside k (inr (omega arith))) (plan-usable .long) (u .few-nodes)
                     ∙ made .plan j second words′;
                 classes = grown .exact j third words″;

@@ -1,11 +1,12 @@
 -- What is found at all points together: the contracts of the parts, which a first reading may leave out.
 -- Assumes nothing.
 use mathlib.Core.Path.{_≡_}
+use mathlib.Core.Bool.{true}
 use mathlib.Core.List.{List}
 use Prim.Native.Nat.{ℕ, _+_, _*_, _≤_, _<_}
 use lib.ListN.{getD}
 use Rattle.laws.specs.Bytes.{numberAt}
-use Rattle.job.specs.Job.{event, Job, nodeAt}
+use Rattle.job.specs.Job.{isEvent, Job, nodeAt}
 use Rattle.job.specs.Found.{statesBefore}
 use Rattle.job.specs.Listing.{planOf}
 use Rattle.buffer.specs.Layout.{pairPart, classPart, foundPart, planPart, workSize}
@@ -21,7 +22,7 @@ beforeIn work n = numberAt 2 work (foundPart + n * 4)
 
 -- the before sets of the points are held
 abbrev pub BeforeHeld : Job → List ℕ → Type 0
-BeforeHeld j work = (n a : ℕ) → nodeAt j n .kind ≡ event a → beforeIn work n ≡ statesBefore j n
+BeforeHeld j work = (n : ℕ) → isEvent (nodeAt j n .kind) ≡ true → beforeIn work n ≡ statesBefore j n
 
 -- for each node the states whose rows hold pairs were stored
 pub record BeforeStored (l m : List ℕ) (states nodes : ℕ) : Type 0 where

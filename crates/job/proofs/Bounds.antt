@@ -8,10 +8,11 @@ use lib.ListN.{length, List·getD-eq-default}
 use Rattle.laws.specs.Bits.{has}
 use Rattle.laws.proofs.Bits.{has-empty}
 use Rattle.automaton.specs.Automaton.{next}
-use Rattle.job.specs.Job.{event, call, Node, Job, nodeAt, noNode, KindBelow, event-below, call-below, WellFormedJob}
-use Rattle.job.specs.Walk.{Event, symbolOf, Place, before, past, ended, Silent, pass-plain, begin-word, take-edge, begin-after}
-use Rattle.job.specs.Walk.{Told, report, call-word, after-word}
+use Rattle.job.specs.Job.{Node, Job, nodeAt, noNode, WellFormedJob}
+use Rattle.job.specs.Walk.{Event, symbolOf, Place, before, past, ended, Silent}
+use Rattle.job.specs.Walk.{Told}
 use Rattle.job.specs.Plan.{Enabling, takes, stateAt}
+use Rattle.job.proofs.KindLaws.{SilentBy, by-pass, by-edge, by-exit, silent-by, ToldBy, by-point, by-words, by-after, told-by}
 use Rattle.job.proofs.Pairs.{Pairs, Pair, Admitted, admitted, Kept, pair-least}
 
 -- the node of a place
@@ -36,32 +37,32 @@ entry-node j n q h =
 pub admitted-within : {j : Job} {x : Place} {p q : ℕ} → WellFormedJob j → Admitted j x p q → Within j x p q
 admitted-within {j} wf (admitted {n = n} {q = q} h) = record { node = entry-node j n q h; one = wf .entries n q h; other = wf .entries n q h }
 
--- the symbol of an event node is below the bound
-event-symbol : {a s : ℕ} → KindBelow a (event s) → s < a
-event-symbol (event-below l) = l
-
--- so are the symbols of a call
-call-symbol : {a set : ℕ} → KindBelow a (call set) → (s : ℕ) → has set s ≡ true → s < a
-call-symbol (call-below h) = h
-
 -- an event of a walk has a symbol of the rule
 pub told-symbol : {j : Job} {x y : Place} {e : Event} → WellFormedJob j → Told j x e y → symbolOf e < j .rule .symbols
-told-symbol wf (report {n = n} k) = event-symbol (rw k at (wf .kinds n))
-told-symbol wf (call-word {n = n} {a = a} k h) = call-symbol (rw k at (wf .kinds n)) a h
-told-symbol wf (after-word {n = n} {a = a} x h) = wf .afters n a h
+told-symbol {j} wf t = go (told-by t)
+  where
+    go : {x y : Place} {e : Event} → ToldBy j x e y → symbolOf e < j .rule .symbols
+    go (by-point {n = n} {a = a} k) = wf .kinds n .point-below a k
+    go (by-words {n = n} {a = a} h) = wf .kinds n .words-below a h
+    go (by-after {n = n} {a = a} x h) = wf .afters n a h
 
 -- a silent move leads to a place of the job
 silent-within : {j : Job} {x y : Place} → WellFormedJob j → nodeOf x < length (j .nodes) → Silent j x y → nodeOf y < length (j .nodes)
-silent-within wf l (pass-plain e) = l
-silent-within wf l (begin-word e) = l
-silent-within wf l (take-edge {m = m} {n = n} h) = wf .edges m n h .1
-silent-within wf l (begin-after h) = l
+silent-within {j} wf l s = go l (silent-by s)
+  where
+    go : {x y : Place} → nodeOf x < length (j .nodes) → SilentBy j x y → nodeOf y < length (j .nodes)
+    go l (by-pass e) = l
+    go l (by-edge {m = m} {n = n} h) = wf .edges m n h .1
+    go l (by-exit h) = l
 
 -- so does an event
 told-within : {j : Job} {x y : Place} {e : Event} → nodeOf x < length (j .nodes) → Told j x e y → nodeOf y < length (j .nodes)
-told-within l (report e) = l
-told-within l (call-word e h) = l
-told-within l (after-word e h) = l
+told-within {j} l t = go l (told-by t)
+  where
+    go : {x y : Place} {e : Event} → nodeOf x < length (j .nodes) → ToldBy j x e y → nodeOf y < length (j .nodes)
+    go l (by-point e) = l
+    go l (by-words h) = l
+    go l (by-after e h) = l
 
 -- a state after an event is one of the rule
 pub state-within

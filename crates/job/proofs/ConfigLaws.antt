@@ -17,16 +17,17 @@ use lib.ListN.{length}
 use borrow.Author.Tests.{eq-eqb, eqb-true}
 use Rattle.laws.specs.Bits.{has}
 use Rattle.laws.proofs.Tests.{or-passes, or-left, or-right}
-use Rattle.job.specs.Job.{Kind, plain, event, call, Edge, Job, nodeAt, holds, WellFormedJob}
-use Rattle.job.specs.Walk.{Event, word, Place, before, past, ended, Silent, pass-plain, begin-word, take-edge, begin-after}
-use Rattle.job.specs.Walk.{Told, report, call-word, after-word}
-use Rattle.job.specs.Plan.{Enabling, alarmAt}
+use Rattle.job.specs.Job.{Point, no-point, point, pointOf, callSet, Edge, Job, nodeAt, holds, WellFormedJob}
+use Rattle.job.specs.Walk.{Event, word, Place, before, past, ended, Silent, take-edge, begin-after}
+use Rattle.job.specs.Walk.{Told, after-word}
+use Rattle.job.specs.Plan.{Enabling, alarmAt, ApartAt}
 use Rattle.job.specs.Search.{anyOf, numbersOf, Config, configOf, placeCode, configCode, configCount, targets, entered, silentMoves}
-use Rattle.job.specs.Search.{Telling, telling, words, reports, callWords, toldMoves, toldConfig, afterConfig, unlike, splits, startsBelow, configs}
+use Rattle.job.specs.Search.{Telling, telling, words, reports, toldMoves, toldConfig, afterConfig, unlike, splits, startsBelow, configs}
+use Rattle.job.proofs.KindLaws.{enters, reports-point, reports-word, SilentBy, by-pass, by-edge, by-exit, silent-by, ToldBy, by-point, by-words, by-after, told-by}
 use Rattle.job.proofs.SearchLaws.{Reached, at-start, further, any-of-says, any-reached-says}
 use Rattle.job.proofs.Pairs.{Pairs, Pair, begins, moves, tells, Admitted, admitted, Only, only, Kept, pair-least}
-use Rattle.job.proofs.Pairs.{Splits, ApartAt, apart-now, pair-apart, apart-splits}
-use Rattle.job.proofs.Bounds.{nodeOf, Within, entry-node, admitted-within, told-symbol, within-kept}
+use Rattle.job.proofs.Pairs.{Splits, apart-now, pair-apart, apart-splits}
+use Rattle.job.proofs.Bounds.{nodeOf, Within, entry-node, admitted-within, within-kept}
 
 -- ---- lists
 
@@ -85,12 +86,11 @@ targets-say (e ∷ es) m n =
 -- what the list of silent moves holds is one
 silent-from : (j : Job) (x y : Place) → Member y (silentMoves j x) → Silent j x y
 unfolding silentMoves
-silent-from j (before n) y m = go (nodeAt j n .kind) refl m
+silent-from j (before n) y m = go (pointOf (nodeAt j n .kind)) refl m
   where
-    go : (k : Kind) → nodeAt j n .kind ≡ k → Member y (entered n k) → Silent j (before n) y
-    go plain e t = rw (member-one t) (pass-plain e)
-    go (event a) e t = absurd (member-none t)
-    go (call s) e t = rw (member-one t) (begin-word e)
+    go : (x : Point) → pointOf (nodeAt j n .kind) ≡ x → Member y (entered n x) → Silent j (before n) y
+    go no-point e t = rw (member-one t) (enters n e)
+    go (point a) e t = absurd (member-none t)
 silent-from j (past n) y m =
     ⊎-elim
     (λ (t : Member y (map before (targets (j .edges) n))).
@@ -104,14 +104,17 @@ silent-from j (past n) y m =
 silent-from j (ended n) y m = absurd (member-none m)
 
 -- a silent move is in the list
-silent-listed : {j : Job} {x y : Place} → Silent j x y → Member y (silentMoves j x)
+moves-listed : {j : Job} {x y : Place} → SilentBy j x y → Member y (silentMoves j x)
 unfolding silentMoves
-silent-listed (pass-plain e) = rw e (first refl)
-silent-listed (begin-word e) = rw e (first refl)
-silent-listed {j} (take-edge {m = m} {n = n} h) =
+moves-listed (by-pass e) = rw e (first refl)
+moves-listed {j} (by-edge {m = m} {n = n} h) =
     append-left (cond (nodeAt j m .exit) (ended m ∷ []) []) (map-member before (targets-say (j .edges) m n .1 h))
-silent-listed {j} (begin-after {n = n} h) =
+moves-listed {j} (by-exit {n = n} h) =
     append-right (map before (targets (j .edges) n)) (member-cond (nodeAt j n .exit) .1 (inl (h, refl)))
+
+-- whatever the kind of the node
+silent-listed : {j : Job} {x y : Place} → Silent j x y → Member y (silentMoves j x)
+silent-listed m = moves-listed (silent-by m)
 
 -- `silentMoves` lists the silent moves
 pub silent-says : (j : Job) (x y : Place) → Member y (silentMoves j x) ↔ Silent j x y
@@ -130,18 +133,13 @@ words-listed a set x s l h = map-member (λ s. telling (word s) x) (numbers-say 
 -- what the list of told moves holds is one
 told-from : (j : Job) (x : Place) (t : Telling) → Member t (toldMoves j x) → Told j x (t .event) (t .to)
 unfolding toldMoves
-told-from j (before n) t m = go (nodeAt j n .kind) refl m
+told-from j (before n) t m = go (pointOf (nodeAt j n .kind)) refl m
   where
-    go : (k : Kind) → nodeAt j n .kind ≡ k → Member t (reports n k) → Told j (before n) (t .event) (t .to)
-    go plain e m = absurd (member-none m)
-    go (event a) e m = rw (member-one m) (report e)
-    go (call s) e m = absurd (member-none m)
-told-from j (past n) t m = go (nodeAt j n .kind) refl m
-  where
-    go : (k : Kind) → nodeAt j n .kind ≡ k → Member t (callWords (j .rule .symbols) n k) → Told j (past n) (t .event) (t .to)
-    go plain e m = absurd (member-none m)
-    go (event a) e m = absurd (member-none m)
-    go (call s) e m = let r = words-from (j .rule .symbols) s (past n) t m in rw (r .2) (call-word e (r .1))
+    go : (x : Point) → pointOf (nodeAt j n .kind) ≡ x → Member t (reports n x) → Told j (before n) (t .event) (t .to)
+    go no-point e m = absurd (member-none m)
+    go (point a) e m = rw (member-one m) (reports-point e)
+told-from j (past n) t m =
+    let r = words-from (j .rule .symbols) (callSet (nodeAt j n .kind)) (past n) t m in rw (r .2) (reports-word n (r .0) (r .1))
 told-from j (ended n) t m = go (nodeAt j n .exit) refl m
   where
     go
@@ -151,13 +149,17 @@ told-from j (ended n) t m = go (nodeAt j n .exit) refl m
     go false e m = absurd (member-none m)
 
 -- a told move is in the list
-told-listed : {j : Job} {x y : Place} {e : Event} → WellFormedJob j → Told j x e y → Member (telling e y) (toldMoves j x)
+tells-listed : {j : Job} {x y : Place} {e : Event} → WellFormedJob j → ToldBy j x e y → Member (telling e y) (toldMoves j x)
 unfolding toldMoves
-told-listed wf (report k) = rw k (first refl)
-told-listed {j} wf (call-word {n = n} {set = set} {a = a} k h) =
-    rw k (words-listed (j .rule .symbols) set (past n) a (told-symbol wf (call-word k h)) h)
-told-listed {j} wf (after-word {n = n} {a = a} x h) =
+tells-listed wf (by-point k) = rw k (first refl)
+tells-listed {j} wf (by-words {n = n} {a = a} h) =
+    words-listed (j .rule .symbols) (callSet (nodeAt j n .kind)) (past n) a (wf .kinds n .words-below a h) h
+tells-listed {j} wf (by-after {n = n} {a = a} x h) =
     rw x (words-listed (j .rule .symbols) (nodeAt j n .after) (ended n) a (wf .afters n a h) h)
+
+-- whatever the kind of the node
+told-listed : {j : Job} {x y : Place} {e : Event} → WellFormedJob j → Told j x e y → Member (telling e y) (toldMoves j x)
+told-listed wf t = tells-listed wf (told-by t)
 
 -- `toldMoves` lists the told moves
 pub told-says

@@ -10,14 +10,14 @@ use lib.Dec.{eqb}
 use lib.ListN.{length}
 use borrow.Author.Tests.{eq-eqb, eqb-true}
 use Rattle.job.specs.Job.{Job, WellFormedJob}
-use Rattle.job.specs.Walk.{Event, Place, before, past, ended, Walk}
-use Rattle.job.specs.Plan.{Enabling, full, enables, stateAfter, Faithful, Different}
+use Rattle.job.specs.Walk.{Place, before, past, ended}
+use Rattle.job.specs.Plan.{Enabling, full, enables, ApartAt, Faithful, Different}
 use Rattle.job.specs.Found.{Arrives, Apart, Equivalent}
 use Rattle.job.specs.SearchSays.{SearchSays}
 use Rattle.job.specs.Search.{anyOf, Config, configOf, splits, startsBelow, configs, isBefore, faithful, arrives, apart}
-use Rattle.job.proofs.Pairs.{Pair, begins, pair-walk, pair-says, Admitted, admitted, Only, only}
+use Rattle.job.proofs.Pairs.{Pair, Admitted, admitted, Only, only, arrives-at-says}
 use Rattle.laws.proofs.Tests.{not-own, same-or-contrary}
-use Rattle.job.proofs.Pairs.{differ-not-same, ApartAt, alike-says}
+use Rattle.job.proofs.Pairs.{differ-not-same, alike-says}
 use Rattle.job.proofs.ConfigLaws.{configs-say, search-finds, admitted-listed, only-listed}
 
 -- ---- plans
@@ -25,12 +25,7 @@ use Rattle.job.proofs.ConfigLaws.{configs-say, search-finds, admitted-l
 -- a start that is told apart shows a difference
 pub start-different : {j : Job} {w : Enabling} {x : Place} {p q : ℕ} → Admitted j x p q → ApartAt j full w x p q → Different j w
 start-different (admitted {n = n} {q = q} h) a =
-    record {
-      start = record { node = n; state = q; admitted = h };
-      walk = record { events = a .events; end = a .end; walk = a .walk };
-      place = a .place;
-      differs = a .differs;
-    }
+    record { start = record { node = n; state = q; admitted = h }; apart = a }
 
 -- a difference tells a start apart
 different-start : {j : Job} {w : Enabling} → Different j w → (x : Place) × (p : ℕ) × (q : ℕ) × Admitted j x p q × ApartAt j full w x p q
@@ -39,17 +34,17 @@ different-start d = (
   d .start .state,
   d .start .state,
   admitted (d .start .admitted),
-  record { events = d .walk .events; end = d .walk .end; walk = d .walk .walk; place = d .place; differs = d .differs },
+  d .apart,
 )
 
 -- no plan is faithful and different
 pub different-not-faithful : {j : Job} {w : Enabling} → Different j w → Faithful j w → ⊥
-different-not-faithful d f = differ-not-same (d .differs) (f (d .start) (d .walk))
+different-not-faithful d f = differ-not-same (d .apart .differs) (f (d .start) (d .apart .walk))
 
 -- a plan with no difference is faithful
 pub faithful-of : {j : Job} {w : Enabling} → (Different j w → ⊥) → Faithful j w
-faithful-of n s k =
-    alike-says (before (s .node)) (s .state) (s .state) .1 (λ a. n (start-different (admitted (s .admitted)) a)) (k .events) (k .end) (k .walk)
+faithful-of n s =
+    alike-says (before (s .node)) (s .state) (s .state) .1 (λ a. n (start-different (admitted (s .admitted)) a))
 
 -- `not` fails where its test passes
 not-fails-says : (a : Bool) → (not a ≡ false) ↔ (a ≡ true)
@@ -96,21 +91,15 @@ is-before n (before m) h = ap before (eqb-true m n h)
 is-before n (past m) h = absurd (false≢true h)
 is-before n (ended m) h = absurd (false≢true h)
 
--- a walk from an admitted start arrives where it leads
-start-arrives
-    : {j : Job} {n k : ℕ} {x : Place} {p q : ℕ} {es : List Event} → Admitted j x p q → Walk j x es (before n)
-    → stateAfter (j .rule) full p es ≡ k → Arrives j n k
-start-arrives {es = es} (admitted {n = m} {q = q} h) walk e =
-    record { start = record { node = m; state = q; admitted = h }; events = es; walk = walk; state = e }
-
 -- a pair that is reached before a node, under full watch for the first of its states, arrives there
 pub pair-arrives : {j : Job} {w : Enabling} {n p q : ℕ} → Pair j full w (Admitted j) (before n) p q → Arrives j n p
 pair-arrives {n = n} {p = p} {q = q} r =
-    let k = pair-says (before n) p q .0 r in start-arrives (k .start) (k .walk) (k .one-after)
+    let a = arrives-at-says (before n) p q .0 r in
+    record { start = a .start; events = a .events; walk = a .walk; one = a .one; other = a .one }
 
 -- a state that arrives is a pair with itself
 pub arrives-pair : {j : Job} {n q : ℕ} → Arrives j n q → Pair j full full (Admitted j) (before n) q q
-arrives-pair a = rw (← a .state) (pair-walk (begins (admitted (a .start .admitted))) (a .walk))
+arrives-pair {n = n} {q = q} a = arrives-at-says (before n) q q .1 a
 
 -- `arrives` says `Arrives`
 pub arrives-says : {j : Job} → WellFormedJob j → (n q : ℕ) → (arrives j n q ≡ true) ↔ Arrives j n q
@@ -132,17 +121,9 @@ arrives-says {j} wf n q =
 -- ---- classes
 
 module _ {j : Job} {n p q : ℕ} where
-  -- `Apart` is being told apart past the node
-  pub apart-at : Apart j n p q ↔ ApartAt j full full (past n) p q
-  apart-at = (
-    λ a. record { events = a .events; end = a .end; walk = a .walk; place = a .place; differs = a .differs },
-    λ a. record { events = a .events; end = a .end; walk = a .walk; place = a .place; differs = a .differs },
-  )
-
   -- two states are of one class where they are not told apart
   pub equivalent-says : Equivalent j n p q ↔ (Apart j n p q → ⊥)
-  equivalent-says =
-      (λ h a. alike-says (past n) p q .0 h (apart-at .0 a), λ m. alike-says (past n) p q .1 (λ a. m (apart-at .1 a)))
+  equivalent-says = alike-says (past n) p q
 
 module _ {j : Job} (wf : WellFormedJob j) (n p q : ℕ) (node : n < length (j .nodes)) (one : p < j .rule .states) (other : q < j .rule .states) where
   -- `apart` says `Apart`
@@ -150,10 +131,10 @@ module _ {j : Job} (wf : WellFormedJob j) (n p q : ℕ) (node : n < length (j .n
   unfolding apart
   apart-says =
       Iff·trans (search-finds wf full full (configOf (past n) p q ∷ []) (only-listed (record { node = node; one = one; other = other })))
-      (λ r. told (r .3) (r .4), λ a. (past n, p, q, only, apart-at .0 a))
+      (λ r. told (r .3) (r .4), λ a. (past n, p, q, only, a))
     where
       told : {x : Place} {k l : ℕ} → Only (past n) p q x k l → ApartAt j full full x k l → Apart j n p q
-      told only a = apart-at .1 a
+      told only a = a
 
   -- where it fails, the states are of one class
   pub apart-not-says : (apart j n p q ≡ false) ↔ Equivalent j n p q

@@ -1,5 +1,6 @@
 -- The theorems that other crates cite.
 -- Assumes nothing.
+pub mod KindLaws
 pub mod SearchLaws
 pub mod Pairs
 pub mod Bounds

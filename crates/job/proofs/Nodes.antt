@@ -2,65 +2,36 @@
 -- Forwards, the set of an event node holds the pairs before it; any other node is entered silently, and its set holds the pairs past it.
 -- Backwards, every set holds pairs past its node. The word after an exit has no set of its own.
 -- Assumes nothing.
-use mathlib.Core.Path.{_≡_, refl}
-use mathlib.Core.Logic.{_⊎_, inl, inr, ⊎-elim}
+use mathlib.Core.Path.{_≡_}
+use mathlib.Core.Logic.{_⊎_, ⊎-elim}
 use mathlib.Core.Bool.{true, not}
 use Prim.Native.Nat.{ℕ}
-use native.Mathlib.Omega.{arith}
 use Rattle.laws.specs.Bits.{has}
 use Rattle.automaton.specs.Automaton.{Automaton, next, final}
-use Rattle.job.specs.Job.{Kind, plain, event, call, Job, nodeAt, leads, WellFormedJob}
-use Rattle.job.specs.Walk.{Event, shadow, Place, before, past, ended, Silent, pass-plain, begin-word, take-edge, begin-after}
-use Rattle.job.specs.Walk.{Told, report, call-word, after-word}
-use Rattle.job.specs.Plan.{Enabling, stateAt, alarmAt}
-use Rattle.job.specs.Words.{WordApart, apart-here, apart-later}
+use Rattle.job.specs.Job.{no-point, point, pointOf, callSet, Job, nodeAt, leads, WellFormedJob}
+use Rattle.job.specs.Walk.{Event, shadow, Place, before, past, ended, take-edge, begin-after}
+use Rattle.job.specs.Walk.{after-word}
+use Rattle.job.specs.Plan.{Enabling, stateAt, alarmAt, ApartAt}
+use Rattle.job.specs.Words.{WordApart, apart-here, apart-later, apart-after, NothingMore}
 use Rattle.job.proofs.Pairs.{Pairs, Pair, begins, moves, tells, Admitted, admitted, Kept, Invariant}
-use Rattle.job.proofs.Pairs.{told-splits, ApartAt, apart-now, apart-moved, apart-told, Backwards}
+use Rattle.job.proofs.Pairs.{told-splits, apart-now, apart-moved, apart-told, Backwards}
 use Rattle.job.proofs.Bounds.{Within, pair-within}
+use Rattle.job.proofs.KindLaws.{point-some, point-or-none, words-none, enters, reports-point, reports-word, SilentBy, by-pass, by-edge, by-exit, silent-by, ToldBy, by-point, by-words, by-after, told-by}
 use Rattle.job.proofs.Rules.{at-admitted}
 
 -- a set of pairs for each node
 abbrev pub Table : Type 1
 Table = ℕ → ℕ → ℕ → Type 0
 
--- ---- kinds of node
-
--- the kind of a node that has no event of its own: such a node is entered silently
-abbrev pub NoEvent : Kind → Type 0
-NoEvent k = (a : ℕ) → k ≡ event a → ⊥
-
--- a plain node has none
-pub plain-no-event : {k : Kind} → k ≡ plain → NoEvent k
-plain-no-event e a f = let z : _≡_ {A = ℕ} 0 1 = cc in omega arith
-
--- nor has a call
-pub call-no-event : {k : Kind} {set : ℕ} → k ≡ call set → NoEvent k
-call-no-event e a f = let z : _≡_ {A = ℕ} 0 1 = cc in omega arith
-
--- a node has an event of its own or none
-pub event-or-none : (k : Kind) → ((a : ℕ) × (k ≡ event a)) ⊎ NoEvent k
-event-or-none plain = inr (plain-no-event refl)
-event-or-none (event a) = inl (a, refl)
-event-or-none (call set) = inr (call-no-event refl)
-
--- a node with none is passed silently
-pub enters : {j : Job} (n : ℕ) → NoEvent (nodeAt j n .kind) → Silent j (before n) (past n)
-enters {j} n s = go (nodeAt j n .kind) refl
-  where
-    go : (k : Kind) → nodeAt j n .kind ≡ k → Silent j (before n) (past n)
-    go plain e = pass-plain e
-    go (event a) e = absurd (s a e)
-    go (call set) e = begin-word e
-
 -- ---- forwards: what a table stands for
 
 -- the pairs past a node
 pub data PastNode (j : Job) (v w : Enabling) (H : Table) (n : ℕ) : ℕ → ℕ → Type 0 where
   -- a node with no event of its own holds them
-  past-silent : {p q : ℕ} → NoEvent (nodeAt j n .kind) → H n p q → PastNode j v w H n p q
+  past-silent : {p q : ℕ} → pointOf (nodeAt j n .kind) ≡ no-point → H n p q → PastNode j v w H n p q
   -- an event node's own event leads to them
   past-event
-      : {a p q : ℕ} → nodeAt j n .kind ≡ event a → H n p q
+      : {a p q : ℕ} → pointOf (nodeAt j n .kind) ≡ point a → H n p q
       → PastNode j v w H n (stateAt (j .rule) v p (shadow n a)) (stateAt (j .rule) w q (shadow n a))
 
 -- the pairs that a word over a set leads to from given ones
@@ -88,43 +59,51 @@ pub spelt-map
 spelt-map f (no-word {p = p} {q = q} h) = no-word (f p q h)
 spelt-map f (one-more a m h) = one-more a m (spelt-map f h)
 
+-- what tells apart after a word for one reason does so for another
+pub word-map
+    : {m : Automaton} {set p q : ℕ} {More Other : ℕ → ℕ → Type 0} → ((k l : ℕ) → More k l → Other k l)
+    → WordApart m set More p q → WordApart m set Other p q
+word-map f (apart-here a m d) = apart-here a m d
+word-map f (apart-later a m h) = apart-later a m (word-map f h)
+word-map f (apart-after {p = p} {q = q} h) = apart-after (f p q h)
+
 -- past a node with no event of its own there is what its set holds
-pub past-at-silent : {j : Job} {v w : Enabling} {H : Table} {n p q : ℕ} → NoEvent (nodeAt j n .kind) → PastNode j v w H n p q → H n p q
+pub past-at-silent : {j : Job} {v w : Enabling} {H : Table} {n p q : ℕ} → pointOf (nodeAt j n .kind) ≡ no-point → PastNode j v w H n p q → H n p q
 past-at-silent s (past-silent t h) = h
-past-at-silent s (past-event {a = a} e h) = absurd (s a e)
+past-at-silent s (past-event e h) = absurd (point-some e s)
 
 -- ---- forwards: reached pairs
 
 -- a pair in the set of a node that some walk reaches
 pub data PairAt (j : Job) (v w : Enabling) (n p q : ℕ) : Type 0 where
   -- past a node with no event of its own
-  pair-silent : NoEvent (nodeAt j n .kind) → Pair j v w (Admitted j) (past n) p q → PairAt j v w n p q
+  pair-silent : pointOf (nodeAt j n .kind) ≡ no-point → Pair j v w (Admitted j) (past n) p q → PairAt j v w n p q
   -- before an event node
-  pair-event : {a : ℕ} → nodeAt j n .kind ≡ event a → Pair j v w (Admitted j) (before n) p q → PairAt j v w n p q
+  pair-event : {a : ℕ} → pointOf (nodeAt j n .kind) ≡ point a → Pair j v w (Admitted j) (before n) p q → PairAt j v w n p q
 
 module _ {j : Job} {v w : Enabling} where
   -- a pair that is reached before a node is in its set
   pub pair-enters : {n p q : ℕ} → Pair j v w (Admitted j) (before n) p q → PairAt j v w n p q
   pair-enters {n} {p} {q} r =
       ⊎-elim
-      (λ (e : (a : ℕ) × (nodeAt j n .kind ≡ event a)). pair-event (e .1) r)
-      (λ (s : NoEvent (nodeAt j n .kind)). pair-silent s (moves r (enters n s)))
-      (event-or-none (nodeAt j n .kind))
+      (λ (e : (a : ℕ) × (pointOf (nodeAt j n .kind) ≡ point a)). pair-event (e .1) r)
+      (λ (s : pointOf (nodeAt j n .kind) ≡ no-point). pair-silent s (moves r (enters n s)))
+      (point-or-none (pointOf (nodeAt j n .kind)))
 
   -- the set of an event node holds what is reached before it
-  pub pair-at-event : {n a p q : ℕ} → nodeAt j n .kind ≡ event a → PairAt j v w n p q → Pair j v w (Admitted j) (before n) p q
-  pair-at-event {a = a} e (pair-silent s r) = absurd (s a e)
+  pub pair-at-event : {n a p q : ℕ} → pointOf (nodeAt j n .kind) ≡ point a → PairAt j v w n p q → Pair j v w (Admitted j) (before n) p q
+  pair-at-event e (pair-silent s r) = absurd (point-some e s)
   pair-at-event e (pair-event f r) = r
 
   -- that of any other node holds what is reached past it
-  pub pair-at-silent : {n p q : ℕ} → NoEvent (nodeAt j n .kind) → PairAt j v w n p q → Pair j v w (Admitted j) (past n) p q
+  pub pair-at-silent : {n p q : ℕ} → pointOf (nodeAt j n .kind) ≡ no-point → PairAt j v w n p q → Pair j v w (Admitted j) (past n) p q
   pair-at-silent s (pair-silent t r) = r
-  pair-at-silent s (pair-event {a = a} e r) = absurd (s a e)
+  pair-at-silent s (pair-event e r) = absurd (point-some e s)
 
   -- what is past a node is reached
   pub past-pair : {n p q : ℕ} → PastNode j v w (PairAt j v w) n p q → Pair j v w (Admitted j) (past n) p q
   past-pair (past-silent s h) = pair-at-silent s h
-  past-pair (past-event e h) = tells (pair-at-event e h) (report e)
+  past-pair (past-event e h) = tells (pair-at-event e h) (reports-point e)
 
   -- so is what the words after an exit lead to
   pub spelt-pair
@@ -143,9 +122,10 @@ module _ {j : Job} {v w : Enabling} where
 
   -- what a symbol of a call word leads to is in the set of the call
   pub pair-at-word
-      : (a : ℕ) {n set p q : ℕ} → nodeAt j n .kind ≡ call set → has set a ≡ true → PairAt j v w n p q
+      : (a : ℕ) {n p q : ℕ} → has (callSet (nodeAt j n .kind)) a ≡ true → PairAt j v w n p q
       → PairAt j v w n (next (j .rule) p a) (next (j .rule) q a)
-  pair-at-word a e m h = pair-silent (call-no-event e) (tells (pair-at-silent (call-no-event e) h) (call-word e m))
+  pair-at-word a {n} m h =
+      let none = words-none (nodeAt j n .kind) a m in pair-silent none (tells (pair-at-silent none h) (reports-word n a m))
 
   -- a reached pair is of the job
   pub pair-at-within : {n p q : ℕ} → WellFormedJob j → PairAt j v w n p q → Within j (before n) p q
@@ -163,17 +143,17 @@ pub record NodeKept (j : Job) (v w : Enabling) (H : Table) : Type 0 where
   pub starts : (n q : ℕ) → has (nodeAt j n .entry) q ≡ true → H n q q
   pub edges : (m n p q : ℕ) → PastNode j v w (ReachedIn j v w H) m p q → leads j m n ≡ true → H n p q
   pub words
-      : (n set a p q : ℕ) → nodeAt j n .kind ≡ call set → has set a ≡ true → ReachedIn j v w H n p q
+      : (n a p q : ℕ) → has (callSet (nodeAt j n .kind)) a ≡ true → ReachedIn j v w H n p q
       → H n (next (j .rule) p a) (next (j .rule) q a)
 
 -- a kept table under which the two monitors alarm alike at every event that may come next
 pub record NodeInvariant (j : Job) (v w : Enabling) (H : Table) : Type 0 where
   pub kept : NodeKept j v w H
   pub at-point
-      : (n a p q : ℕ) → nodeAt j n .kind ≡ event a → ReachedIn j v w H n p q
+      : (n a p q : ℕ) → pointOf (nodeAt j n .kind) ≡ point a → ReachedIn j v w H n p q
       → alarmAt (j .rule) v p (shadow n a) ≡ alarmAt (j .rule) w q (shadow n a)
   pub at-call
-      : (n set a p q : ℕ) → nodeAt j n .kind ≡ call set → has set a ≡ true → ReachedIn j v w H n p q
+      : (n a p q : ℕ) → has (callSet (nodeAt j n .kind)) a ≡ true → ReachedIn j v w H n p q
       → final (j .rule) (next (j .rule) p a) ≡ final (j .rule) (next (j .rule) q a)
   pub at-exit
       : (n a p q : ℕ) → nodeAt j n .exit ≡ true → has (nodeAt j n .after) a ≡ true
@@ -186,116 +166,128 @@ module _ {j : Job} {v w : Enabling} {H : Table} where
   node-kept k =
       record {
         starts = at-admitted (placesOf j v w (ReachedIn j v w H)) (λ n q h. (pair-at-start h, k .starts n q h));
-        moved = λ x y p q r m. moved p q m r;
-        told = λ x y e p q r t. told p q t r;
+        moved = λ x y p q r m. moved p q (silent-by m) r;
+        told = λ x y e p q r t. told p q (told-by t) r;
       }
     where
-      moved : {x y : Place} (p q : ℕ) → Silent j x y → placesOf j v w (ReachedIn j v w H) x p q → placesOf j v w (ReachedIn j v w H) y p q
-      moved p q (pass-plain e) h = past-silent (plain-no-event e) h
-      moved p q (begin-word e) h = past-silent (call-no-event e) h
-      moved p q (take-edge {m = m} {n = n} l) h = (pair-at-edge (past-map (λ a b r. r .0) h) l, k .edges m n p q h l)
-      moved p q (begin-after e) h = no-word h
+      moved : {x y : Place} (p q : ℕ) → SilentBy j x y → placesOf j v w (ReachedIn j v w H) x p q → placesOf j v w (ReachedIn j v w H) y p q
+      moved p q (by-pass e) h = past-silent e h
+      moved p q (by-edge {m = m} {n = n} l) h = (pair-at-edge (past-map (λ a b r. r .0) h) l, k .edges m n p q h l)
+      moved p q (by-exit e) h = no-word h
 
       told
-          : {x y : Place} {e : Event} (p q : ℕ) → Told j x e y → placesOf j v w (ReachedIn j v w H) x p q
+          : {x y : Place} {e : Event} (p q : ℕ) → ToldBy j x e y → placesOf j v w (ReachedIn j v w H) x p q
           → placesOf j v w (ReachedIn j v w H) y (stateAt (j .rule) v p e) (stateAt (j .rule) w q e)
-      told p q (report e) h = past-event e h
-      told p q (call-word {n = n} {set = set} {a = a} e m) h =
-          let r = past-at-silent (call-no-event e) h in past-silent (call-no-event e) (pair-at-word a e m (r .0), k .words n set a p q e m r)
-      told p q (after-word {a = a} e m) h = one-more a m h
+      told p q (by-point e) h = past-event e h
+      told p q (by-words {n = n} {a = a} m) h =
+          let none = words-none (nodeAt j n .kind) a m in
+          let r = past-at-silent none h in
+          past-silent none (pair-at-word a m (r .0), k .words n a p q m r)
+      told p q (by-after {a = a} e m) h = one-more a m h
 
   -- an invariant table is an invariant
   pub node-invariant : NodeInvariant j v w H → Invariant j v w (Admitted j) (placesOf j v w (ReachedIn j v w H))
-  node-invariant k = record { kept = node-kept (k .kept); alike = λ x y e p q r t. alike p q t r }
+  node-invariant k = record { kept = node-kept (k .kept); alike = λ x y e p q r t. alike p q (told-by t) r }
     where
       alike
-          : {x y : Place} {e : Event} (p q : ℕ) → Told j x e y → placesOf j v w (ReachedIn j v w H) x p q
+          : {x y : Place} {e : Event} (p q : ℕ) → ToldBy j x e y → placesOf j v w (ReachedIn j v w H) x p q
           → alarmAt (j .rule) v p e ≡ alarmAt (j .rule) w q e
-      alike p q (report {n = n} {a = a} e) h = k .at-point n a p q e h
-      alike p q (call-word {n = n} {set = set} {a = a} e m) h = k .at-call n set a p q e m (past-at-silent (call-no-event e) h)
-      alike p q (after-word {n = n} {a = a} e m) h = k .at-exit n a p q e m h
+      alike p q (by-point {n = n} {a = a} e) h = k .at-point n a p q e h
+      alike p q (by-words {n = n} {a = a} m) h = k .at-call n a p q m (past-at-silent (words-none (nodeAt j n .kind) a m) h)
+      alike p q (by-after {n = n} {a = a} e m) h = k .at-exit n a p q e m h
 
 -- ---- backwards
 
 -- the pairs before a node that are told apart
 pub data BeforeNode (j : Job) (v w : Enabling) (T : Table) (n : ℕ) : ℕ → ℕ → Type 0 where
   -- at a node with no event of its own, told apart past it
-  before-silent : {p q : ℕ} → NoEvent (nodeAt j n .kind) → T n p q → BeforeNode j v w T n p q
+  before-silent : {p q : ℕ} → pointOf (nodeAt j n .kind) ≡ no-point → T n p q → BeforeNode j v w T n p q
   -- at an event node, told apart past it
   before-event
-      : {a p q : ℕ} → nodeAt j n .kind ≡ event a → T n (stateAt (j .rule) v p (shadow n a)) (stateAt (j .rule) w q (shadow n a))
+      : {a p q : ℕ} → pointOf (nodeAt j n .kind) ≡ point a → T n (stateAt (j .rule) v p (shadow n a)) (stateAt (j .rule) w q (shadow n a))
       → BeforeNode j v w T n p q
   -- at an event node, told apart by its own event
   event-splits
-      : {a p q : ℕ} → nodeAt j n .kind ≡ event a → alarmAt (j .rule) v p (shadow n a) ≡ not (alarmAt (j .rule) w q (shadow n a))
+      : {a p q : ℕ} → pointOf (nodeAt j n .kind) ≡ point a → alarmAt (j .rule) v p (shadow n a) ≡ not (alarmAt (j .rule) w q (shadow n a))
       → BeforeNode j v w T n p q
+
+-- the pairs told apart where the word after an exit ends, by a table of those told apart past nodes
+abbrev pub AfterExit : Job → Enabling → Enabling → Table → ℕ → ℕ → Type 0
+AfterExit j v w T = NothingMore
 
 -- the pairs at all places
 abbrev pub placesBack : Job → Enabling → Enabling → Table → Pairs
 placesBack j v w T (before n) p q = BeforeNode j v w T n p q
 placesBack j v w T (past n) p q = T n p q
-placesBack j v w T (ended n) p q = WordApart (j .rule) (nodeAt j n .after) p q
+placesBack j v w T (ended n) p q = WordApart (j .rule) (nodeAt j n .after) (AfterExit j v w T) p q
 
 -- a table that holds, of the pairs of the job, those that edges, call words and after words lead back to
 pub record NodeBackwards (j : Job) (v w : Enabling) (T : Table) : Type 0 where
   pub edges : (m n p q : ℕ) → Within j (past m) p q → leads j m n ≡ true → BeforeNode j v w T n p q → T m p q
   pub call-splits
-      : (n set a p q : ℕ) → Within j (past n) p q → nodeAt j n .kind ≡ call set → has set a ≡ true
+      : (n a p q : ℕ) → Within j (past n) p q → has (callSet (nodeAt j n .kind)) a ≡ true
       → final (j .rule) (next (j .rule) p a) ≡ not (final (j .rule) (next (j .rule) q a)) → T n p q
   pub call-words
-      : (n set a p q : ℕ) → Within j (past n) p q → nodeAt j n .kind ≡ call set → has set a ≡ true
+      : (n a p q : ℕ) → Within j (past n) p q → has (callSet (nodeAt j n .kind)) a ≡ true
       → T n (next (j .rule) p a) (next (j .rule) q a) → T n p q
   pub after-words
-      : (n p q : ℕ) → Within j (past n) p q → nodeAt j n .exit ≡ true → WordApart (j .rule) (nodeAt j n .after) p q → T n p q
+      : (n p q : ℕ) → Within j (past n) p q → nodeAt j n .exit ≡ true
+      → WordApart (j .rule) (nodeAt j n .after) (AfterExit j v w T) p q → T n p q
 
 module _ {j : Job} {v w : Enabling} where
   -- a table that is closed backwards is a set of pairs that is
   pub node-backwards : {T : Table} → NodeBackwards j v w T → Backwards j v w (Within j) (placesBack j v w T)
   node-backwards {T} b =
       record {
-        now = λ x p q d s. now p q d (s .told) (s .differ);
-        moving = λ x y p q d m t. moving p q d m t;
-        telling = λ x y e p q d t h. telling p q d t h;
+        now = λ x p q d s. now p q d (told-by (s .told)) (s .differ);
+        moving = λ x y p q d m t. moving p q d (silent-by m) t;
+        telling = λ x y e p q d t h. telling p q d (told-by t) h;
       }
     where
       now
-          : {x y : Place} {e : Event} (p q : ℕ) → Within j x p q → Told j x e y
+          : {x y : Place} {e : Event} (p q : ℕ) → Within j x p q → ToldBy j x e y
           → alarmAt (j .rule) v p e ≡ not (alarmAt (j .rule) w q e) → placesBack j v w T x p q
-      now p q d (report k) f = event-splits k f
-      now p q d (call-word {n = n} {set = set} {a = a} k m) f = b .call-splits n set a p q d k m f
-      now p q d (after-word {a = a} k m) f = apart-here a m f
+      now p q d (by-point k) f = event-splits k f
+      now p q d (by-words {n = n} {a = a} m) f = b .call-splits n a p q d m f
+      now p q d (by-after {a = a} k m) f = apart-here a m f
 
-      moving : {x y : Place} (p q : ℕ) → Within j x p q → Silent j x y → placesBack j v w T y p q → placesBack j v w T x p q
-      moving p q d (pass-plain k) t = before-silent (plain-no-event k) t
-      moving p q d (begin-word k) t = before-silent (call-no-event k) t
-      moving p q d (take-edge {m = m} {n = n} l) t = b .edges m n p q d l t
-      moving p q d (begin-after {n = n} k) t = b .after-words n p q d k t
+      moving : {x y : Place} (p q : ℕ) → Within j x p q → SilentBy j x y → placesBack j v w T y p q → placesBack j v w T x p q
+      moving p q d (by-pass k) t = before-silent k t
+      moving p q d (by-edge {m = m} {n = n} l) t = b .edges m n p q d l t
+      moving p q d (by-exit {n = n} k) t = b .after-words n p q d k t
 
       telling
-          : {x y : Place} {e : Event} (p q : ℕ) → Within j x p q → Told j x e y
+          : {x y : Place} {e : Event} (p q : ℕ) → Within j x p q → ToldBy j x e y
           → placesBack j v w T y (stateAt (j .rule) v p e) (stateAt (j .rule) w q e) → placesBack j v w T x p q
-      telling p q d (report k) t = before-event k t
-      telling p q d (call-word {n = n} {set = set} {a = a} k m) t = b .call-words n set a p q d k m t
-      telling p q d (after-word {a = a} k m) t = apart-later a m t
+      telling p q d (by-point k) t = before-event k t
+      telling p q d (by-words {n = n} {a = a} m) t = b .call-words n a p q d m t
+      telling p q d (by-after {a = a} k m) t = apart-later a m t
 
   -- what tells two states apart before a node
   pub before-apart : {n p q : ℕ} → BeforeNode j v w (λ m. ApartAt j v w (past m)) n p q → ApartAt j v w (before n) p q
   before-apart {n} (before-silent s a) = apart-moved (enters n s) a
-  before-apart (before-event k a) = apart-told (report k) a
-  before-apart (event-splits k d) = apart-now (told-splits (report k) d)
+  before-apart (before-event k a) = apart-told (reports-point k) a
+  before-apart (event-splits k d) = apart-now (told-splits (reports-point k) d)
 
-  -- what tells them apart in the word after an exit
+  -- what tells them apart in the word after an exit, or where it ends
   pub word-apart
-      : {n p q : ℕ} → nodeAt j n .exit ≡ true → WordApart (j .rule) (nodeAt j n .after) p q → ApartAt j v w (ended n) p q
-  word-apart e (apart-here a m d) = apart-now (told-splits (after-word e m) d)
-  word-apart e (apart-later a m h) = apart-told (after-word e m) (word-apart e h)
+      : {n p q : ℕ} {More : ℕ → ℕ → Type 0} → ((k l : ℕ) → More k l → ApartAt j v w (ended n) k l) → nodeAt j n .exit ≡ true
+      → WordApart (j .rule) (nodeAt j n .after) More p q → ApartAt j v w (ended n) p q
+  word-apart more e (apart-here a m d) = apart-now (told-splits (after-word e m) d)
+  word-apart more e (apart-later a m h) = apart-told (after-word e m) (word-apart more e h)
+  word-apart more e (apart-after {p = p} {q = q} h) = more p q h
+
+  -- what tells them apart where the word after an exit ends
+  pub exit-apart
+      : (n k l : ℕ) → AfterExit j v w (λ m. ApartAt j v w (past m)) k l → ApartAt j v w (ended n) k l
+  exit-apart n k l h = absurd h
 
   -- the pairs told apart past nodes are closed backwards
   pub apart-nodes : NodeBackwards j v w (λ n. ApartAt j v w (past n))
   apart-nodes =
       record {
         edges = λ m n p q r l h. apart-moved (take-edge l) (before-apart h);
-        call-splits = λ n set a p q r k m d. apart-now (told-splits (call-word k m) d);
-        call-words = λ n set a p q r k m h. apart-told (call-word k m) h;
-        after-words = λ n p q r k h. apart-moved (begin-after k) (word-apart k h);
+        call-splits = λ n a p q r m d. apart-now (told-splits (reports-word n a m) d);
+        call-words = λ n a p q r m h. apart-told (reports-word n a m) h;
+        after-words = λ n p q r k h. apart-moved (begin-after k) (word-apart (exit-apart n) k h);
       }

@@ -13,7 +13,7 @@ use Rattle.laws.proofs.Tests.{not-own, same-or-contrary}
 use Rattle.automaton.specs.Automaton.{Automaton}
 use Rattle.job.specs.Job.{Job, nodeAt}
 use Rattle.job.specs.Walk.{Event, Place, before, Silent, Told, Walk, stop, move, tell}
-use Rattle.job.specs.Plan.{Enabling, stateAt, alarmAt, stateAfter, alarms, DifferAt}
+use Rattle.job.specs.Plan.{Enabling, stateAt, alarmAt, stateAfter, alarms, ArrivesAt, AlikeAt, DifferAt, ApartAt}
 
 -- ---- pairs that are reached
 
@@ -98,6 +98,21 @@ module _ {j : Job} {v w : Enabling} {S : Pairs} where
     λ k. rw (← k .one-after, ← k .other-after) (pair-walk (begins (k .start)) (k .walk)),
   )
 
+-- a walk from an admitted start arrives where it leads
+start-arrives
+    : {j : Job} {v w : Enabling} {x y : Place} {k l p q : ℕ} {es : List Event} → Admitted j y k l → Walk j y es x
+    → stateAfter (j .rule) v k es ≡ p → stateAfter (j .rule) w l es ≡ q → ArrivesAt j v w x p q
+start-arrives {es = es} (admitted {n = n} {q = q} h) walk e f =
+    record { start = record { node = n; state = q; admitted = h }; events = es; walk = walk; one = e; other = f }
+
+-- the pairs reached from the starts of the job are those that arrive
+pub arrives-at-says
+    : {j : Job} {v w : Enabling} (x : Place) (p q : ℕ) → Pair j v w (Admitted j) x p q ↔ ArrivesAt j v w x p q
+arrives-at-says x p q = (
+  λ r. let k = pair-says x p q .0 r in start-arrives (k .start) (k .walk) (k .one-after) (k .other-after),
+  λ a. rw (← a .one, ← a .other) (pair-walk (begins (admitted (a .start .admitted))) (a .walk)),
+)
+
 -- ---- lists of alarms
 
 -- a difference at the first event
@@ -153,18 +168,6 @@ pub told-splits
     → alarmAt (j .rule) v p e ≡ not (alarmAt (j .rule) w q e) → Splits j v w x p q
 told-splits {y = y} {e = e} t d = record { event = e; to = y; told = t; differ = d }
 
--- a continuation on which one monitor alarms at an event and the other does not
-pub record ApartAt (j : Job) (v w : Enabling) (x : Place) (p q : ℕ) : Type 0 where
-  pub events : List Event
-  pub end : Place
-  pub walk : Walk j x events end
-  pub place : ℕ
-  pub differs : DifferAt (alarms (j .rule) v p events) (alarms (j .rule) w q events) place
-
--- on every continuation the two monitors alarm at the same events
-abbrev pub AlikeAt : Job → Enabling → Enabling → Pairs
-AlikeAt j v w x p q = (es : List Event) (y : Place) → Walk j x es y → alarms (j .rule) v p es ≡ alarms (j .rule) w q es
-
 -- among the pairs of a set D, a set that holds those that split, and each from which a move or an event leads into it
 pub record Backwards (j : Job) (v w : Enabling) (D T : Pairs) : Type 0 where
   pub now : (x : Place) (p q : ℕ) → D x p q → Splits j v w x p q → T x p q
@@ -182,11 +185,21 @@ module _ {j : Job} {v w : Enabling} where
   -- an event that may come next tells a pair apart at which one monitor alarms and the other does not
   pub apart-now : {x : Place} {p q : ℕ} → Splits j v w x p q → ApartAt j v w x p q
   unfolding alarms
-  apart-now s = record { events = s .event ∷ []; end = s .to; walk = tell (s .told) stop; place = 0; differs = differ-first (s .differ) }
+  apart-now s =
+      record {
+        walk = record { events = s .event ∷ []; end = s .to; walk = tell (s .told) stop };
+        place = 0;
+        differs = differ-first (s .differ);
+      }
 
   -- so does a silent move to a pair that is told apart
   pub apart-moved : {x y : Place} {p q : ℕ} → Silent j x y → ApartAt j v w y p q → ApartAt j v w x p q
-  apart-moved m a = record { events = a .events; end = a .end; walk = move m (a .walk); place = a .place; differs = a .differs }
+  apart-moved m a =
+      record {
+        walk = record { events = a .walk .events; end = a .walk .end; walk = move m (a .walk .walk) };
+        place = a .place;
+        differs = a .differs;
+      }
 
   -- and an event that leads to one
   pub apart-told
@@ -194,7 +207,11 @@ module _ {j : Job} {v w : Enabling} where
       → ApartAt j v w x p q
   unfolding alarms
   apart-told {e = e} t a =
-      record { events = e ∷ a .events; end = a .end; walk = tell t (a .walk); place = suc (a .place); differs = differ-later (a .differs) }
+      record {
+        walk = record { events = e ∷ a .walk .events; end = a .walk .end; walk = tell t (a .walk .walk) };
+        place = suc (a .place);
+        differs = differ-later (a .differs);
+      }
 
   -- a walk on which the alarms differ, followed back from the difference
   followed
@@ -213,20 +230,20 @@ module _ {j : Job} {v w : Enabling} where
   -- among the pairs of a set that is kept, those told apart are in every set that is closed backwards
   pub apart-least
       : {S D T : Pairs} {x : Place} {p q : ℕ} → Kept j v w S D → Backwards j v w D T → D x p q → ApartAt j v w x p q → T x p q
-  apart-least {p = p} {q = q} k b d a = followed k b p q d (a .walk) (a .place) (a .differs)
+  apart-least {p = p} {q = q} k b d a = followed k b p q d (a .walk .walk) (a .place) (a .differs)
 
   -- the monitors alarm alike where they are not told apart
   pub alike-says : (x : Place) (p q : ℕ) → AlikeAt j v w x p q ↔ (ApartAt j v w x p q → ⊥)
-  alike-says x p q = (λ h a. differ-not-same (a .differs) (h (a .events) (a .end) (a .walk)), alike)
+  alike-says x p q = (λ h a. differ-not-same (a .differs) (h (a .walk)), alike)
     where
       alike : (ApartAt j v w x p q → ⊥) → AlikeAt j v w x p q
-      alike n es y k =
-          let one = alarms (j .rule) v p es in
-          let other = alarms (j .rule) w q es in
+      alike n k =
+          let one = alarms (j .rule) v p (k .events) in
+          let other = alarms (j .rule) w q (k .events) in
           ⊎-elim
           (λ (e : one ≡ other). e)
-          (λ (r : (i : ℕ) × DifferAt one other i). absurd (n (record { events = es; end = y; walk = k; place = r .0; differs = r .1 })))
-          (same-or-differ one other (length-alarms (j .rule) v p es ∙ sym (length-alarms (j .rule) w q es)))
+          (λ (r : (i : ℕ) × DifferAt one other i). absurd (n (record { walk = k; place = r .0; differs = r .1 })))
+          (same-or-differ one other (length-alarms (j .rule) v p (k .events) ∙ sym (length-alarms (j .rule) w q (k .events))))
 
   -- a reached pair that is told apart has a start that is
   pub pair-apart

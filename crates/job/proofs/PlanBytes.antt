@@ -3,7 +3,7 @@
 -- Assumes nothing.
 use mathlib.Core.Path.{_≡_, refl, sym, ap, _∙_}
 use mathlib.Core.Logic.{_⊎_, inl, inr, ⊎-elim, by-cases, _↔_}
-use mathlib.Core.Bool.{true, false, cond, false≢true, and-eq-true-iff}
+use mathlib.Core.Bool.{Bool, true, false, cond, false≢true, and-eq-true-iff}
 use mathlib.Core.List.{List, [], _∷_}
 use Prim.Native.Nat.{ℕ, zero, suc, _+_, _≤_, _<_}
 use native.Mathlib.Nat.{le-refl}
@@ -16,7 +16,7 @@ use borrow.Author.Tests.{eqb-true, eqb-false, eq-eqb, ne-eqb}
 use Rattle.laws.specs.Bounded.{sumBelow}
 use Rattle.laws.proofs.Bounded.{sum-front, sum-cong, sum-bound}
 use Rattle.laws.proofs.Tests.{fails-of, passes-or-fails}
-use Rattle.job.specs.Job.{Kind, plain, event, call, Node, Job, noNode, nodeAt}
+use Rattle.job.specs.Job.{isEvent, Node, Job, noNode, nodeAt}
 use Rattle.job.specs.Plan.{enables, IsPlan}
 use Rattle.job.specs.Planning.{shadowByte, allEnabled, samePlan, enabledCount}
 
@@ -174,6 +174,10 @@ count-le plan h = omega (arith, count-sum plan, sum-bound (length plan) 1 (λ n.
 
 -- ---- plans of a job
 
+-- the byte of a node that is an event, or is not
+abbrev byteOf : Bool → ℕ
+byteOf b = cond b 1 0
+
 -- a plan that loses points stays one
 pub lowered-plan : {j : Job} {p r : List ℕ} → Lowered p r → IsPlan j p → IsPlan j r
 lowered-plan h v =
@@ -186,7 +190,7 @@ lowered-plan h v =
 -- a node that is no event is not watched
 pub plan-elsewhere : {j : Job} {plan : List ℕ} → IsPlan j plan → (n : ℕ) → shadowByte (nodeAt j n .kind) ≡ 0 → enables plan n ≡ false
 plan-elsewhere {j} {plan} v n z =
-    fails-of (enables plan n) (λ w. let p = v .shadows n w in omega (arith, ap shadowByte (p .1)))
+    fails-of (enables plan n) (λ w. omega (arith, ap byteOf (v .shadows n w)))
 
 -- the byte of a node where all points are watched
 pub all-enabled-byte : (j : Job) (n : ℕ) → getD (allEnabled j) n 0 ≡ shadowByte (nodeAt j n .kind)
@@ -197,27 +201,25 @@ pub all-enabled-length : (j : Job) → length (allEnabled j) ≡ length (j .node
 all-enabled-length j = length-map (j .nodes) (λ (x : Node). shadowByte (x .kind))
 
 -- every event node is watched
-pub all-enabled-event : (j : Job) (n a : ℕ) → nodeAt j n .kind ≡ event a → enables (allEnabled j) n ≡ true
-all-enabled-event j n a e = eq-eqb _ 1 (all-enabled-byte j n ∙ ap shadowByte e)
+pub all-enabled-event : (j : Job) (n : ℕ) → isEvent (nodeAt j n .kind) ≡ true → enables (allEnabled j) n ≡ true
+all-enabled-event j n e = eq-eqb _ 1 (all-enabled-byte j n ∙ ap byteOf e)
 
 -- all points watched is a plan
 pub all-enabled-plan : (j : Job) → IsPlan j (allEnabled j)
 all-enabled-plan j =
     record {
       long = all-enabled-length j;
-      bytes = λ n. rw (all-enabled-byte j n) (byte-le (nodeAt j n .kind));
-      shadows = λ n w. byte-point (nodeAt j n .kind) (sym (all-enabled-byte j n) ∙ enabled-byte (allEnabled j) n w);
+      bytes = λ n. rw (all-enabled-byte j n) (byte-le (isEvent (nodeAt j n .kind)));
+      shadows = λ n w. byte-event (isEvent (nodeAt j n .kind)) (sym (all-enabled-byte j n) ∙ enabled-byte (allEnabled j) n w);
     }
   where
-    byte-le : (k : Kind) → shadowByte k ≤ 1
-    byte-le plain = omega arith
-    byte-le (event a) = omega arith
-    byte-le (call s) = omega arith
+    byte-le : (b : Bool) → byteOf b ≤ 1
+    byte-le true = omega arith
+    byte-le false = omega arith
 
-    byte-point : (k : Kind) → shadowByte k ≡ 1 → (a : ℕ) × (k ≡ event a)
-    byte-point plain e = absurd (omega arith)
-    byte-point (event a) e = (a, refl)
-    byte-point (call s) e = absurd (omega arith)
+    byte-event : (b : Bool) → byteOf b ≡ 1 → b ≡ true
+    byte-event true e = refl
+    byte-event false e = absurd (omega arith)
 
 -- its count is the number of event nodes
 pub all-enabled-count : (j : Job) → enabledCount (allEnabled j) ≡ sumBelow (length (j .nodes)) (λ n. shadowByte (nodeAt j n .kind))

@@ -9,8 +9,9 @@ use Prim.Native.Nat.{ℕ, zero, suc, _+_, _≤_}
 use native.Mathlib.Omega.{arith}
 use lib.ListN.{length, set}
 use Rattle.laws.specs.Bounded.{sumBelow}
-use Rattle.job.specs.Job.{event, Job, nodeAt}
-use Rattle.job.specs.Walk.{Event, Place, Told, report, call-word, after-word, Walk, stop, move, tell}
+use Rattle.job.specs.Job.{isPoint, isEvent, Job, nodeAt}
+use Rattle.job.proofs.KindLaws.{ToldBy, by-point, by-words, by-after, told-by}
+use Rattle.job.specs.Walk.{Event, Place, Told, Walk, stop, move, tell}
 use Rattle.job.specs.Plan.{Enabling, full, enables, takes, stateAt, alarmAt, alarms, IsPlan, Faithful}
 use Rattle.job.specs.Planning.{allEnabled, tried, passed, Planned, enabledCount, planned}
 use Rattle.job.specs.Planning.{Tried, removed, needed, disabled, Passed, none, next-node, PassesTo, last, again}
@@ -52,15 +53,18 @@ passes-unique (again p ne h) (again q nf i) =
 
 -- an event of a walk is taken under both of two watches that agree at the event nodes, or under neither
 pub takes-agree
-    : {j : Job} (v w : Enabling) → ((n a : ℕ) → nodeAt j n .kind ≡ event a → v n ≡ w n) → {x y : Place} {e : Event} → Told j x e y
+    : {j : Job} (v w : Enabling) → ((n : ℕ) → isEvent (nodeAt j n .kind) ≡ true → v n ≡ w n) → {x y : Place} {e : Event} → Told j x e y
     → takes v e ≡ takes w e
-takes-agree v w h (report {n} {a} i) = h n a i
-takes-agree v w h (call-word i m) = refl
-takes-agree v w h (after-word i m) = refl
+takes-agree {j} v w h t = go (told-by t)
+  where
+    go : {x y : Place} {e : Event} → ToldBy j x e y → takes v e ≡ takes w e
+    go (by-point {n = n} i) = h n (ap isPoint i)
+    go (by-words m) = refl
+    go (by-after i m) = refl
 
 -- watches that agree at the event nodes alarm alike on every walk
 pub alarms-agree
-    : {j : Job} (v w : Enabling) → ((n a : ℕ) → nodeAt j n .kind ≡ event a → v n ≡ w n) → {x y : Place} {es : List Event} → Walk j x es y
+    : {j : Job} (v w : Enabling) → ((n : ℕ) → isEvent (nodeAt j n .kind) ≡ true → v n ≡ w n) → {x y : Place} {es : List Event} → Walk j x es y
     → (q : ℕ) → alarms (j .rule) v q es ≡ alarms (j .rule) w q es
 unfolding alarms
 alarms-agree v w h stop q = refl
@@ -73,7 +77,7 @@ alarms-agree {j} v w h (tell {e} {es} t k) q =
 pub all-enabled-alarms
     : (j : Job) {x y : Place} {es : List Event} → Walk j x es y
     → (q : ℕ) → alarms (j .rule) full q es ≡ alarms (j .rule) (enables (allEnabled j)) q es
-all-enabled-alarms j k q = alarms-agree full (enables (allEnabled j)) (λ n a e. sym (all-enabled-event j n a e)) k q
+all-enabled-alarms j k q = alarms-agree full (enables (allEnabled j)) (λ n e. sym (all-enabled-event j n e)) k q
 
 -- the plan with all points watched is faithful
 pub all-enabled-faithful : (j : Job) → Faithful j (enables (allEnabled j))

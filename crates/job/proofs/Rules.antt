@@ -10,14 +10,14 @@ use Rattle.laws.specs.Bits.{has}
 use Rattle.laws.proofs.Tests.{fails-of}
 use Rattle.job.specs.Job.{Job, nodeAt, WellFormedJob}
 use Rattle.job.specs.Walk.{Place, before, past}
-use Rattle.job.specs.Plan.{Enabling, full, enables, Faithful, Different}
+use Rattle.job.specs.Plan.{Enabling, full, enables, ApartAt, Faithful, Different}
 use Rattle.job.specs.Found.{Arrives, Equivalent}
 use Rattle.job.specs.Search.{faithful, arrives, apart}
-use Rattle.job.proofs.Pairs.{Pairs, Pair, Admitted, admitted, Kept, pair-least, Splits, ApartAt, apart-now, pair-apart}
+use Rattle.job.proofs.Pairs.{Pairs, Pair, Admitted, admitted, Kept, pair-least, Splits, apart-now, pair-apart}
 use Rattle.job.proofs.Pairs.{Backwards, apart-least, Invariant, invariant-alike}
 use Rattle.job.proofs.Bounds.{Within, within-kept}
 use Rattle.job.proofs.Decide.{start-different, different-says, faithful-says, pair-arrives, arrives-pair, arrives-says}
-use Rattle.job.proofs.Decide.{apart-at, equivalent-says, apart-says, apart-not-says}
+use Rattle.job.proofs.Decide.{equivalent-says, apart-says, apart-not-says}
 
 -- what holds before every entry in its admitted states holds at the starts
 pub at-admitted
@@ -29,8 +29,8 @@ at-admitted R h x p q (admitted {n = n} {q = k} e) = h n k e
 
 -- an invariant makes a plan faithful
 pub invariant-faithful : {j : Job} {w : Enabling} {R : Pairs} → Invariant j full w (Admitted j) R → Faithful j w
-invariant-faithful h s k =
-    invariant-alike h (h .kept .starts (before (s .node)) (s .state) (s .state) (admitted (s .admitted))) (k .events) (k .end) (k .walk)
+invariant-faithful h s =
+    invariant-alike h (h .kept .starts (before (s .node)) (s .state) (s .state) (admitted (s .admitted)))
 
 -- a reached pair that is told apart makes it different
 pub pair-different
@@ -73,13 +73,13 @@ pub outside-equivalent
     : {j : Job} {T : Pairs} {n p q : ℕ} → WellFormedJob j → Backwards j full full (Within j) T → Within j (past n) p q
     → (T (past n) p q → ⊥) → Equivalent j n p q
 outside-equivalent {j} wf b r out =
-    equivalent-says .1 (λ a. out (apart-least (within-kept {S = Within j} wf (λ x p q s. s)) b r (apart-at .0 a)))
+    equivalent-says .1 (λ a. out (apart-least (within-kept {S = Within j} wf (λ x p q s. s)) b r a))
 
 module _
     {j : Job} (wf : WellFormedJob j) (n p q : ℕ) (node : n < length (j .nodes)) (one : p < j .rule .states) (other : q < j .rule .states) where
   -- apart: told apart past the node
   pub apart-true : ApartAt j full full (past n) p q → apart j n p q ≡ true
-  apart-true a = apart-says wf n p q node one other .1 (apart-at .1 a)
+  apart-true a = apart-says wf n p q node one other .1 a
 
   -- not apart: outside a set that is closed backwards
   pub apart-false : {T : Pairs} → Backwards j full full (Within j) T → (T (past n) p q → ⊥) → apart j n p q ≡ false

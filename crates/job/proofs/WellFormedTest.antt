@@ -1,8 +1,8 @@
 -- A test of jobs, and that a job which passes it is well formed: for jobs that are written out.
 -- Assumes nothing.
-use mathlib.Core.Path.{_≡_}
+use mathlib.Core.Path.{_≡_, sym, ap, _∙_}
 use mathlib.Core.Logic.{⊎-elim}
-use mathlib.Core.Bool.{Bool, true, false, _&&_, and-eq-true-iff, false≢true}
+use mathlib.Core.Bool.{Bool, true, _&&_, and-eq-true-iff, false≢true}
 use mathlib.Core.List.{List, [], _∷_}
 use Prim.Native.Nat.{ℕ, zero, suc, _^_, _<_}
 use lib.Dec.{ltb, eqb}
@@ -13,13 +13,16 @@ use Rattle.laws.proofs.Tests.{or-passes}
 use Rattle.laws.proofs.Bits.{has-below}
 use Rattle.automaton.specs.Automaton.{wellFormed}
 use Rattle.automaton.proofs.AutomatonLaws.{well-formed-says}
-use Rattle.job.specs.Job.{Kind, plain, event, call, Node, Edge, Job, noNode, nodeAt, holds, KindBelow, plain-below, event-below, call-below, WellFormedJob}
+use Rattle.job.specs.Job.{Kind, Point, no-point, point, pointOf, callSet, Node, Edge, Job, noNode, nodeAt, holds, KindBelow, WellFormedJob}
+
+-- the symbol of a point is below a
+abbrev pub pointBelow : ℕ → Point → Bool
+pointBelow a no-point = true
+pointBelow a (point s) = ltb s a
 
 -- the symbols of a kind are below a
 abbrev pub kindBelow : ℕ → Kind → Bool
-kindBelow a plain = true
-kindBelow a (event s) = ltb s a
-kindBelow a (call set) = ltb set (2 ^ a)
+kindBelow a k = pointBelow a (pointOf k) && ltb (callSet k) (2 ^ a)
 
 -- a node names states below s and symbols below a
 abbrev pub nodeBelow : ℕ → ℕ → Node → Bool
@@ -48,14 +51,18 @@ both a b h = and-eq-true-iff a b .0 h
 
 -- the symbols of the kind exist
 kind-below : (a : ℕ) (k : Kind) → kindBelow a k ≡ true → KindBelow a k
-kind-below a plain h = plain-below
-kind-below a (event s) h = event-below (ltb-true s a h)
-kind-below a (call set) h = call-below (λ s. has-below a set s (ltb-true set (2 ^ a) h))
+kind-below a k h =
+    let parts = both (pointBelow a (pointOf k)) (ltb (callSet k) (2 ^ a)) h in
+    record {
+      point-below = λ s e. ltb-true s a (sym (ap (pointBelow a) e) ∙ parts .0);
+      words-below = λ s. has-below a (callSet k) s (ltb-true (callSet k) (2 ^ a) (parts .1));
+    }
 
 -- a node of the list, or the one past its end
 node-below : (s a : ℕ) (ns : List Node) → nodesBelow s a ns ≡ true → (n : ℕ) → nodeBelow s a (getD ns n noNode) ≡ true
 unfolding nodesBelow
-node-below s a [] h n = and-eq-true-iff _ _ .1 (lt-ltb 0 (2 ^ s) (pow-pos s), lt-ltb 0 (2 ^ a) (pow-pos a))
+node-below s a [] h n =
+    and-eq-true-iff _ _ .1 (lt-ltb 0 (2 ^ a) (pow-pos a), and-eq-true-iff _ _ .1 (lt-ltb 0 (2 ^ s) (pow-pos s), lt-ltb 0 (2 ^ a) (pow-pos a)))
 node-below s a (x ∷ xs) h zero = both (nodeBelow s a x) (nodesBelow s a xs) h .0
 node-below s a (x ∷ xs) h (suc n) = node-below s a xs (both (nodeBelow s a x) (nodesBelow s a xs) h .1) n
 

@@ -1,36 +1,26 @@
 -- What is found at a point (document 01, "What is found at a point"), with all points watched.
 -- Assumes nothing.
-use mathlib.Core.Path.{_≡_}
 use mathlib.Core.Bool.{Bool, cond, not, _&&_, _||_}
-use mathlib.Core.List.{List}
 use Prim.Native.Nat.{ℕ, zero, suc}
 use Rattle.laws.specs.Bounded.{allBelow, sumBelow}
 use Rattle.laws.specs.Bits.{with}
 use Rattle.automaton.specs.Automaton.{next, final}
 use Rattle.job.specs.Job.{Job}
-use Rattle.job.specs.Walk.{Event, Place, before, past, Walk, Start}
-use Rattle.job.specs.Plan.{full, stateAfter, alarms, DifferAt}
+use Rattle.job.specs.Walk.{before, past}
+use Rattle.job.specs.Plan.{full, ArrivesAt, AlikeAt, ApartAt}
 use Rattle.job.specs.Search.{arrives, apart}
 
--- "some walk arrives there": from a start to before the node, in the state q
-pub record Arrives (j : Job) (n q : ℕ) : Type 0 where
-  pub start : Start j
-  pub events : List Event
-  pub walk : Walk j (before (start .node)) events (before n)
-  pub state : stateAfter (j .rule) full (start .state) events ≡ q
+-- "some walk arrives there": to before the node, in the state q
+abbrev pub Arrives : Job → ℕ → ℕ → Type 0
+Arrives j n q = ArrivesAt j full full (before n) q q
 
--- a continuation from past the node with an alarm from one of two states and not from the other, at the same event
-pub record Apart (j : Job) (n p q : ℕ) : Type 0 where
-  pub events : List Event
-  pub end : Place
-  pub walk : Walk j (past n) events end
-  pub place : ℕ
-  pub differs : DifferAt (alarms (j .rule) full p events) (alarms (j .rule) full q events) place
+-- some continuation past the node has an alarm from one of two states and not from the other, at the same event
+abbrev pub Apart : Job → ℕ → ℕ → ℕ → Type 0
+Apart j n p q = ApartAt j full full (past n) p q
 
 -- "of one class after a point": no continuation tells the states apart
 abbrev pub Equivalent : Job → ℕ → ℕ → ℕ → Type 0
-Equivalent j n p q =
-    (es : List Event) (end : Place) → Walk j (past n) es end → alarms (j .rule) full p es ≡ alarms (j .rule) full q es
+Equivalent j n p q = AlikeAt j full full (past n) p q
 
 -- the set of the numbers below k that pass a test
 unfoldable pub setOf : ℕ → (ℕ → Bool) → ℕ

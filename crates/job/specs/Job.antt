@@ -15,11 +15,49 @@ pub data Kind : Type 0 where
   event : ℕ → Kind
   call : ℕ → Kind
 
+-- the event that a node has of its own ("point"): none, or one with its symbol
+pub data Point : Type 0 where
+  no-point : Point
+  point : ℕ → Point
+
+-- the point of a node of this kind
+abbrev pub pointOf : Kind → Point
+pointOf plain = no-point
+pointOf (event a) = point a
+pointOf (call set) = no-point
+
+-- the set over which a node of this kind reports words; where it is no call 0, over which there is the empty word alone
+abbrev pub callSet : Kind → ℕ
+callSet plain = 0
+callSet (event a) = 0
+callSet (call set) = set
+
+-- there is a point
+abbrev pub isPoint : Point → Bool
+isPoint no-point = false
+isPoint (point a) = true
+
+-- a node of this kind is an event node
+abbrev pub isEvent : Kind → Bool
+isEvent k = isPoint (pointOf k)
+
 -- the kind of its number in a job file, and its value
 abbrev pub kindOf : ℕ → ℕ → Kind
 kindOf zero value = plain
 kindOf (suc zero) value = event value
 kindOf (suc (suc k)) value = call value
+
+-- the number of a kind in a job file
+abbrev pub kindNumber : Kind → ℕ
+kindNumber plain = 0
+kindNumber (event a) = 1
+kindNumber (call s) = 2
+
+-- the value of a kind: "0, symbol or set"
+abbrev pub valueNumber : Kind → ℕ
+valueNumber plain = 0
+valueNumber (event a) = a
+valueNumber (call s) = s
 
 -- a node: its kind, its entry set (nonzero at an entry), whether it is an exit, and its after set
 pub record Node : Type 0 where
@@ -57,10 +95,9 @@ abbrev pub leads : Job → ℕ → ℕ → Bool
 leads j m n = holds (j .edges) m n
 
 -- the symbols that a node of this kind may report are below a
-pub data KindBelow (a : ℕ) : Kind → Type 0 where
-  plain-below : KindBelow a plain
-  event-below : {s : ℕ} → s < a → KindBelow a (event s)
-  call-below : {set : ℕ} → ((s : ℕ) → has set s ≡ true → s < a) → KindBelow a (call set)
+pub record KindBelow (a : ℕ) (k : Kind) : Type 0 where
+  pub point-below : (s : ℕ) → pointOf k ≡ point s → s < a
+  pub words-below : (s : ℕ) → has (callSet k) s ≡ true → s < a
 
 -- every state, symbol and node that the job names exists; the job file's refusals leave no other job
 pub record WellFormedJob (j : Job) : Type 0 where

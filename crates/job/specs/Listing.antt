@@ -4,7 +4,7 @@ use mathlib.Core.Bool.{cond}
 use mathlib.Core.List.{List, [], _∷_}
 use Prim.Native.Nat.{ℕ, suc}
 use lib.ListN.{getD}
-use Rattle.job.specs.Job.{Kind, plain, event, call, Node, Job}
+use Rattle.job.specs.Job.{Point, no-point, point, pointOf, Node, Job}
 use Rattle.job.specs.Found.{statesBefore, classCount, nopShadow}
 use Rattle.job.specs.Planning.{Planned, planned, allEnabled, enabledCount}
 use Rattle.job.specs.Search.{faithful}
@@ -45,16 +45,15 @@ shadowLine j plan n a =
       enabled = getD plan n 0;
     }
 
--- the line of a node of this kind, if it has one, before the lines of those after it
-abbrev pub lineOf : Job → List ℕ → ℕ → Kind → List ShadowLine → List ShadowLine
-lineOf j plan n plain rest = rest
-lineOf j plan n (event a) rest = shadowLine j plan n a ∷ rest
-lineOf j plan n (call s) rest = rest
+-- the line of a node, if it has a point, before the lines of those after it
+abbrev pub lineOf : Job → List ℕ → ℕ → Point → List ShadowLine → List ShadowLine
+lineOf j plan n no-point rest = rest
+lineOf j plan n (point a) rest = shadowLine j plan n a ∷ rest
 
 -- the lines of the nodes from number n on
 unfoldable pub linesFrom : Job → List ℕ → ℕ → List Node → List ShadowLine
 linesFrom j plan n [] = []
-linesFrom j plan n (x ∷ xs) = lineOf j plan n (x .kind) (linesFrom j plan (suc n) xs)
+linesFrom j plan n (x ∷ xs) = lineOf j plan n (pointOf (x .kind)) (linesFrom j plan (suc n) xs)
 
 -- the listing of a job
 unfoldable pub listingOf : Job → Listing

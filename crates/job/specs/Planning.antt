@@ -6,14 +6,12 @@ use mathlib.Core.List.{List, [], _∷_, map}
 use Prim.Native.Nat.{ℕ, zero, suc, _+_}
 use lib.Dec.{eqb}
 use lib.ListN.{length, set}
-use Rattle.job.specs.Job.{Kind, plain, event, call, Node, Job}
+use Rattle.job.specs.Job.{Kind, isEvent, Node, Job}
 use Rattle.job.specs.Plan.{enables, Faithful}
 
 -- 1 at an event node, 0 at any other
 abbrev pub shadowByte : Kind → ℕ
-shadowByte plain = 0
-shadowByte (event a) = 1
-shadowByte (call s) = 0
+shadowByte k = cond (isEvent k) 1 0
 
 -- "all points start watched"
 abbrev pub allEnabled : Job → List ℕ

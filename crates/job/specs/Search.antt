@@ -6,7 +6,7 @@ use Prim.Native.Nat.{ℕ, zero, suc, _+_, _*_, _^_}
 use lib.Dec.{eqb}
 use lib.ListN.{length}
 use Rattle.laws.specs.Bits.{has}
-use Rattle.job.specs.Job.{Kind, plain, event, call, Edge, Job, nodeAt}
+use Rattle.job.specs.Job.{Point, no-point, point, pointOf, callSet, Edge, Job, nodeAt}
 use Rattle.job.specs.Walk.{Event, shadow, word, Place, before, past, ended}
 use Rattle.job.specs.Plan.{Enabling, full, enables, stateAt, alarmAt}
 
@@ -84,15 +84,14 @@ targets [] m = []
 targets (e ∷ es) m = cond (eqb (e .from) m) (e .to ∷ targets es m) (targets es m)
 
 -- the places past a node that is entered silently
-abbrev pub entered : ℕ → Kind → List Place
-entered n plain = past n ∷ []
-entered n (event a) = []
-entered n (call s) = past n ∷ []
+abbrev pub entered : ℕ → Point → List Place
+entered n no-point = past n ∷ []
+entered n (point a) = []
 
 -- the silent moves from a place
 unfoldable pub silentMoves : Job → Place → List Place
 unfolding targets
-silentMoves j (before n) = entered n (nodeAt j n .kind)
+silentMoves j (before n) = entered n (pointOf (nodeAt j n .kind))
 silentMoves j (past n) = map before (targets (j .edges) n) ++ cond (nodeAt j n .exit) (ended n ∷ []) []
 silentMoves j (ended n) = []
 
@@ -109,23 +108,16 @@ telling e y = record { event = e; to = y }
 abbrev pub words : ℕ → ℕ → Place → List Telling
 words a set x = map (λ s. telling (word s) x) (numbersOf a (has set))
 
--- what is reported before a node of this kind
-abbrev pub reports : ℕ → Kind → List Telling
-reports n plain = []
-reports n (event a) = telling (shadow n a) (past n) ∷ []
-reports n (call s) = []
-
--- what is reported past a node of this kind
-abbrev pub callWords : ℕ → ℕ → Kind → List Telling
-callWords a n plain = []
-callWords a n (event s) = []
-callWords a n (call set) = words a set (past n)
+-- what is reported before a node: its point
+abbrev pub reports : ℕ → Point → List Telling
+reports n no-point = []
+reports n (point a) = telling (shadow n a) (past n) ∷ []
 
 -- the moves that report an event
 unfoldable pub toldMoves : Job → Place → List Telling
 unfolding numbersOf
-toldMoves j (before n) = reports n (nodeAt j n .kind)
-toldMoves j (past n) = callWords (j .rule .symbols) n (nodeAt j n .kind)
+toldMoves j (before n) = reports n (pointOf (nodeAt j n .kind))
+toldMoves j (past n) = words (j .rule .symbols) (callSet (nodeAt j n .kind)) (past n)
 toldMoves j (ended n) = cond (nodeAt j n .exit) (words (j .rule .symbols) (nodeAt j n .after) (ended n)) []
 
 -- the configuration after an event

@@ -50,14 +50,18 @@ pub data Walk (j : Job) : Place → List Event → Place → Type 0 where
   move : {x y z : Place} {es : List Event} → Silent j x y → Walk j y es z → Walk j x es z
   tell : {x y z : Place} {e : Event} {es : List Event} → Told j x e y → Walk j y es z → Walk j x (e ∷ es) z
 
+-- a walk from a place on: its events and where it stands
+pub record WalkOn (j : Job) (x : Place) : Type 0 where
+  pub events : List Event
+  pub end : Place
+  pub walk : Walk j x events end
+
 -- "begins before an entry node in an admitted state"
 pub record Start (j : Job) : Type 0 where
   pub node : ℕ
   pub state : ℕ
   pub admitted : has (nodeAt j node .entry) state ≡ true
 
--- a walk of the job from a start: its events and where it stands
-pub record WalkFrom (j : Job) (s : Start j) : Type 0 where
-  pub events : List Event
-  pub end : Place
-  pub walk : Walk j (before (s .node)) events end
+-- a walk of the job from a start
+abbrev pub WalkFrom : (j : Job) → Start j → Type 0
+WalkFrom j s = WalkOn j (before (s .node))

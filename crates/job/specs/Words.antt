@@ -6,9 +6,17 @@ use Prim.Native.Nat.{ℕ}
 use Rattle.laws.specs.Bits.{has}
 use Rattle.automaton.specs.Automaton.{Automaton, next, final}
 
--- some word over the set tells two states apart: an alarm from one and not from the other at one of its symbols
-pub data WordApart (m : Automaton) (set : ℕ) : ℕ → ℕ → Type 0 where
+-- some word over the set tells two states apart: an alarm from one and not from the other at one of its symbols, or by what may follow
+-- the word
+pub data WordApart (m : Automaton) (set : ℕ) (More : ℕ → ℕ → Type 0) : ℕ → ℕ → Type 0 where
   -- at its first symbol
-  apart-here : (a : ℕ) {p q : ℕ} → has set a ≡ true → final m (next m p a) ≡ not (final m (next m q a)) → WordApart m set p q
-  -- at a later symbol
-  apart-later : (a : ℕ) {p q : ℕ} → has set a ≡ true → WordApart m set (next m p a) (next m q a) → WordApart m set p q
+  apart-here
+      : (a : ℕ) {p q : ℕ} → has set a ≡ true → final m (next m p a) ≡ not (final m (next m q a)) → WordApart m set More p q
+  -- at a later symbol, or after it
+  apart-later : (a : ℕ) {p q : ℕ} → has set a ≡ true → WordApart m set More (next m p a) (next m q a) → WordApart m set More p q
+  -- after the empty word
+  apart-after : {p q : ℕ} → More p q → WordApart m set More p q
+
+-- nothing follows the word after an exit: "the walk may end with any finite word over the after set"
+abbrev pub NothingMore : ℕ → ℕ → Type 0
+NothingMore p q = ⊥

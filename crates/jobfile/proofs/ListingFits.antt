@@ -10,7 +10,7 @@ use native.Mathlib.Omega.{arith}
 use lib.ListN.{length, getD, length-map}
 use Rattle.laws.proofs.Bounded.{sum-bound}
 use Rattle.laws.proofs.Bits.{members-below}
-use Rattle.job.specs.Job.{Kind, Node, Job, noNode, KindBelow, plain-below, event-below, call-below}
+use Rattle.job.specs.Job.{Point, no-point, point, pointOf, Node, Job, noNode, KindBelow}
 use Rattle.job.specs.Found.{statesBefore, lowest, classCount, nopShadow}
 use Rattle.job.specs.Search.{faithful, arrives}
 use Rattle.job.specs.Listing.{ShadowLine, Listing, planOf, shadowLine, lineOf as lineAt, linesFrom, listingOf}
@@ -63,14 +63,13 @@ module _ (j : Job) (spell : Spellable j) where
 
   -- a node's line, where it has one, and those after it
   line-fits
-      : (n : ℕ) → n < 512 → {k : Kind} → KindBelow (j .rule .symbols) k → (rest : List ShadowLine)
+      : (n : ℕ) → n < 512 → (x : Point) → ((s : ℕ) → x ≡ point s → s < j .rule .symbols) → (rest : List ShadowLine)
       → ((i : ℕ) → Fits (getD (map shadowNumbers rest) i []))
-      → (i : ℕ) → Fits (getD (map shadowNumbers (lineAt j (planOf j .plan) n k rest)) i [])
-  line-fits n few plain-below rest h i = h i
-  line-fits n few (event-below {s} l) rest h zero =
-      shadow-fits n s few (omega (arith, spell .well-formed .rule .few-symbols))
-  line-fits n few (event-below {s} l) rest h (suc i) = h i
-  line-fits n few (call-below m) rest h i = h i
+      → (i : ℕ) → Fits (getD (map shadowNumbers (lineAt j (planOf j .plan) n x rest)) i [])
+  line-fits n few no-point below rest h i = h i
+  line-fits n few (point s) below rest h zero =
+      shadow-fits n s few (omega (arith, below s refl, spell .well-formed .rule .few-symbols))
+  line-fits n few (point s) below rest h (suc i) = h i
 
   -- the lines of the nodes from number n on
   lines-fit
@@ -79,7 +78,7 @@ module _ (j : Job) (spell : Spellable j) where
   unfolding linesFrom
   lines-fit n [] few below i = λ k. omega arith
   lines-fit n (x ∷ xs) few below i =
-      line-fits n (omega arith) (below 0) (linesFrom j (planOf j .plan) (suc n) xs)
+      line-fits n (omega arith) (pointOf (x .kind)) (below 0 .point-below) (linesFrom j (planOf j .plan) (suc n) xs)
       (lines-fit (suc n) xs (omega arith) (λ m. below (suc m))) i
 
   -- the W lines

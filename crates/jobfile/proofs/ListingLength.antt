@@ -3,10 +3,11 @@
 -- Assumes nothing.
 use Prim.Native.Nat.{ℕ, suc, _+_, _*_, _≤_}
 use mathlib.Core.Path.{_≡_, refl, ap, _∙_}
+use mathlib.Core.Bool.{cond}
 use mathlib.Core.List.{List, [], _∷_, map}
 use native.Mathlib.Omega.{arith}
 use lib.ListN.{length, length-append}
-use Rattle.job.specs.Job.{Kind, plain, event, call, Node, Job}
+use Rattle.job.specs.Job.{Point, no-point, point, pointOf, isPoint, Node, Job}
 use Rattle.job.specs.Planning.{shadowByte, allEnabled, enabledCount}
 use Rattle.job.specs.Listing.{ShadowLine, TotalLine, planOf, lineOf, linesFrom, listingOf}
 use Rattle.job.proofs.PlanBytes.{count-le, all-enabled-plan}
@@ -42,12 +43,11 @@ lines-count
     → length (linesFrom j plan n xs) ≡ enabledCount (map (λ (x : Node). shadowByte (x .kind)) xs)
 unfolding linesFrom enabledCount
 lines-count j plan n [] = refl
-lines-count j plan n (x ∷ xs) = here (x .kind) (linesFrom j plan (suc n) xs) ∙ ap (λ (m : ℕ). shadowByte (x .kind) + m) (lines-count j plan (suc n) xs)
+lines-count j plan n (x ∷ xs) = here (pointOf (x .kind)) (linesFrom j plan (suc n) xs) ∙ ap (λ (m : ℕ). shadowByte (x .kind) + m) (lines-count j plan (suc n) xs)
   where
-    here : (k : Kind) (rest : List ShadowLine) → length (lineOf j plan n k rest) ≡ shadowByte k + length rest
-    here plain rest = omega arith
-    here (event a) rest = omega arith
-    here (call s) rest = omega arith
+    here : (x : Point) (rest : List ShadowLine) → length (lineOf j plan n x rest) ≡ cond (isPoint x) 1 0 + length rest
+    here no-point rest = omega arith
+    here (point a) rest = omega arith
 
 -- 38 bytes for each event node, and 20
 pub listing-length : (j : Job) → length (listingBytes (listingOf j)) ≡ enabledCount (allEnabled j) * 38 + 20

@@ -17,7 +17,8 @@ use Rattle.laws.specs.Bits.{has}
 use Rattle.laws.proofs.Tests.{or-passes}
 use Rattle.laws.proofs.Bits.{below-says}
 use Rattle.automaton.specs.Automaton.{cell}
-use Rattle.job.specs.Job.{plain, Node, Edge, Job, noNode, holds, KindBelow, plain-below, WellFormedJob}
+use Rattle.job.specs.Job.{plain, Node, Edge, Job, noNode, holds, KindBelow, WellFormedJob}
+use Rattle.job.proofs.KindLaws.{plain-below}
 use Rattle.jobfile.specs.File.{accepted, readJob, writeJob}
 use Rattle.jobfile.specs.Refusal.{HeadWithin}
 use Rattle.jobfile.specs.Spellable.{Before, Ascending, no-edge, one-edge, next-edge, Spellable, LongestFile}

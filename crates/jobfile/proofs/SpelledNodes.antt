@@ -15,9 +15,10 @@ use Rattle.laws.specs.Bounded.{tab}
 use Rattle.laws.specs.Bits.{has}
 use Rattle.laws.proofs.Bounded.{length-tab, getD-tab}
 use Rattle.laws.proofs.Bits.{has-empty, below-says}
-use Rattle.job.specs.Job.{Kind, plain, event, call, kindOf, Node, noNode, KindBelow, plain-below, event-below, call-below}
+use Rattle.job.specs.Job.{Kind, plain, event, call, kindOf, kindNumber, valueNumber, Node, noNode, KindBelow}
+use Rattle.job.proofs.KindLaws.{plain-below, event-below, call-below}
 use Rattle.lines.specs.Line.{line, at, writeLines}
-use Rattle.jobfile.specs.File.{nodeLine, nodeOf, mark, kindNumber, valueNumber, writeNodes}
+use Rattle.jobfile.specs.File.{nodeLine, nodeOf, mark, writeNodes}
 use Rattle.jobfile.specs.Refusal.{NodeWithin}
 use Rattle.lines.specs.Written.{Fits, GoodLines, good-none, good-more}
 use Rattle.jobfile.proofs.WithinLaws.{node-says}
@@ -84,9 +85,9 @@ kind-within
     : (a : ℕ) (k : Kind) → KindBelow a k
     → (kindNumber k ≤ 2) × (kindNumber k ≡ 0 → valueNumber k ≡ 0) × (kindNumber k ≡ 1 → valueNumber k < a)
     × (kindNumber k ≡ 2 → (q : ℕ) → has (valueNumber k) q ≡ true → q < a)
-kind-within a k plain-below = (omega arith, λ e. refl, λ e. absurd (omega arith), λ e. absurd (omega arith))
-kind-within a k (event-below h) = (omega arith, λ e. absurd (omega arith), λ e. h, λ e. absurd (omega arith))
-kind-within a k (call-below h) = (omega arith, λ e. absurd (omega arith), λ e. absurd (omega arith), λ e. h)
+kind-within a plain b = (omega arith, λ e. refl, λ e. absurd (omega arith), λ e. absurd (omega arith))
+kind-within a (event s) b = (omega arith, λ e. absurd (omega arith), λ e. b .point-below s refl, λ e. absurd (omega arith))
+kind-within a (call set) b = (omega arith, λ e. absurd (omega arith), λ e. absurd (omega arith), λ e. b .words-below)
 
 -- ---- numbers of few digits
 
@@ -102,9 +103,9 @@ kind-small (call s) = omega arith
 
 -- its value
 value-small : (a : ℕ) (k : Kind) → a ≤ 16 → KindBelow a k → valueNumber k < 1000000
-value-small a k h plain-below = omega arith
-value-small a k h (event-below l) = omega arith
-value-small a k h (call-below {set} below) = set-small a set h below
+value-small a plain h b = omega arith
+value-small a (event s) h b = omega (arith, b .point-below s refl)
+value-small a (call set) h b = set-small a set h (b .words-below)
 
 -- ---- good lines
 

@@ -8,7 +8,7 @@ use lib.ListN.{length, drop}
 use Rattle.laws.specs.Bounded.{allBelow}
 use Rattle.laws.specs.Bits.{has, with}
 use Rattle.automaton.specs.Automaton.{Automaton}
-use Rattle.job.specs.Job.{Kind as NodeKind, plain, event, call, kindOf, Node, Edge, Job}
+use Rattle.job.specs.Job.{kindOf, kindNumber, valueNumber, Node, Edge, Job}
 use Rattle.lines.specs.Line.{line, at}
 use Rattle.lines.specs.Lines.{Kind, Lines, lines, refused, linesOf}
 
@@ -150,18 +150,6 @@ mark false = 0
 unfoldable pub writeRules : ℕ → ℕ → List (List ℕ) → List ℕ
 writeRules finals i [] = []
 writeRules finals i (row ∷ rows) = line 82 (i ∷ mark (has finals i) ∷ row) ++ writeRules finals (suc i) rows
-
--- the number of a kind
-abbrev pub kindNumber : NodeKind → ℕ
-kindNumber plain = 0
-kindNumber (event a) = 1
-kindNumber (call s) = 2
-
--- the value of a kind: "0, symbol or set"
-abbrev pub valueNumber : NodeKind → ℕ
-valueNumber plain = 0
-valueNumber (event a) = a
-valueNumber (call s) = s
 
 -- the lines of the nodes, from place i on
 unfoldable pub writeNodes : ℕ → List Node → List ℕ

@@ -15,18 +15,18 @@ use Rattle.laws.specs.Bits.{has}
 use Rattle.laws.proofs.Bits.{has-below, has-empty}
 use Rattle.laws.proofs.Tests.{fails-of}
 use Rattle.automaton.specs.Automaton.{next, final, cell}
-use Rattle.job.specs.Job.{event, call, Job, Node, nodeAt}
+use Rattle.job.specs.Job.{point, pointOf, callSet, isEvent, Job, Node, nodeAt}
 use Rattle.job.specs.Plan.{Enabling, full, enables}
 use Rattle.buffer.specs.Layout.{Lent}
 use Rattle.buffer.specs.Views.{nodeIn, pairRowIn, classRowIn, enabledIn, Held}
 use Rattle.moves.specs.declared.Past.{Past}
-use Rattle.tables.specs.Rows.{CellsBelow, meets, callSet, isEvent}
+use Rattle.tables.specs.Rows.{CellsBelow, meets}
 use Rattle.moves.specs.Past.{pastRow}
 use Rattle.tables.specs.Held.{JobHeld, PlanHeld}
 use Rattle.spread.specs.Spreading.{WordFrom, Spread}
 use Rattle.look.specs.Looking.{pastNode, Follows, by-word, AlikePair, SplitPair, split-point, split-call, split-exit, LookedAt}
 use Rattle.spread.proofs.SpreadLaws.{apart-meets, some-meets}
-use Rattle.look.proofs.PastLaws.{call-of, event-small, call-small, PastSays, past-says, past-state}
+use Rattle.look.proofs.PastLaws.{event-small, call-small, PastSays, past-says, past-state}
 use Rattle.tables.proofs.RowLaws.{meets-says, meets-none}
 use Rattle.tables.proofs.KeptLaws.{grown-none, node-same, class-same, enabled-same}
 
@@ -52,7 +52,7 @@ pub record RowMoved (table : List (List ℕ)) (finals : ℕ) (l m : List ℕ) (n
   pub enabled : Bool
   pub event-says : event-is ≡ isEvent (nodeIn m n .kind)
   pub symbol-small : symbol < 16
-  pub symbol-says : (a : ℕ) → nodeIn m n .kind ≡ event a → symbol ≡ a % 16
+  pub symbol-says : (a : ℕ) → pointOf (nodeIn m n .kind) ≡ point a → symbol ≡ a % 16
   pub enabled-says : enabled ≡ enabledIn m n
   pub past-is : past ≡ pastRow table finals event-is symbol enabled p s
 
@@ -76,12 +76,12 @@ module _ {table : List (List ℕ)} {finals : ℕ} {l : List ℕ} {n p s set : �
   kind-is = ap (λ (x : Node). x .kind) (held .node n inside)
 
   -- a symbol of the set read is one of the node's call word
-  word-of : (a : ℕ) → has set a ≡ true → (t : ℕ) × (nodeAt j n .kind ≡ call t) × (has t a ≡ true)
-  word-of a h = call-of (nodeAt j n .kind) a (subst (λ (x : ℕ). has x a ≡ true) (read .set-is ∙ ap callSet kind-is) h)
+  word-of : (a : ℕ) → has set a ≡ true → has (callSet (nodeAt j n .kind)) a ≡ true
+  word-of a h = subst (λ (x : ℕ). has x a ≡ true) (read .set-is ∙ ap callSet kind-is) h
 
   -- and the other way round
-  of-word : (t a : ℕ) → nodeAt j n .kind ≡ call t → has t a ≡ true → has set a ≡ true
-  of-word t a k h = subst (λ (x : ℕ). has x a ≡ true) (sym (read .set-is ∙ ap callSet (kind-is ∙ k))) h
+  of-word : (a : ℕ) → has (callSet (nodeAt j n .kind)) a ≡ true → has set a ≡ true
+  of-word a h = subst (λ (x : ℕ). has x a ≡ true) (sym (read .set-is ∙ ap callSet kind-is)) h
 
   -- a state of the row is held
   row-held : (q : ℕ) → has s q ≡ true → Held l n p q
@@ -101,7 +101,7 @@ module _ {table : List (List ℕ)} {finals : ℕ} {l : List ℕ} {n p s set : �
   word-follows w k r t (here, f) =
       let c = word-of (f .symbol) (f .of-set) in
       let g : Follows j w n p (f .state) n (next (j .rule) p (f .symbol)) (next (j .rule) (f .state) (f .symbol)) =
-      by-word (f .symbol) (c .1) (c .2) in
+      by-word (f .symbol) c in
       let one : r ≡ next (j .rule) p (f .symbol) = f .one ∙ held .cells p (f .symbol) (read .row) (f .small) in
       let other : t ≡ next (j .rule) (f .state) (f .symbol) =
       f .other ∙ held .cells (f .state) (f .symbol) (has-below 16 s (f .state) (read .short) (f .of-row)) (f .small) in
@@ -125,7 +125,7 @@ module _ {table : List (List ℕ)} {finals : ℕ} {l : List ℕ} {n p s set : �
       let c = word-of (f .0) (f .3) in (
         f .1,
         row-held (f .1) (f .4),
-        split-call (f .0) (c .1) (c .2)
+        split-call (f .0) c
             (sym (final-is p (f .0) (read .row) (f .2)) ∙ f .5
             ∙ ap not (final-is (f .1) (f .0) (has-below 16 s (f .1) (read .short) (f .4)) (f .2))),
       )
@@ -133,19 +133,19 @@ module _ {table : List (List ℕ)} {finals : ℕ} {l : List ℕ} {n p s set : �
   module _ (m : List ℕ) (spread : Spread table finals l m n p s set false) (q : ℕ) (h : Held l n p q) where
     -- where none does, what the call word leads to is held
     word-held
-        : (t a : ℕ) → nodeAt j n .kind ≡ call t → has t a ≡ true → Held m n (next (j .rule) p a) (next (j .rule) q a)
-    word-held t a k g =
-        let small : a < 16 = call-small n t a (held .formed) k g in
+        : (a : ℕ) → has (callSet (nodeAt j n .kind)) a ≡ true → Held m n (next (j .rule) p a) (next (j .rule) q a)
+    word-held a g =
+        let small : a < 16 = call-small n a (held .formed) g in
         rw (← held .cells p a (read .row) small, ← held .cells q a (held-small q h) small)
-        (spread .here refl a q small (of-word t a k g) (held-row q h))
+        (spread .here refl a q small (of-word a g) (held-row q h))
 
     -- and the monitors alarm alike
     word-alike
-        : (t a : ℕ) → nodeAt j n .kind ≡ call t → has t a ≡ true
+        : (a : ℕ) → has (callSet (nodeAt j n .kind)) a ≡ true
         → final (j .rule) (next (j .rule) p a) ≡ final (j .rule) (next (j .rule) q a)
-    word-alike t a k g =
-        let small : a < 16 = call-small n t a (held .formed) k g in
-        sym (final-is p a (read .row) small) ∙ spread .alike refl a q small (of-word t a k g) (held-row q h)
+    word-alike a g =
+        let small : a < 16 = call-small n a (held .formed) g in
+        sym (final-is p a (read .row) small) ∙ spread .alike refl a q small (of-word a g) (held-row q h)
         ∙ final-is q a (held-small q h) small
 
 -- the row past the node, for a job and a plan that are held
@@ -158,21 +158,21 @@ module _ {table : List (List ℕ)} {finals : ℕ} {l m : List ℕ} {n p s set : 
       ap (λ (x : Node). x .kind) (node-same (moved .spread .grown .kept) n (moved .read .node)) ∙ kind-is (moved .read) held inside
 
   -- what the row past the node says
-  moved-says : PastSays (j .rule) (enables plan) n (nodeAt j n .kind) p s past
+  moved-says : PastSays (j .rule) (enables plan) n (pointOf (nodeAt j n .kind)) p s past
   moved-says =
       let on : moved .enabled ≡ enables plan n =
       moved .enabled-says ∙ enabled-same (moved .spread .grown .kept) n (moved .read .node)
       ∙ plan-enabled plan l nodes n planned inside in
       let is : moved .event-is ≡ isEvent (nodeAt j n .kind) = moved .event-says ∙ ap isEvent kind-still in
-      subst (λ (x : Past). PastSays (j .rule) (enables plan) n (nodeAt j n .kind) p s x)
+      subst (λ (x : Past). PastSays (j .rule) (enables plan) n (pointOf (nodeAt j n .kind)) p s x)
       (sym
       (moved .past-is ∙ ap (λ (b : Bool). pastRow table finals b (moved .symbol) (moved .enabled) p s) is
       ∙ ap (λ (b : Bool). pastRow table finals (isEvent (nodeAt j n .kind)) (moved .symbol) b p s) on))
       (past-says table finals (j .rule) (enables plan) n (moved .symbol) p s (moved .read .cells) (held .cells)
       (held .finals-are) (moved .read .row) (moved .symbol-small) (moved .read .short) (moved .read .some)
-      (nodeAt j n .kind)
+      (pointOf (nodeAt j n .kind))
       (λ b k.
-      moved .symbol-says b (kind-still ∙ k) ∙ mod-eq-of-lt (event-small n (held .formed) k)))
+      moved .symbol-says b (ap pointOf kind-still ∙ k) ∙ mod-eq-of-lt (event-small n (held .formed) k)))
 
   -- the pair past the node splits where the row alarms differently
   point-splits : past .differs ≡ true → (q : ℕ) × Held l n p q × SplitPair j (enables plan) l n p q

@@ -1,73 +1,54 @@
--- Laws of a row past a node, by the kind of the node.
+-- Laws of a row past a node, by the point of the node.
 -- Assumes nothing.
 use mathlib.Core.Path.{_≡_, refl, sym, ap, subst, _∙_}
-use mathlib.Core.Bool.{Bool, true, false, not, true≢false, false≢true}
+use mathlib.Core.Bool.{Bool, true, false, not, false≢true}
 use mathlib.Core.List.{List}
 use Prim.Native.Nat.{ℕ, _^_, _<_}
 use native.Mathlib.Nat.{lt-of-lt-of-le}
-use native.Mathlib.Omega.{arith}
 use lib.Count.{trailingZeros}
 use Rattle.laws.specs.Bits.{has}
-use Rattle.laws.proofs.Bits.{has-below, has-empty}
+use Rattle.laws.proofs.Bits.{has-below}
 use Rattle.laws.proofs.Walk.{trailing-member}
 use Rattle.automaton.specs.Automaton.{Automaton, next, final, cell}
-use Rattle.job.specs.Job.{Kind, plain, event, call, Job, nodeAt, WellFormedJob}
-use Rattle.job.specs.Walk.{shadow, report, call-word}
+use Rattle.job.specs.Job.{Point, no-point, point, pointOf, callSet, isPoint, Job, nodeAt, WellFormedJob}
+use Rattle.job.specs.Walk.{shadow}
 use Rattle.job.specs.Plan.{Enabling, full, alarmAt}
-use Rattle.job.proofs.Bounds.{told-symbol}
+use Rattle.job.proofs.KindLaws.{point-some, point-same}
 use Rattle.moves.specs.declared.Past.{Past}
-use Rattle.tables.specs.Rows.{CellsBelow, callSet, isEvent}
+use Rattle.tables.specs.Rows.{CellsBelow}
 use Rattle.moves.specs.Past.{pastShadow, pastRow}
 use Rattle.look.specs.Looking.{pastState}
 use Rattle.spread.proofs.SpreadLaws.{moved-alike, moved-split}
 use Rattle.tables.proofs.RowLaws.{has-image-of}
 
--- ---- kinds
-
--- the symbol of an event
-event-same : {a b : ℕ} → event a ≡ event b → a ≡ b
-event-same e = cc
-
--- a plain node is no event
-plain-event : {a : ℕ} → plain ≡ event a → ⊥
-plain-event e = let z : _≡_ {A = ℕ} 0 1 = cc in omega arith
-
--- nor is a call
-call-event : {a set : ℕ} → call set ≡ event a → ⊥
-call-event e = let z : _≡_ {A = ℕ} 0 1 = cc in omega arith
-
--- a symbol of the call set is one of a call
-pub call-of : (k : Kind) (a : ℕ) → has (callSet k) a ≡ true → (set : ℕ) × (k ≡ call set) × (has set a ≡ true)
-call-of plain a h = absurd (true≢false (sym h ∙ has-empty a))
-call-of (event b) a h = absurd (true≢false (sym h ∙ has-empty a))
-call-of (call set) a h = (set, refl, h)
+-- ---- symbols
 
 -- the symbol of an event node is below 16
-pub event-small : {j : Job} (n : ℕ) {a : ℕ} → WellFormedJob j → nodeAt j n .kind ≡ event a → a < 16
-event-small n wf e = lt-of-lt-of-le (told-symbol wf (report {n = n} e)) (wf .rule .few-symbols)
+pub event-small : {j : Job} (n : ℕ) {a : ℕ} → WellFormedJob j → pointOf (nodeAt j n .kind) ≡ point a → a < 16
+event-small n {a} wf e = lt-of-lt-of-le (wf .kinds n .point-below a e) (wf .rule .few-symbols)
 
 -- and so are the symbols of a call
-pub call-small : {j : Job} (n set a : ℕ) → WellFormedJob j → nodeAt j n .kind ≡ call set → has set a ≡ true → a < 16
-call-small n set a wf e h = lt-of-lt-of-le (told-symbol wf (call-word {n = n} {set = set} {a = a} e h)) (wf .rule .few-symbols)
+pub call-small : {j : Job} (n a : ℕ) → WellFormedJob j → has (callSet (nodeAt j n .kind)) a ≡ true → a < 16
+call-small n a wf h = lt-of-lt-of-le (wf .kinds n .words-below a h) (wf .rule .few-symbols)
 
 -- ---- a row past a node
 
--- what a row past a node of a kind says of the row before it
-pub record PastSays (m : Automaton) (w : Enabling) (n : ℕ) (k : Kind) (p s : ℕ) (past : Past) : Type 0 where
+-- what a row past a node says of the row before it
+pub record PastSays (m : Automaton) (w : Enabling) (n : ℕ) (k : Point) (p s : ℕ) (past : Past) : Type 0 where
   pub one : past .state ≡ pastState m full n k p
   pub here : (q : ℕ) → has s q ≡ true → has (past .set) (pastState m w n k q) ≡ true
   pub from : (r : ℕ) → has (past .set) r ≡ true → (q : ℕ) × (has s q ≡ true) × (r ≡ pastState m w n k q)
   pub alike
-      : past .differs ≡ false → (b : ℕ) → k ≡ event b → (q : ℕ) → has s q ≡ true
+      : past .differs ≡ false → (b : ℕ) → k ≡ point b → (q : ℕ) → has s q ≡ true
       → alarmAt m full p (shadow n b) ≡ alarmAt m w q (shadow n b)
   pub split
       : past .differs ≡ true
-      → (b : ℕ) × (k ≡ event b) × ((q : ℕ) × (has s q ≡ true) × (alarmAt m full p (shadow n b) ≡ not (alarmAt m w q (shadow n b))))
+      → (b : ℕ) × (k ≡ point b) × ((q : ℕ) × (has s q ≡ true) × (alarmAt m full p (shadow n b) ≡ not (alarmAt m w q (shadow n b))))
 
 -- a node that reports nothing leaves the row as it is
 silent-says
-    : (m : Automaton) (w : Enabling) (n : ℕ) (k : Kind) (p s : ℕ) → ((q : ℕ) (v : Enabling) → pastState m v n k q ≡ q)
-    → ((b : ℕ) → k ≡ event b → ⊥) → PastSays m w n k p s (record { state = p; set = s; differs = false })
+    : (m : Automaton) (w : Enabling) (n : ℕ) (k : Point) (p s : ℕ) → ((q : ℕ) (v : Enabling) → pastState m v n k q ≡ q)
+    → ((b : ℕ) → k ≡ point b → ⊥) → PastSays m w n k p s (record { state = p; set = s; differs = false })
 silent-says m w n k p s stays none = record {
   one = sym (stays p full);
   here = λ q h. subst (λ (r : ℕ). has s r ≡ true) (sym (stays q w)) h;
@@ -84,7 +65,7 @@ module _ (table : List (List ℕ)) (finals : ℕ) (m : Automaton) (w : Enabling)
   moved-final q l = rw (finals-are, next-is q a l symbol)
 
   -- an enabled event moves both monitors
-  enabled-says : w n ≡ true → PastSays m w n (event a) p s (pastShadow table finals a true p s)
+  enabled-says : w n ≡ true → PastSays m w n (point a) p s (pastShadow table finals a true p s)
   enabled-says on = record {
     one = next-is p a row symbol;
     here = λ q h.
@@ -93,7 +74,7 @@ module _ (table : List (List ℕ)) (finals : ℕ) (m : Automaton) (w : Enabling)
         let f = has-image-of table a s r .0 h in
         (f .0, f .2, rw on (sym (f .3) ∙ next-is (f .0) a (f .1) symbol));
     alike = λ e b k q h.
-        subst (λ (x : ℕ). alarmAt m full p (shadow n x) ≡ alarmAt m w q (shadow n x)) (event-same k)
+        subst (λ (x : ℕ). alarmAt m full p (shadow n x) ≡ alarmAt m w q (shadow n x)) (point-same k)
         (rw on
         (sym (moved-final p row) ∙ moved-alike table finals a s (cell table p a) cells symbol short e q h
         ∙ moved-final q (has-below 16 s q short h)));
@@ -111,30 +92,29 @@ module _ (table : List (List ℕ)) (finals : ℕ) (m : Automaton) (w : Enabling)
   }
 
   -- a disabled one moves the full monitor alone
-  disabled-says : w n ≡ false → PastSays m w n (event a) p s (pastShadow table finals a false p s)
+  disabled-says : w n ≡ false → PastSays m w n (point a) p s (pastShadow table finals a false p s)
   disabled-says off = record {
     one = next-is p a row symbol;
     here = λ q h. rw off h;
     from = λ r h. (r, h, rw off refl);
     alike = λ e b k q h.
-        subst (λ (x : ℕ). alarmAt m full p (shadow n x) ≡ alarmAt m w q (shadow n x)) (event-same k)
+        subst (λ (x : ℕ). alarmAt m full p (shadow n x) ≡ alarmAt m w q (shadow n x)) (point-same k)
         (rw off (sym (moved-final p row) ∙ e));
     split = λ e.
         (a, refl, (trailingZeros 16 s, trailing-member 16 s some short, rw off (sym (moved-final p row) ∙ e)));
   }
 
   -- an event
-  event-says : (b : Bool) → w n ≡ b → PastSays m w n (event a) p s (pastShadow table finals a b p s)
+  event-says : (b : Bool) → w n ≡ b → PastSays m w n (point a) p s (pastShadow table finals a b p s)
   event-says true e = enabled-says e
   event-says false e = disabled-says e
 
   -- a node of any kind
   pub past-says
-      : (k : Kind) → ((b : ℕ) → k ≡ event b → a ≡ b) → PastSays m w n k p s (pastRow table finals (isEvent k) a (w n) p s)
-  past-says plain same = silent-says m w n plain p s (λ q v. refl) (λ b. plain-event)
-  past-says (event b) same =
-      subst (λ (x : ℕ). PastSays m w n (event x) p s (pastShadow table finals a (w n) p s)) (same b refl) (event-says (w n) refl)
-  past-says (call set) same = silent-says m w n (call set) p s (λ q v. refl) (λ b. call-event)
+      : (k : Point) → ((b : ℕ) → k ≡ point b → a ≡ b) → PastSays m w n k p s (pastRow table finals (isPoint k) a (w n) p s)
+  past-says no-point same = silent-says m w n no-point p s (λ q v. refl) (λ b e. point-some e refl)
+  past-says (point b) same =
+      subst (λ (x : ℕ). PastSays m w n (point x) p s (pastShadow table finals a (w n) p s)) (same b refl) (event-says (w n) refl)
 
 -- the state past a node is below 16
 pub past-state

@@ -7,7 +7,7 @@ use mathlib.Core.List.{List}
 use Prim.Native.Nat.{ℕ, _<_}
 use Rattle.laws.specs.Bits.{has}
 use Rattle.automaton.specs.Automaton.{Automaton, next, final}
-use Rattle.job.specs.Job.{Kind, plain, event, call, Job, nodeAt, leads}
+use Rattle.job.specs.Job.{Point, no-point, point, pointOf, callSet, Job, nodeAt, leads}
 use Rattle.job.specs.Walk.{shadow}
 use Rattle.job.specs.Plan.{Enabling, full, enables, stateAt, alarmAt}
 use Rattle.buffer.specs.Views.{classRowIn, Held, HeldApart}
@@ -16,30 +16,29 @@ use Rattle.moves.specs.declared.Past.{Past}
 use Rattle.tables.specs.Held.{JobHeld, PlanHeld}
 
 -- the state past a node: its own event is taken as the watch says
-abbrev pub pastState : Automaton → Enabling → ℕ → Kind → ℕ → ℕ
-pastState m v n plain p = p
-pastState m v n (event a) p = stateAt m v p (shadow n a)
-pastState m v n (call set) p = p
+abbrev pub pastState : Automaton → Enabling → ℕ → Point → ℕ → ℕ
+pastState m v n no-point p = p
+pastState m v n (point a) p = stateAt m v p (shadow n a)
 
 -- past node n of a job
 abbrev pub pastNode : Job → Enabling → ℕ → ℕ → ℕ
-pastNode j v n p = pastState (j .rule) v n (nodeAt j n .kind) p
+pastNode j v n p = pastState (j .rule) v n (pointOf (nodeAt j n .kind)) p
 
 -- what follows a pair in the set of node n: over an edge, or by a symbol of its call word
 pub data Follows (j : Job) (w : Enabling) (n p q : ℕ) : ℕ → ℕ → ℕ → Type 0 where
   over-edge : {m : ℕ} → leads j n m ≡ true → Follows j w n p q m (pastNode j full n p) (pastNode j w n q)
   by-word
-      : {set : ℕ} (a : ℕ) → nodeAt j n .kind ≡ call set → has set a ≡ true
+      : (a : ℕ) → has (callSet (nodeAt j n .kind)) a ≡ true
       → Follows j w n p q n (next (j .rule) p a) (next (j .rule) q a)
 
 -- at every event that may come next the monitors alarm alike, and what a symbol of the call word leads to is held
 pub record AlikePair (j : Job) (w : Enabling) (work : List ℕ) (n p q : ℕ) : Type 0 where
   pub words
-      : (set a : ℕ) → nodeAt j n .kind ≡ call set → has set a ≡ true → Held work n (next (j .rule) p a) (next (j .rule) q a)
+      : (a : ℕ) → has (callSet (nodeAt j n .kind)) a ≡ true → Held work n (next (j .rule) p a) (next (j .rule) q a)
   pub at-point
-      : (a : ℕ) → nodeAt j n .kind ≡ event a → alarmAt (j .rule) full p (shadow n a) ≡ alarmAt (j .rule) w q (shadow n a)
+      : (a : ℕ) → pointOf (nodeAt j n .kind) ≡ point a → alarmAt (j .rule) full p (shadow n a) ≡ alarmAt (j .rule) w q (shadow n a)
   pub at-call
-      : (set a : ℕ) → nodeAt j n .kind ≡ call set → has set a ≡ true
+      : (a : ℕ) → has (callSet (nodeAt j n .kind)) a ≡ true
       → final (j .rule) (next (j .rule) p a) ≡ final (j .rule) (next (j .rule) q a)
   pub at-exit : has (classRowIn work n (pastNode j full n p)) (pastNode j w n q) ≡ false
 
@@ -51,10 +50,10 @@ pub record ClosedPair (j : Job) (w : Enabling) (work : List ℕ) (n p q : ℕ) :
 -- at some event that may come next one monitor alarms and the other does not
 pub data SplitPair (j : Job) (w : Enabling) (work : List ℕ) (n p q : ℕ) : Type 0 where
   split-point
-      : {a : ℕ} → nodeAt j n .kind ≡ event a → alarmAt (j .rule) full p (shadow n a) ≡ not (alarmAt (j .rule) w q (shadow n a))
+      : {a : ℕ} → pointOf (nodeAt j n .kind) ≡ point a → alarmAt (j .rule) full p (shadow n a) ≡ not (alarmAt (j .rule) w q (shadow n a))
       → SplitPair j w work n p q
   split-call
-      : {set : ℕ} (a : ℕ) → nodeAt j n .kind ≡ call set → has set a ≡ true
+      : (a : ℕ) → has (callSet (nodeAt j n .kind)) a ≡ true
       → final (j .rule) (next (j .rule) p a) ≡ not (final (j .rule) (next (j .rule) q a)) → SplitPair j w work n p q
   split-exit : HeldApart work n (pastNode j full n p) (pastNode j w n q) → SplitPair j w work n p q
 

@@ -1,29 +1,36 @@
 // The nodes, edges and plan that the work buffer holds.
 ghost use mathlib.Core.Path.{_≡_};
 ghost use mathlib.Core.Bool.{cond};
-ghost use Prim.Native.Nat.{ℕ, _%_, _≤_, _<_};
-ghost use lib.ListN.{length};
-ghost use Rattle.job.specs.Job.{event};
+ghost use Prim.Native.Nat.{ℕ, _+_, _*_, _%_, _≤_, _<_};
+ghost use lib.ListN.{length, getD};
+ghost use Rattle.job.specs.Job.{point, pointOf, callSet, isEvent};
 ghost use Rattle.buffer.specs.Layout.{Lent};
 ghost use Rattle.buffer.specs.Views.{nodeIn, startIn, targetIn, enabledIn};
-ghost use Rattle.tables.specs.Rows.{callSet, isEvent};
 use buffer::PLAN;
 use buffer::STARTS;
 use buffer::TARGETS;
 use words::read16;
+
+// The number of the kind of node n.
+fn kind_at(work: &[u8], n: usize) -> u8
+    requires { ⌜ (Lent (now work)) × (n < 512) ⌝ }
+    ensures { λ r. ⌜ r ≡ getD (now (work .entry)) (n * 8 + 6) 0 ⌝ }
+{
+    work[n * 8 + 6]
+}
 
 // Whether node n is a shadow.
 pub fn is_shadow(work: &[u8], n: usize) -> bool
     requires { ⌜ (Lent (now work)) × (n < 512) ⌝ }
     ensures { λ r. ⌜ r ≡ isEvent (nodeIn (now (work .entry)) n .kind) ⌝ }
 {
-    work[n * 8 + 6] == 1
+    kind_at(work, n) == 1
 }
 
 // The symbol of a shadow, as a number below 16; free at any other node.
 pub fn symbol_at(work: &[u8], n: usize) -> usize
     requires { ⌜ (Lent (now work)) × (n < 512) ⌝ }
-    ensures { λ r. ⌜ (r < 16) × ((a : ℕ) → nodeIn (now (work .entry)) n .kind ≡ event a → r ≡ a % 16) ⌝ }
+    ensures { λ r. ⌜ (r < 16) × ((a : ℕ) → pointOf (nodeIn (now (work .entry)) n .kind) ≡ point a → r ≡ a % 16) ⌝ }
 {
     (read16(work, n * 8) as usize) % 16
 }
@@ -33,7 +40,7 @@ pub fn call_set(work: &[u8], n: usize) -> u16
     requires { ⌜ (Lent (now work)) × (n < 512) ⌝ }
     ensures { λ r. ⌜ r ≡ callSet (nodeIn (now (work .entry)) n .kind) ⌝ }
 {
-    if work[n * 8 + 6] < 2 {
+    if kind_at(work, n) < 2 {
         return 0;
     }
     read16(work, n * 8)

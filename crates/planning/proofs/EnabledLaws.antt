@@ -2,7 +2,7 @@
 -- Assumes nothing.
 use mathlib.Core.Path.{_≡_, refl, sym, ap, subst, _∙_}
 use mathlib.Core.Logic.{_⊎_, ⊎-elim}
-use mathlib.Core.Bool.{Bool, true, false, cond, false≢true, true≢false}
+use mathlib.Core.Bool.{Bool, true, false, cond}
 use mathlib.Core.List.{List}
 use Prim.Native.Nat.{ℕ, _+_, _≤_, _<_}
 use native.Mathlib.Nat.{eq-or-lt-of-le, le-of-suc-le-suc}
@@ -13,7 +13,7 @@ use lib.Seq.{getD-set-same, getD-set-other, ext-getD}
 use Rattle.buffer.proofs.KeptLaws.{kept-same, kept-then}
 use Rattle.laws.specs.Bounded.{sumBelow}
 use Rattle.laws.proofs.Bounded.{sum-none, sum-more, sum-cong}
-use Rattle.job.specs.Job.{Kind, plain, event, call, Node, Job, nodeAt}
+use Rattle.job.specs.Job.{Kind, isEvent, Node, Job, nodeAt}
 use Rattle.job.specs.Plan.{enables, IsPlan}
 use Rattle.job.specs.Planning.{shadowByte, allEnabled, enabledCount}
 use Rattle.job.specs.Listing.{planOf}
@@ -23,7 +23,6 @@ use Rattle.job.proofs.PlanningResult.{planned-plan}
 use Rattle.buffer.specs.Layout.{planPart, rulePart, Lent}
 use Rattle.buffer.specs.Views.{nodeIn, enabledIn}
 use Rattle.buffer.specs.Kept.{SameOutside}
-use Rattle.tables.specs.Rows.{isEvent}
 use Rattle.tables.specs.Held.{Usable, JobHeld, AfterHeld}
 use Rattle.planning.specs.declared.passes.Counts.{Counts}
 use Rattle.planning.specs.Passes.{planIn, PlanningKept, AllEnabled, PassesMade, enabledTotal, countsOf, PlanMade}
@@ -34,21 +33,19 @@ use Rattle.planning.proofs.PlanInLaws.{node-kept, usable-kept, job-kept
 
 -- a shadow has the byte 1
 pub shadow-byte-one : (k : Kind) → isEvent k ≡ true → 1 ≡ shadowByte k
-shadow-byte-one plain e = absurd (false≢true e)
-shadow-byte-one (event a) e = refl
-shadow-byte-one (call s) e = absurd (false≢true e)
+shadow-byte-one k e = rw e refl
 
 -- any other node the byte 0
 pub shadow-byte-zero : (k : Kind) → isEvent k ≡ false → 0 ≡ shadowByte k
-shadow-byte-zero plain e = refl
-shadow-byte-zero (event a) e = absurd (true≢false e)
-shadow-byte-zero (call s) e = refl
+shadow-byte-zero k e = rw e refl
 
 -- it is at most 1
 pub shadow-byte-le : (k : Kind) → shadowByte k ≤ 1
-shadow-byte-le plain = omega arith
-shadow-byte-le (event a) = omega arith
-shadow-byte-le (call s) = omega arith
+shadow-byte-le k = go (isEvent k)
+  where
+    go : (b : Bool) → cond b 1 0 ≤ 1
+    go true = omega arith
+    go false = omega arith
 
 -- a mark is at most 1
 pub mark-small : (l : List ℕ) (n mark : ℕ) → mark ≡ shadowByte (nodeIn l n .kind) → mark ≤ 1

@@ -13,20 +13,17 @@ use lib.Seq.{sets, length-sets, drop-cons}
 use Rattle.laws.specs.Bounded.{sumBelow}
 use Rattle.laws.proofs.Bounded.{sum-bound}
 use Rattle.laws.proofs.Sets.{sets-append}
-use Rattle.job.specs.Job.{Kind, plain, event, call, Node, Job, noNode, nodeAt}
+use Rattle.job.specs.Job.{Point, no-point, point, pointOf, isPoint, isEvent, Node, Job, noNode, nodeAt}
 use Rattle.job.specs.Plan.{enables}
-use Rattle.job.specs.Walk.{report}
 use Rattle.job.specs.Search.{faithful}
 use Rattle.job.specs.Found.{statesBefore, classCount, nopShadow}
 use Rattle.job.specs.Listing.{ShadowLine, planOf, shadowLine, lineOf, linesFrom, listingOf}
-use Rattle.job.proofs.Bounds.{told-symbol}
 use Rattle.job.proofs.PlanBytes.{enabled-mark}
 use Rattle.job.proofs.PlanningResult.{planned-plan}
 use Rattle.lines.specs.Line.{line}
 use Rattle.jobfile.specs.ListingLines.{shadowNumbers, shadowBytes, shadowsBytes, totalBytes, listingBytes}
 use Rattle.jobfile.proofs.ListingLength.{shadows-length, total-length}
 use Rattle.buffer.specs.Views.{nodeIn, enabledIn}
-use Rattle.tables.specs.Rows.{isEvent}
 use Rattle.classes.specs.Backwards.{isLowest, isNop}
 use Rattle.classes.proofs.FoundSays.{classes-found, nop-found}
 use Rattle.planning.specs.declared.passes.Counts.{Counts}
@@ -38,7 +35,7 @@ use Rattle.printing.specs.Printing.{byteOf, PointWritten, PointsWritten,
 
 -- the symbol, the before set, the class count and the two marks of node n, as the buffer holds them
 pub record PointRead (table : List (List ℕ)) (finals states n : ℕ) (work : List ℕ) (a before classes nop enabled : ℕ) : Type 0 where
-  pub symbol-is : (s : ℕ) → nodeIn work n .kind ≡ event s → a ≡ s % 16
+  pub symbol-is : (s : ℕ) → pointOf (nodeIn work n .kind) ≡ point s → a ≡ s % 16
   pub before-is : before ≡ beforeIn work n
   pub classes-are : classes ≡ sumBelow states (λ q. cond (isLowest work n q) 1 0)
   pub nop-is : nop ≡ byteOf (isNop table finals work n a before)
@@ -58,20 +55,20 @@ classes-few work n states classes e =
 module _
     {table : List (List ℕ)} {finals states n : ℕ} {work : List ℕ} {a before classes nop enabled : ℕ}
     (read : PointRead table finals states n work a before classes nop enabled) {j : Job} {nodes : ℕ}
-    (held : FoundHeld j work table finals states nodes) (inside : n < nodes) (s : ℕ) (is : nodeAt j n .kind ≡ event s) where
+    (held : FoundHeld j work table finals states nodes) (inside : n < nodes) (s : ℕ) (is : pointOf (nodeAt j n .kind) ≡ point s) where
   -- the point's symbol is one of the rule
   symbol-below : s < j .rule .symbols
-  symbol-below = told-symbol (held .job .formed) (report is)
+  symbol-below = held .job .formed .kinds n .point-below s is
 
   -- it is the symbol that was read
   symbol-read : a ≡ s
   symbol-read =
-      read .symbol-is s (ap (λ (x : Node). x .kind) (held .job .node n inside) ∙ is)
+      read .symbol-is s (ap (λ (x : Node). pointOf (x .kind)) (held .job .node n inside) ∙ is)
       ∙ mod-eq-of-lt (omega (arith, symbol-below, held .job .formed .rule .few-symbols))
 
   -- the before set
   before-read : before ≡ statesBefore j n
-  before-read = read .before-is ∙ held .before n s is
+  before-read = read .before-is ∙ held .before n (ap isPoint is)
 
   -- the class count
   classes-read : classes ≡ classCount j n
@@ -99,7 +96,7 @@ module _
 -- ---- the line of a node
 
 -- the bytes of node n: its W line, or none
-abbrev pub nodeBytes : Job → ℕ → Kind → List ℕ
+abbrev pub nodeBytes : Job → ℕ → Point → List ℕ
 nodeBytes j n k = shadowsBytes (lineOf j (planOf j .plan) n k [])
 
 -- a node that is no point has no line
@@ -112,13 +109,12 @@ point-none table finals states n at work out no-event =
       long = refl;
       near = omega arith;
       exact = λ j nodes held inside.
-          go j (nodeAt j n .kind) (sym (ap (λ (x : Node). isEvent (x .kind)) (held .job .node n inside)) ∙ no-event);
+          go j (pointOf (nodeAt j n .kind)) (sym (ap (λ (x : Node). isEvent (x .kind)) (held .job .node n inside)) ∙ no-event);
     }
   where
-    go : (j : Job) (k : Kind) → isEvent k ≡ false → (out ≡ sets out at (nodeBytes j n k)) × (at ≡ at + length (nodeBytes j n k))
-    go j plain e = (refl, omega arith)
-    go j (event s) e = absurd (true≢false e)
-    go j (call set) e = (refl, omega arith)
+    go : (j : Job) (k : Point) → isPoint k ≡ false → (out ≡ sets out at (nodeBytes j n k)) × (at ≡ at + length (nodeBytes j n k))
+    go j no-point e = (refl, omega arith)
+    go j (point s) e = absurd (true≢false e)
 
 -- the line of a point
 pub point-written
@@ -132,20 +128,19 @@ point-written {table} {finals} {states} {n} {at} {work} {out} {m} {a} {before} {
       long = ap length stored ∙ length-sets out at (line 87 (n ∷ a ∷ before ∷ classes ∷ nop ∷ enabled ∷ []));
       near = omega arith;
       exact = λ j nodes held inside.
-          go j nodes held inside (nodeAt j n .kind) refl
+          go j nodes held inside (pointOf (nodeAt j n .kind)) refl
           (sym (ap (λ (x : Node). isEvent (x .kind)) (held .job .node n inside)) ∙ is-event);
     }
   where
     go
-        : (j : Job) (nodes : ℕ) → FoundHeld j work table finals states nodes → n < nodes → (k : Kind) → nodeAt j n .kind ≡ k → isEvent k ≡ true
+        : (j : Job) (nodes : ℕ) → FoundHeld j work table finals states nodes → n < nodes → (k : Point) → pointOf (nodeAt j n .kind) ≡ k → isPoint k ≡ true
         → (m ≡ sets out at (nodeBytes j n k)) × (at + 38 ≡ at + length (nodeBytes j n k))
-    go j nodes held inside plain is e = absurd (false≢true e)
-    go j nodes held inside (event s) is e = (
+    go j nodes held inside no-point is e = absurd (false≢true e)
+    go j nodes held inside (point s) is e = (
       stored ∙ ap (λ (ns : List ℕ). sets out at (line 87 ns)) (numbers-read read held inside s is)
           ∙ ap (sets out at) (sym (append-nil (shadowBytes (shadowLine j (planOf j .plan) n s)))),
       omega (arith, shadows-length (shadowLine j (planOf j .plan) n s ∷ [])),
     )
-    go j nodes held inside (call set) is e = absurd (false≢true e)
 
 -- ---- the lines of the nodes in turn
 
@@ -154,16 +149,15 @@ abbrev pub bytesFrom : Job → ℕ → List ℕ
 bytesFrom j n = shadowsBytes (linesFrom j (planOf j .plan) n (drop n (j .nodes)))
 
 -- a node's bytes stand before those of the nodes after it
-bytes-next : (j : Job) (n : ℕ) → n < length (j .nodes) → bytesFrom j n ≡ nodeBytes j n (nodeAt j n .kind) ++ bytesFrom j (suc n)
+bytes-next : (j : Job) (n : ℕ) → n < length (j .nodes) → bytesFrom j n ≡ nodeBytes j n (pointOf (nodeAt j n .kind)) ++ bytesFrom j (suc n)
 unfolding linesFrom shadowsBytes
 bytes-next j n h =
     ap (λ (xs : List Node). shadowsBytes (linesFrom j (planOf j .plan) n xs)) (drop-cons (j .nodes) n noNode h)
-    ∙ go (nodeAt j n .kind) (linesFrom j (planOf j .plan) (suc n) (drop (suc n) (j .nodes)))
+    ∙ go (pointOf (nodeAt j n .kind)) (linesFrom j (planOf j .plan) (suc n) (drop (suc n) (j .nodes)))
   where
-    go : (k : Kind) (rest : List ShadowLine) → shadowsBytes (lineOf j (planOf j .plan) n k rest) ≡ nodeBytes j n k ++ shadowsBytes rest
-    go plain rest = refl
-    go (event s) rest = sym (append-assoc (shadowBytes (shadowLine j (planOf j .plan) n s)) [] (shadowsBytes rest))
-    go (call set) rest = refl
+    go : (k : Point) (rest : List ShadowLine) → shadowsBytes (lineOf j (planOf j .plan) n k rest) ≡ nodeBytes j n k ++ shadowsBytes rest
+    go no-point rest = refl
+    go (point s) rest = sym (append-assoc (shadowBytes (shadowLine j (planOf j .plan) n s)) [] (shadowsBytes rest))
 
 -- past the last node there are none
 bytes-none : (j : Job) (n : ℕ) → length (j .nodes) ≤ n → bytesFrom j n ≡ []
@@ -209,7 +203,7 @@ stored-more {table} {finals} {states} {nodes} {work} {l} {out} {m} {at} {n} {nex
     })
   where
     here : Job → List ℕ
-    here j = nodeBytes j n (nodeAt j n .kind)
+    here j = nodeBytes j n (pointOf (nodeAt j n .kind))
 
     step : (j : Job) → FoundHeld j work table finals states nodes → bytesFrom j n ≡ here j ++ bytesFrom j (suc n)
     step j h = bytes-next j n (omega (arith, h .job .nodes-are))

@@ -6,7 +6,7 @@ use mathlib.Core.List.{List, []}
 use Prim.Native.Nat.{ℕ, _+_, _*_, _≤_, _<_}
 use lib.ListN.{length}
 use lib.Seq.{sets}
-use Rattle.job.specs.Job.{Job, nodeAt}
+use Rattle.job.specs.Job.{pointOf, Job, nodeAt}
 use Rattle.job.specs.Listing.{planOf, lineOf, listingOf}
 use Rattle.jobfile.specs.ListingLines.{shadowsBytes, listingBytes}
 use Rattle.planning.specs.declared.passes.Counts.{Counts}
@@ -23,8 +23,8 @@ pub record PointWritten (table : List (List ℕ)) (finals states n at : ℕ) (wo
   pub near : next ≤ at + 38
   pub exact
       : (j : Job) (nodes : ℕ) → FoundHeld j work table finals states nodes → n < nodes
-      → (after ≡ sets before at (shadowsBytes (lineOf j (planOf j .plan) n (nodeAt j n .kind) [])))
-      × (next ≡ at + length (shadowsBytes (lineOf j (planOf j .plan) n (nodeAt j n .kind) [])))
+      → (after ≡ sets before at (shadowsBytes (lineOf j (planOf j .plan) n (pointOf (nodeAt j n .kind)) [])))
+      × (next ≡ at + length (shadowsBytes (lineOf j (planOf j .plan) n (pointOf (nodeAt j n .kind)) [])))
 
 -- the W lines of all points were written
 pub record PointsWritten (table : List (List ℕ)) (finals states nodes : ℕ) (work before after : List ℕ) (next : ℕ) : Type 0 where

@@ -17,7 +17,7 @@ use Rattle.laws.proofs.Bits.{has-below, has-or}
 use Rattle.laws.proofs.Tests.{passes-or-fails, or-left, or-right, or-passes}
 use Rattle.laws.proofs.Walk.{Rest, rest-start, rest-from, rest-lt, rest-next, members-more, members-end}
 use Rattle.automaton.specs.Automaton.{next}
-use Rattle.job.specs.Job.{Kind, plain, event, call, Job, nodeAt}
+use Rattle.job.specs.Job.{Point, no-point, point, pointOf, Job, nodeAt}
 use Rattle.job.specs.Plan.{Enabling, full, enables}
 use Rattle.moves.specs.declared.Past.{Past}
 use Rattle.buffer.specs.Views.{marksIn, markedIn, EdgeIn, Held}
@@ -43,12 +43,11 @@ module _
 
   -- and so is a state past a node
   past-small : (n p : ℕ) → p < 16 → pastNode j full n p < 16
-  past-small n p lp = go (nodeAt j n .kind) refl
+  past-small n p lp = go (pointOf (nodeAt j n .kind)) refl
     where
-      go : (k : Kind) → nodeAt j n .kind ≡ k → pastState (j .rule) full n k p < 16
-      go plain e = lp
-      go (event a) e = next-small p a lp (event-small n (job .formed) e)
-      go (call set) e = lp
+      go : (x : Point) → pointOf (nodeAt j n .kind) ≡ x → pastState (j .rule) full n x p < 16
+      go no-point e = lp
+      go (point a) e = next-small p a lp (event-small n (job .formed) e)
 
 -- pairs of one buffer are held in another
 abbrev pub HeldIn : List ℕ → List ℕ → Type 0
@@ -60,9 +59,9 @@ module _
   -- monitors that alarm alike do so where no pair is lost
   alike-kept : HeldIn l m → (n p q : ℕ) → n < 512 → p < 16 → AlikePair j w l n p q → AlikePair j w m n p q
   alike-kept held n p q ln lp c = record {
-    words = λ set a e h.
+    words = λ a h.
         held n (next (j .rule) p a) (next (j .rule) q a) ln
-        (next-small u job p a lp (call-small n set a (job .formed) e h)) (c .words set a e h);
+        (next-small u job p a lp (call-small n a (job .formed) h)) (c .words a h);
     at-point = c .at-point;
     at-call = c .at-call;
     at-exit =
@@ -81,7 +80,7 @@ module _
   -- a pair that splits does so in the other buffer
   pub split-kept : (n p q : ℕ) → n < 512 → p < 16 → SplitPair j w m n p q → SplitPair j w l n p q
   split-kept n p q ln lp (split-point e d) = split-point e d
-  split-kept n p q ln lp (split-call a e h d) = split-call a e h d
+  split-kept n p q ln lp (split-call a h d) = split-call a h d
   split-kept n p q ln lp (split-exit h) =
       split-exit
       (ap (λ (x : ℕ). has x (pastNode j w n q)) (sym (class-same k n (pastNode j full n p) ln (past-small u job n p lp))) ∙ h)

@@ -7,26 +7,25 @@ use mathlib.Core.List.{List}
 use Prim.Native.Nat.{ℕ, _≤_, _<_}
 use native.Mathlib.Nat.{lt-of-not-le}
 use native.Mathlib.Omega.{arith}
-use lib.Dec.{eqb}
 use lib.ListN.{length, List·getD-eq-default}
-use borrow.Author.Tests.{eqb-true, eqb-false}
 use Rattle.laws.specs.Bits.{has}
 use Rattle.laws.proofs.Bits.{has-empty}
-use Rattle.laws.proofs.Tests.{passes-or-fails, same-or-contrary}
+use Rattle.laws.proofs.Tests.{same-or-contrary}
 use Rattle.automaton.specs.Automaton.{next, final}
-use Rattle.job.specs.Job.{Kind, plain, event, call, Node, Job, nodeAt, noNode, leads, WellFormedJob}
-use Rattle.job.specs.Walk.{shadow, begin-after, report, call-word}
-use Rattle.job.specs.Plan.{Enabling, full, enables, stateAt, Different}
-use Rattle.job.specs.Search.{faithful, arrives}
-use Rattle.job.specs.Words.{WordApart, apart-here, apart-later}
-use Rattle.job.proofs.Pairs.{Pairs, Admitted, Kept, told-splits, apart-now, apart-moved}
+use Rattle.job.specs.Job.{Point, no-point, point, pointOf, isEvent, Node, Job, nodeAt, noNode, leads, WellFormedJob}
+use Rattle.job.specs.Walk.{shadow, before, begin-after}
+use Rattle.job.proofs.KindLaws.{event-point, words-none, reports-point, reports-word}
+use Rattle.job.specs.Plan.{Enabling, full, enables, stateAt, ArrivesAt, Different}
+use Rattle.job.specs.Search.{faithful}
+use Rattle.job.specs.Words.{WordApart, apart-here, apart-later, NothingMore}
+use Rattle.job.proofs.Pairs.{pair-least, arrives-at-says, told-splits, apart-now, apart-moved}
 use Rattle.job.proofs.Bounds.{entry-node, pair-within}
 use Rattle.job.proofs.Decide.{different-says}
-use Rattle.job.proofs.Rules.{pair-different, faithful-true, arrives-true, arrives-false}
-use Rattle.job.proofs.Nodes.{Table, NoEvent, plain-no-event, call-no-event, PastNode, past-silent, past-event, Spelt, no-word, one-more, past-map}
+use Rattle.job.proofs.Rules.{pair-different, faithful-true}
+use Rattle.job.proofs.Nodes.{Table, PastNode, past-silent, past-event, Spelt, no-word, one-more, past-map}
 use Rattle.job.proofs.Nodes.{PairAt, pair-at-start, pair-at-event, pair-at-silent, past-pair, pair-at-edge, pair-at-word, pair-at-within}
 use Rattle.job.proofs.Nodes.{ReachedIn, NodeKept, NodeInvariant, node-kept, node-invariant, word-apart}
-use Rattle.buffer.specs.Views.{pairRowIn, classRowIn, Held}
+use Rattle.buffer.specs.Views.{classRowIn, Held}
 use Rattle.tables.specs.Tables.{SearchKept}
 use Rattle.tables.specs.Held.{Usable, JobHeld, PlanHeld, AfterHeld}
 use Rattle.look.specs.Looking.{pastState, pastNode, Follows, over-edge, by-word, ClosedPair, SplitPair, split-point, split-call, split-exit}
@@ -36,7 +35,7 @@ use Rattle.starts.specs.Started.{Started}
 use Rattle.rounds.proofs.RoundLaws.{nothing-difference, rows-difference}
 use Rattle.rounds.specs.declared.Seen.{Seen}
 use Rattle.rounds.specs.declared.Seen.the-variants.{Nothing, Rows, Difference}
-use Rattle.tables.proofs.RowLaws.{any-member, has-nothing}
+use Rattle.tables.proofs.RowLaws.{has-nothing}
 use Rattle.tables.proofs.KeptLaws.{search-kept-none, search-kept-both, node-same, class-same, usable-same, job-same, plan-same}
 
 -- ---- past a node
@@ -48,25 +47,20 @@ both-moved P {p} {q} {r} {s} e f h = subst (λ (x : ℕ). P r x) f (subst (λ (x
 -- what stands past a node that has a pair
 pub past-of
     : {j : Job} {w : Enabling} {H : Table} (n p q : ℕ) → H n p q → PastNode j full w H n (pastNode j full n p) (pastNode j w n q)
-past-of {j} {w} {H} n p q h = go (nodeAt j n .kind) refl
+past-of {j} {w} {H} n p q h = go (pointOf (nodeAt j n .kind)) refl
   where
-    go : (k : Kind) → nodeAt j n .kind ≡ k → PastNode j full w H n (pastState (j .rule) full n k p) (pastState (j .rule) w n k q)
-    go plain e = past-silent (plain-no-event e) h
-    go (event a) e = past-event e h
-    go (call set) e = past-silent (call-no-event e) h
+    go : (x : Point) → pointOf (nodeAt j n .kind) ≡ x → PastNode j full w H n (pastState (j .rule) full n x p) (pastState (j .rule) w n x q)
+    go no-point e = past-silent e h
+    go (point a) e = past-event e h
 
--- a node with no event leaves the state
-past-none : (j : Job) (v : Enabling) (n p : ℕ) → NoEvent (nodeAt j n .kind) → pastNode j v n p ≡ p
-past-none j v n p s = go (nodeAt j n .kind) s
-  where
-    go : (k : Kind) → NoEvent k → pastState (j .rule) v n k p ≡ p
-    go plain s = refl
-    go (event a) s = absurd (s a refl)
-    go (call set) s = refl
+-- a node with no point leaves the state
+past-none : (j : Job) (v : Enabling) (n p : ℕ) → pointOf (nodeAt j n .kind) ≡ no-point → pastNode j v n p ≡ p
+past-none j v n p e = ap (λ (x : Point). pastState (j .rule) v n x p) e
 
--- an event node moves it
-past-own : (j : Job) (v : Enabling) (n p a : ℕ) → nodeAt j n .kind ≡ event a → pastNode j v n p ≡ stateAt (j .rule) v p (shadow n a)
-past-own j v n p a e = ap (λ (k : Kind). pastState (j .rule) v n k p) e
+-- a point moves it
+past-own
+    : (j : Job) (v : Enabling) (n p a : ℕ) → pointOf (nodeAt j n .kind) ≡ point a → pastNode j v n p ≡ stateAt (j .rule) v p (shadow n a)
+past-own j v n p a e = ap (λ (x : Point). pastState (j .rule) v n x p) e
 
 -- a pair past a node, and the one that it comes from
 record PastFrom (j : Job) (w : Enabling) (H : Table) (n p q : ℕ) : Type 0 where
@@ -89,7 +83,7 @@ past-from {j} {w} {n = n} (past-event {a = a} {p = p} {q = q} e h) =
 pub follows-reached
     : {j : Job} {w : Enabling} {n p q k r s : ℕ} → PairAt j full w n p q → Follows j w n p q k r s → PairAt j full w k r s
 follows-reached {n = n} {p = p} {q = q} h (over-edge l) = pair-at-edge (past-of n p q h) l
-follows-reached h (by-word a e m) = pair-at-word a e m h
+follows-reached h (by-word a m) = pair-at-word a m h
 
 -- what follows a table of reached pairs
 pub following-reached
@@ -104,13 +98,13 @@ following-reached r (follows f g) = follows-reached (following-reached r f) g
 pub split-different
     : {j : Job} {w : Enabling} {work : List ℕ} {nodes n p q : ℕ} → WellFormedJob j → AfterHeld j work nodes → n < nodes
     → PairAt j full w n p q → SplitPair j w work n p q → Different j w
-split-different wf a l r (split-point e d) = pair-different (pair-at-event e r) (apart-now (told-splits (report e) d))
-split-different wf a l r (split-call s e m d) =
-    pair-different (pair-at-silent (call-no-event e) r) (apart-now (told-splits (call-word e m) d))
+split-different wf a l r (split-point e d) = pair-different (pair-at-event e r) (apart-now (told-splits (reports-point e) d))
+split-different {j} {n = n} wf a l r (split-call s m d) =
+    pair-different (pair-at-silent (words-none (nodeAt j n .kind) s m) r) (apart-now (told-splits (reports-word n s m) d))
 split-different {j} {w} {n = n} {p = p} {q = q} wf a l r (split-exit h) =
     let x = past-pair (past-of n p q r) in
     let s = a .sound n (pastNode j full n p) (pastNode j w n q) l (omega (arith, pair-within wf x .one, wf .rule .few-states)) h in
-    pair-different x (apart-moved (begin-after (s .0)) (word-apart (s .0) (s .1)))
+    pair-different x (apart-moved (begin-after (s .0)) (word-apart (λ k l h. absurd h) (s .0) (s .1)))
 
 -- ---- a closed table
 
@@ -139,7 +133,7 @@ module _ {j : Job} {w : Enabling} {work : List ℕ} (t : ClosedTable j w work) w
   never-apart
       : {n p q : ℕ} → nodeAt j n .exit ≡ true
       → Spelt (j .rule) (nodeAt j n .after) (PastNode j full w (ReachedIn j full w (Held work)) n) p q
-      → WordApart (j .rule) (nodeAt j n .after) p q → ⊥
+      → WordApart (j .rule) (nodeAt j n .after) NothingMore p q → ⊥
   never-apart {n} x (no-word {p = p} {q = q} h) a =
       let f = past-from h in
       let b = pair-within (t .formed) (past-pair (past-map (λ k l r. r .0) h)) in
@@ -153,7 +147,7 @@ module _ {j : Job} {w : Enabling} {work : List ℕ} (t : ClosedTable j w work) w
       record {
         starts = t .starts;
         edges = λ m n p q h l. edge-held n h l;
-        words = λ n set a p q e m h. closed-pair h .alike .words set a e m;
+        words = λ n a p q m h. closed-pair h .alike .words a m;
       }
 
   -- and under it the monitors alarm alike
@@ -162,7 +156,7 @@ module _ {j : Job} {w : Enabling} {work : List ℕ} (t : ClosedTable j w work) w
       record {
         kept = closed-kept;
         at-point = λ n a p q e h. closed-pair h .alike .at-point a e;
-        at-call = λ n set a p q e m h. closed-pair h .alike .at-call set a e m;
+        at-call = λ n a p q m h. closed-pair h .alike .at-call a m;
         at-exit = λ n a p q x m h.
             ⊎-elim
             (λ (e : final (j .rule) (next (j .rule) p a) ≡ final (j .rule) (next (j .rule) q a)). e)
@@ -175,39 +169,24 @@ module _ {j : Job} {w : Enabling} {work : List ℕ} (t : ClosedTable j w work) w
 pub closed-faithful : {j : Job} (plan : List ℕ) {work : List ℕ} → ClosedTable j (enables plan) work → faithful j plan ≡ true
 closed-faithful plan t = faithful-true (t .formed) plan (node-invariant (closed-invariant t))
 
--- ---- before sets
-
--- the states of the full monitor in a set of pairs that is kept
-one-side
-    : {j : Job} {w : Enabling} {R : Pairs} → Kept j full w (Admitted j) R
-    → Kept j full full (Admitted j) (λ x p q. (r : ℕ) × R x p r)
-one-side {j} {w} k =
-    record {
-      starts = λ x p q s. (q, k .starts x p q s);
-      moved = λ x y p q r m. (r .0, k .moved x y p (r .0) (r .1) m);
-      told = λ x y e p q r t. (stateAt (j .rule) w (r .0) e, k .told x y e p (r .0) (r .1) t);
-    }
+-- ---- the pairs at an event node
 
 -- an event node is one of the job
-pub event-node : (j : Job) (n a : ℕ) → nodeAt j n .kind ≡ event a → n < length (j .nodes)
-event-node j n a e =
+pub event-node : (j : Job) (n : ℕ) → isEvent (nodeAt j n .kind) ≡ true → n < length (j .nodes)
+event-node j n e =
     lt-of-not-le (λ l.
-    plain-no-event (ap (λ (m : Node). m .kind) (List·getD-eq-default (j .nodes) noNode l)) a e)
+    true≢false (sym e ∙ ap (λ (m : Node). isEvent (m .kind)) (List·getD-eq-default (j .nodes) noNode l)))
 
--- the rows of an event node in a closed table of reached pairs
-pub closed-before
-    : {j : Job} {w : Enabling} {work : List ℕ} → ClosedTable j w work → length (j .nodes) ≤ 512
-    → ((n p q : ℕ) → n < 512 → p < 16 → Held work n p q → PairAt j full w n p q)
-    → (n a q : ℕ) → nodeAt j n .kind ≡ event a → q < j .rule .states → eqb (pairRowIn work n q) 0 ≡ not (arrives j n q)
-closed-before {j} {w} {work} t few reached n a q e l =
-    ⊎-elim
-    (λ (z : eqb (pairRowIn work n q) 0 ≡ true).
-    z ∙ sym (ap not (arrives-false (t .formed) n q (one-side (node-kept (closed-kept t))) (λ r. has-nothing (r .0) (eqb-true _ _ z) (r .1 .1)))))
-    (λ (z : eqb (pairRowIn work n q) 0 ≡ false).
-    let s = any-member (pairRowIn work n q) (eqb-false _ _ z) in
-    let h = reached n q (s .0) (omega (arith, event-node j n a e)) (omega (arith, t .formed .rule .few-states)) (s .1) in
-    z ∙ sym (ap not (arrives-true (t .formed) n q (pair-at-event e h))))
-    (passes-or-fails (eqb (pairRowIn work n q) 0))
+-- a pair of its set that is reached arrives there
+reached-arrives
+    : {j : Job} {w : Enabling} {n p q : ℕ} → isEvent (nodeAt j n .kind) ≡ true → PairAt j full w n p q → ArrivesAt j full w (before n) p q
+reached-arrives {j} {w} {n} {p} {q} e h =
+    arrives-at-says (before n) p q .0 (pair-at-event (event-point (nodeAt j n .kind) e .1) h)
+
+-- a closed table holds every pair that arrives before a node with a point
+arrives-held
+    : {j : Job} {w : Enabling} {work : List ℕ} {n p q : ℕ} → ClosedTable j w work → ArrivesAt j full w (before n) p q → Held work n p q
+arrives-held {n = n} {p = p} {q = q} t a = pair-least (node-kept (closed-kept t)) (arrives-at-says (before n) p q .1 a) .1
 
 -- ---- the search, round by round
 
@@ -311,6 +290,10 @@ module _
   all-kept : SearchKept o k
   all-kept = search-kept-both before (search-kept-both (s .kept) (r .kept))
 
+  -- an event node lies within the table
+  inside : (j : Job) → JobHeld j o table finals states nodes → (n : ℕ) → isEvent (nodeAt j n .kind) ≡ true → n < 512
+  inside j held n e = omega (arith, event-node j n e, held .nodes-are, u .few-nodes)
+
   -- a round that sees nothing ends the search: the plan is faithful
   pub searching-end : seen ≡ Nothing → SearchedAt table finals states nodes o k true
   searching-end none =
@@ -323,7 +306,8 @@ module _
             let t = searching-closed here words i none in
             record {
               exact = sym (closed-faithful plan t);
-              before = λ y. closed-before t (omega (arith, held .nodes-are, u .few-nodes)) (i .reached);
+              arrive = λ n p q e lp h. reached-arrives e (i .reached n p q (inside j held n e) lp h);
+              held = λ y n p q e a. arrives-held t a;
             };
       }
 
@@ -343,6 +327,8 @@ module _
                   sym (different-says (held .formed) plan .1
                   (split-different (held .formed) (after-kept (held .formed) (s .kept) (u .few-nodes) words) (f .small)
                   (following-reached (i .reached) (f .follows)) (f .splits)));
-              before = λ y. absurd (true≢false (sym y));
+              arrive = λ n p q e lp h.
+                  reached-arrives e (following-reached (i .reached) (rounded j plan here here-plan .new n p q (inside j held n e) lp h));
+              held = λ y. absurd (true≢false (sym y));
             };
       }

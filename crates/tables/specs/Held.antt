@@ -8,7 +8,7 @@ use Prim.Native.Nat.{ℕ, suc, _+_, _≤_, _<_}
 use lib.ListN.{length, getD}
 use Rattle.automaton.specs.Automaton.{next, cell}
 use Rattle.job.specs.Job.{Job, nodeAt, leads, WellFormedJob}
-use Rattle.job.specs.Words.{WordApart}
+use Rattle.job.specs.Words.{WordApart, NothingMore}
 use Rattle.buffer.specs.Layout.{planPart, Lent}
 use Rattle.buffer.specs.Views.{nodeIn, startIn, targetIn, EdgeIn, HeldApart}
 use Rattle.tables.specs.Rows.{CellsBelow}
@@ -45,7 +45,7 @@ PlanHeld plan work nodes = (n : ℕ) → n < nodes → getD work (planPart + n) 
 pub record AfterHeld (j : Job) (work : List ℕ) (nodes : ℕ) : Type 0 where
   pub sound
       : (n p q : ℕ) → n < nodes → p < 16 → HeldApart work n p q
-      → (nodeAt j n .exit ≡ true) × WordApart (j .rule) (nodeAt j n .after) p q
+      → (nodeAt j n .exit ≡ true) × WordApart (j .rule) (nodeAt j n .after) NothingMore p q
   pub whole
       : (n p q : ℕ) → n < nodes → p < j .rule .states → q < j .rule .states → nodeAt j n .exit ≡ true
-      → WordApart (j .rule) (nodeAt j n .after) p q → HeldApart work n p q
+      → WordApart (j .rule) (nodeAt j n .after) NothingMore p q → HeldApart work n p q

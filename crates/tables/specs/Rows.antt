@@ -1,13 +1,12 @@
 -- Rows of pairs on values: a state of the full monitor, and a set of states of the residual one.
 -- Assumes nothing.
-use mathlib.Core.Bool.{Bool, true, false, not}
+use mathlib.Core.Bool.{Bool, not}
 use mathlib.Core.List.{List}
 use Prim.Native.Nat.{ℕ, _<_}
 use lib.Dec.{eqb}
 use lib.Bits.{bitAnd}
 use Rattle.laws.specs.Bits.{has, image}
 use Rattle.automaton.specs.Automaton.{cell}
-use Rattle.job.specs.Job.{Kind, plain, event, call}
 use Rattle.job.specs.Search.{unlike}
 use Rattle.job.specs.Found.{setOf}
 
@@ -30,15 +29,3 @@ preimageOf table states a s = setOf states (λ q. has s (cell table q a))
 -- the states that a symbol leads to from a set
 unfoldable pub imageOf : List (List ℕ) → ℕ → ℕ → ℕ
 imageOf table a s = image 16 (λ q. cell table q a) s
-
--- the set of a call; empty at any other kind
-abbrev pub callSet : Kind → ℕ
-callSet plain = 0
-callSet (event a) = 0
-callSet (call set) = set
-
--- the kind is an event
-abbrev pub isEvent : Kind → Bool
-isEvent plain = false
-isEvent (event a) = true
-isEvent (call set) = false

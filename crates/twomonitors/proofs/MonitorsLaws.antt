@@ -9,14 +9,13 @@ use mathlib.Core.Bool.{Bool, true, false, cond, not, _&&_}
 use mathlib.Core.List.{List, [], _∷_, _++_, head-eq-of-cons-eq, tail-eq-of-cons-eq}
 use Prim.Native.Nat.{ℕ, zero, suc, _<_, _≤_}
 use native.Mathlib.Omega.{arith}
-use lib.ListN.{getD}
 use Rattle.automaton.specs.Automaton.{Automaton, next, final, WellFormed}
 use Rattle.events.specs.Monitor.{maxTotal, counted}
 use Rattle.events.specs.Form.{EventForm, FormMoves}
 use Rattle.events.proofs.MonitorLaws.{counted-most}
 use Rattle.job.specs.Job.{Job, WellFormedJob}
 use Rattle.job.specs.Walk.{Event, shadow, word, symbolOf, Place, Walk, stop, move, tell, Start, WalkFrom}
-use Rattle.job.specs.Plan.{Enabling, full, enables, takes, stateAt, alarmAt, stateAfter, alarms, Faithful, DifferAt, Different}
+use Rattle.job.specs.Plan.{Enabling, full, enables, takes, stateAt, alarmAt, alarms, Faithful, DifferAt, Different}
 use Rattle.twomonitors.specs.Monitors.{Entry, walked, on-full, on-planned, elsewhere, eventsIn, Both, afterEntry, afterList, reports, reportsPlanned, ProperList, AgreeOn, DisagreeOn, BeginBoth, ListOn, AlarmsKept, AlarmsDiffer, CallsExist, RecordsExist, NoneRefused}
 use Rattle.job.proofs.Bounds.{told-symbol}
 
@@ -355,9 +354,10 @@ module _ (f : EventForm) (form : FormMoves f) (j : Job) (plan : List ℕ) (wf : 
   different-told exist d =
       record {
         start = d .start;
-        walk = d .walk;
-        reports = λ total small t b c. walk-disagree (d .start) (d .walk) total small t b c (d .place) (d .differs);
-        calls = λ t. exist j wf plan (d .start) (d .walk) t .0;
+        walk = d .apart .walk;
+        reports = λ total small t b c.
+            walk-disagree (d .start) (d .apart .walk) total small t b c (d .apart .place) (d .apart .differs);
+        calls = λ t. exist j wf plan (d .start) (d .apart .walk) t .0;
       }
 
   -- two records that begin in a start's state, with total 0
@@ -379,4 +379,4 @@ module _ (f : EventForm) (form : FormMoves f) (j : Job) (plan : List ℕ) (wf : 
       let t = beginning records (d .start) in
       let c = d .calls (t .0) in
       let r = walk-disagreed (d .start) (d .walk) 0 (omega arith) (t .0) (t .1) c (d .reports 0 (omega arith) (t .0) (t .1) c) in
-      record { start = d .start; walk = d .walk; place = r .0; differs = r .1 }
+      record { start = d .start; apart = record { walk = d .walk; place = r .0; differs = r .1 } }

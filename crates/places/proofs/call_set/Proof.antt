@@ -8,18 +8,12 @@ use borrow.Author.Needs.{needs}
 use Rattle.laws.specs.Bytes.{numberAt}
 use Rattle.job.specs.Job.{kindOf}
 use Rattle.buffer.specs.Views.{nodeIn}
-use Rattle.tables.specs.Rows.{callSet}
+use Rattle.job.specs.Job.{callSet}
 use Rattle.places.proofs.call_set.Statement.{statement}
 use Rattle.places.proofs.call_set.Tie as tie
 
-mul-if1 : tie.Need-mul-if1
-mul-if1 c = search needs
-
-add-if1 : tie.Need-add-if1
-add-if1 c = search needs
-
-shared-slice-read-if1 : tie.Need-shared-slice-read-if1
-shared-slice-read-if1 c = search needs
+kind-at-requires : tie.Need-kind-at-requires
+kind-at-requires c κs = search needs
 
 -- below 2 no set
 call-none : (k v : ℕ) → k < 2 → 0 ≡ callSet (kindOf k v)
@@ -38,7 +32,7 @@ unfolding nodeIn
 returns c =
     let w = c .before .before .before .args .work .now in
     let n = c .before .before .before .args .n in
-    call-none (getD w (n * 8 + 6) 0) (numberAt 2 w (n * 8)) (c .if1 .taken)
+    call-none (getD w (n * 8 + 6) 0) (numberAt 2 w (n * 8)) (rw (c .before .kind-at .ensures) at (c .if1 .taken))
 
 mul-read16 : tie.Need-mul-read16
 mul-read16 c = search needs
@@ -51,9 +45,9 @@ unfolding nodeIn
 returns-2 c =
     let w = c .before .before .before .before .args .work .now in
     let n = c .before .before .before .before .args .n in
-    c .read16 .ensures ∙ call-value (getD w (n * 8 + 6) 0) (numberAt 2 w (n * 8)) (c .before .if1 .left)
+    c .read16 .ensures ∙ call-value (getD w (n * 8 + 6) 0) (numberAt 2 w (n * 8)) (rw (c .before .before .kind-at .ensures) at (c .before .if1 .left))
 
 pub call-set-spec : {M : Type 1} → statement M
 call-set-spec =
     tie.close
-    (tie.spec mul-if1 add-if1 shared-slice-read-if1 returns mul-read16 read16-requires returns-2)
+    (tie.spec kind-at-requires returns mul-read16 read16-requires returns-2)

@@ -1,12 +1,13 @@
 -- `places::symbol_at` meets its contract: the value of an event is its symbol.
 -- Assumes nothing.
-use mathlib.Core.Path.{_≡_, ap, _∙_}
+use mathlib.Core.Path.{_≡_, refl, ap, _∙_}
 use Prim.Native.Nat.{ℕ, zero, suc, _+_, _*_, _%_}
 use native.Mathlib.Omega.{arith}
 use lib.ListN.{getD}
 use borrow.Author.Needs.{needs}
 use Rattle.laws.specs.Bytes.{numberAt}
-use Rattle.job.specs.Job.{event}
+use Rattle.job.specs.Job.{point, pointOf}
+use Rattle.job.proofs.KindLaws.{point-some, point-same}
 use Rattle.job.specs.Job.{kindOf}
 use Rattle.buffer.specs.Views.{nodeIn}
 use Rattle.places.proofs.symbol_at.Statement.{statement}
@@ -22,10 +23,10 @@ cast-result : tie.Need-cast-result
 cast-result c = search needs
 
 -- the value of an event is its symbol
-event-value : (k v a : ℕ) → kindOf k v ≡ event a → v ≡ a
-event-value zero v a e = let z : _≡_ {A = ℕ} 0 1 = cc in absurd (omega arith)
-event-value (suc zero) v a e = cc
-event-value (suc (suc k)) v a e = let z : _≡_ {A = ℕ} 0 1 = cc in absurd (omega arith)
+event-value : (k v a : ℕ) → pointOf (kindOf k v) ≡ point a → v ≡ a
+event-value zero v a e = absurd (point-some e refl)
+event-value (suc zero) v a e = point-same e
+event-value (suc (suc k)) v a e = absurd (point-some e refl)
 
 returns : tie.Need-returns
 unfolding nodeIn
