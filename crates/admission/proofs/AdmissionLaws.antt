@@ -22,10 +22,10 @@ use Rattle.jobfile.proofs.ListingFits.{listing-fits}
 use Rattle.jobfile.proofs.SpellableLaws.{read-written}
 use Rattle.buffer.specs.Layout.{nodesPart, workSize, Lent}
 use Rattle.buffer.specs.Kept.{SameOutside, cleared}
-use Rattle.joblines.specs.declared.head.Head.{Head}
-use Rattle.joblines.specs.ReadLines.{refusedHead}
-use Rattle.joblines.specs.Reading.{headOfAnswer, JobRead, SameRest}
-use Rattle.reader.proofs.ClearLaws.{cleared-same}
+use Rattle.jobhead.specs.declared.head.Head.{Head}
+use Rattle.jobhead.specs.ReadLines.{refusedHead}
+use Rattle.jobhead.specs.Reading.{headOfAnswer, JobRead, SameRest}
+use Rattle.jobreader.proofs.ClearLaws.{cleared-same}
 use Rattle.admission.specs.Admission.{admitted, refusedLeft, workAfter}
 use Rattle.admission.specs.Admitted.{JobAdmitted, Admitted}
 use Rattle.admission.proofs.JobHeldLaws.{finals-read, usable-read, job-read}

@@ -9,8 +9,8 @@ use Rattle.job.specs.Job.{Job}
 use Rattle.jobfile.specs.File.{Answer, accepted, turned, readJob}
 use Rattle.jobfile.proofs.RefusalLaws.{turned-says}
 use Rattle.jobfile.proofs.AnswerLaws.{turned-number}
-use Rattle.joblines.specs.declared.head.Head.{Head}
-use Rattle.joblines.specs.Reading.{headOfAnswer, JobRead}
+use Rattle.jobhead.specs.declared.head.Head.{Head}
+use Rattle.jobhead.specs.Reading.{headOfAnswer, JobRead}
 
 -- the number of a file that is turned back is not 0
 turned-some : (file : List ℕ) (k : ℕ) → readJob file ≡ turned k → k ≡ 0 → ⊥

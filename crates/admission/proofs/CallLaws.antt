@@ -10,9 +10,9 @@ use Rattle.job.specs.Job.{Job}
 use Rattle.jobfile.specs.File.{Answer, accepted, turned}
 use Rattle.buffer.specs.Layout.{nodesPart, workSize}
 use Rattle.buffer.specs.Kept.{SameOutside, cleared}
-use Rattle.joblines.specs.declared.head.Head.{Head}
-use Rattle.joblines.specs.Reading.{headOfAnswer}
-use Rattle.reader.specs.Rule.{ruleIn}
+use Rattle.jobhead.specs.declared.head.Head.{Head}
+use Rattle.jobhead.specs.Reading.{headOfAnswer}
+use Rattle.jobreader.specs.Rule.{ruleIn}
 use Rattle.tables.specs.Held.{JobHeld}
 use Rattle.admission.specs.Admission.{workAfter, WrittenFirst}
 use Rattle.admission.specs.Admitted.{Admitted}

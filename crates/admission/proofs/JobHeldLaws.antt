@@ -17,13 +17,13 @@ use Rattle.job.specs.Job.{Job, noNode, nodeAt, leads}
 use Rattle.jobfile.specs.File.{accepted, readJob}
 use Rattle.jobfile.specs.Spellable.{Spellable}
 use Rattle.jobfile.proofs.SpellableLaws.{read-written}
-use Rattle.joblines.specs.declared.head.Head.{Head}
+use Rattle.jobhead.specs.declared.head.Head.{Head}
 use Rattle.buffer.specs.Layout.{Lent}
 use Rattle.buffer.specs.Views.{nodeIn, startIn, targetIn, cellIn, tableIn, EdgeIn}
-use Rattle.joblines.specs.Stored.{jobIn}
-use Rattle.reader.specs.Rule.{ruleIn}
-use Rattle.joblines.specs.Reading.{headOfAnswer, JobRead}
-use Rattle.reader.proofs.TableLaws.{rule-cell}
+use Rattle.jobhead.specs.Stored.{jobIn}
+use Rattle.jobreader.specs.Rule.{ruleIn}
+use Rattle.jobhead.specs.Reading.{headOfAnswer, JobRead}
+use Rattle.jobreader.proofs.TableLaws.{rule-cell}
 use Rattle.tables.specs.Rows.{CellsBelow}
 use Rattle.tables.specs.Held.{EdgesWithin, Usable, JobHeld}
 use Rattle.admission.proofs.EdgeIndexLaws.{edges-says}

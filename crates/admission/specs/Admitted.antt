@@ -6,9 +6,9 @@ use Prim.Native.Nat.{ℕ, _^_, _≤_, _<_}
 use Rattle.job.specs.Job.{Job}
 use Rattle.jobfile.specs.File.{Answer, accepted}
 use Rattle.buffer.specs.Kept.{cleared}
-use Rattle.joblines.specs.declared.head.Head.{Head}
-use Rattle.joblines.specs.Reading.{headOfAnswer}
-use Rattle.reader.specs.Rule.{ruleIn}
+use Rattle.jobhead.specs.declared.head.Head.{Head}
+use Rattle.jobhead.specs.Reading.{headOfAnswer}
+use Rattle.jobreader.specs.Rule.{ruleIn}
 use Rattle.tables.specs.Held.{Usable, JobHeld}
 use Rattle.admission.specs.Admission.{workAfter}
 

@@ -9,11 +9,11 @@ ghost use Rattle.tables.specs.Held.{Usable};
 ghost use Rattle.classes.specs.Backwards.{wordRow, WordsGrown, WordsClosed, AfterWords};
 use classrows::class_row;
 use classrows::join_classes;
+use clearing::clear_classes;
+use graphreads::after_set;
 use moves::next_state;
 use moves::preimage_under;
 use moves::unlike_states;
-use parts::clear_classes;
-use places::after_set;
 use sets::lowest;
 use sets::without_lowest;
 

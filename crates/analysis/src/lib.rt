@@ -1,12 +1,12 @@
 // Before sets, plan and classes of the job that the work buffer holds, each in its part.
 ghost use Prim.Native.Nat.{_≤_};
 ghost use Rattle.tables.specs.Held.{Usable};
-ghost use Rattle.findings.specs.Findings.{Found};
+ghost use Rattle.found.specs.Findings.{Found};
 use afterwords::after_words;
 use beforesets::find_before;
 use classgrowth::grow_classes;
+use passes::passes::Counts;
 use planmaking::make_plan;
-use planning::passes::Counts;
 
 // Finds before sets, plan and classes, and returns the plan's counts.
 pub fn find(

@@ -4,13 +4,13 @@ ghost use Prim.Native.Nat.{_<_, _≤_};
 ghost use lib.ListN.{length};
 ghost use Rattle.buffer.specs.Layout.{Lent};
 ghost use Rattle.tables.specs.Held.{Usable};
-ghost use Rattle.findings.specs.Findings.{beforeIn, BeforeStored, BeforeFound};
+ghost use Rattle.found.specs.Findings.{beforeIn, BeforeStored, BeforeFound};
 use buffer::FOUND;
 use enabling::enable_all;
+use loads::read16;
 use points::held_states;
 use search::search::is_faithful;
 use stores::write16;
-use words::read16;
 
 // The before set of node n.
 pub fn before_set(work: &[u8], n: usize) -> u16

@@ -5,7 +5,7 @@ ghost use Rattle.checking.specs.Checking.{checked, workLeft};
 use checkheld::judge;
 use checking::check::Verdict;
 use door::admit;
-use reader::clear::clear;
+use jobreader::clear::clear;
 
 // Checks a plan. The work buffer is cleared unless the answer is refusal 1 or 2.
 pub fn check_plan(file: &[u8], plan: &[u8], work: &mut [u8]) -> Verdict

@@ -1,12 +1,12 @@
 // The verdict on a plan, for the job that the work buffer holds.
-ghost use Rattle.reader.specs.Rule.{ruleIn};
+ghost use Rattle.jobreader.specs.Rule.{ruleIn};
 ghost use Rattle.tables.specs.Held.{Usable};
 ghost use Rattle.checking.specs.Checking.{Judged};
 use afterwords::after_words;
 use checking::check::Verdict;
+use jobreader::table::table_in;
 use planmarks::is_plan;
 use planmarks::store_plan;
-use reader::table::table_in;
 use search::search::is_faithful;
 
 // The answer for the job that the work buffer holds: 11, 12, or the plan's verdict.

@@ -18,8 +18,8 @@ use Rattle.buffer.specs.Layout.{nodesPart, classPart, foundPart, planPart, rule
 use Rattle.buffer.specs.Views.{nodeIn}
 use Rattle.buffer.specs.Kept.{SameOutside, cleared}
 use Rattle.buffer.proofs.KeptLaws.{kept-fewer, outside-part, kept-none, kept-both}
-use Rattle.joblines.specs.declared.head.Head.{Head}
-use Rattle.reader.specs.Rule.{ruleIn}
+use Rattle.jobhead.specs.declared.head.Head.{Head}
+use Rattle.jobreader.specs.Rule.{ruleIn}
 use Rattle.tables.specs.Tables.{SearchKept}
 use Rattle.tables.specs.Held.{Usable, JobHeld, PlanHeld}
 use Rattle.tables.proofs.JobKeptLaws.{FrontKept, front-kept, front-usable, front-job, table-usable}

@@ -6,8 +6,8 @@ ghost use Rattle.buffer.specs.Layout.{Lent};
 ghost use Rattle.buffer.specs.Views.{classRowIn};
 ghost use Rattle.tables.specs.Tables.{ApartGrown};
 use buffer::CLASSES;
+use loads::read16;
 use stores::write16;
-use words::read16;
 
 // Row p of the states told apart past node n.
 pub fn class_row(work: &[u8], n: usize, p: usize) -> u16

@@ -6,15 +6,15 @@ use mathlib.Core.List.{List}
 use Prim.Native.Nat.{ℕ}
 use native.Mathlib.Omega.{arith}
 use Rattle.admission.specs.Admission.{admitted}
-use Rattle.plans.specs.PlanCall.{outcomeOf}
-use Rattle.plans.specs.declared.plan.Outcome.{Outcome}
-use Rattle.plans.specs.declared.plan.Outcome.the-variants.{Planned, Refused}
-use Rattle.plans.proofs.PlanAfterLaws.{counts-fit}
-use Rattle.listings.specs.ListCall.{listedOf}
-use Rattle.listings.specs.declared.list.Listed.{Listed}
-use Rattle.listings.specs.declared.list.Listed.the-variants.{Length, Refused as ListedRefused}
-use Rattle.listings.proofs.ListSays.{length-few}
-use Rattle.numbers.specs.Fits.{OutcomeFits, ListedFits}
+use Rattle.planoutcome.specs.PlanCall.{outcomeOf}
+use Rattle.planoutcome.specs.declared.plan.Outcome.{Outcome}
+use Rattle.planoutcome.specs.declared.plan.Outcome.the-variants.{Planned, Refused}
+use Rattle.planoutcome.proofs.PlanAfterLaws.{counts-fit}
+use Rattle.listoutcome.specs.ListCall.{listedOf}
+use Rattle.listoutcome.specs.declared.list.Listed.{Listed}
+use Rattle.listoutcome.specs.declared.list.Listed.the-variants.{Length, Refused as ListedRefused}
+use Rattle.listoutcome.proofs.ListSays.{length-few}
+use Rattle.answernumbers.specs.Fits.{OutcomeFits, ListedFits}
 
 -- of planning
 pub outcome-fits : (file : List ℕ) (short : Bool) (r : Outcome) → r ≡ outcomeOf (admitted file short) → OutcomeFits r

@@ -2,7 +2,7 @@
 ghost use mathlib.Core.Path.{_≡_};
 ghost use lib.ListN.{length};
 ghost use Rattle.admission.specs.Admission.{workAfter};
-ghost use Rattle.listings.specs.ListCall.{listAnswer, listedOf, listingAfter, listNumber};
+ghost use Rattle.listoutcome.specs.ListCall.{listAnswer, listedOf, listingAfter, listNumber};
 
 // Lists a job and returns 2^48 plus the length of the listing, or the refusal's number, which leaves the listing buffer; the work buffer is
 // cleared unless that is 1 or 2.
@@ -12,5 +12,5 @@ pub extern "C" fn dapohiru_list(job: &[u8], work: &mut [u8], listing: &mut [u8])
         × (now (work .exit) ≡ workAfter (listAnswer (now (job .entry)) (length (now (work .entry))) (length (now (listing .entry)))) (now (work .entry)))
         × (now (listing .exit) ≡ listingAfter (listAnswer (now (job .entry)) (length (now (work .entry))) (length (now (listing .entry)))) (now (listing .entry))) ⌝ }
 {
-    numbers::of_listed(listcall::list_job(job, work, listing))
+    answernumbers::of_listed(listcall::list_job(job, work, listing))
 }

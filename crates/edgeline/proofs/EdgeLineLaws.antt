@@ -16,7 +16,7 @@ use Rattle.lines.specs.Line.{Due, found, lineOf, noRow, rowOf, Framed, at}
 use Rattle.jobfile.specs.File.{ascends, goodEdge, edgeLine}
 use Rattle.framing.specs.Framing.{collected}
 use Rattle.lines.specs.Places.{numbersOf, statusOf}
-use Rattle.joblines.specs.ReadLines.{beforeOf, EdgeRead}
+use Rattle.jobhead.specs.ReadLines.{beforeOf, EdgeRead}
 use Rattle.jobfile.specs.Refusal.{EdgeWithin}
 use Rattle.jobfile.proofs.WithinLaws.{edge-says}
 use Rattle.lines.proofs.LineLaws.{fieldAt, fields-no-more, fields-number, due-found, due-malformed}

@@ -4,7 +4,7 @@ ghost use mathlib.Core.List.{[], _∷_};
 ghost use Prim.Native.Nat.{_≤_};
 ghost use lib.ListN.{length, drop};
 ghost use Rattle.jobfile.specs.File.{goodEdge};
-ghost use Rattle.joblines.specs.ReadLines.{beforeOf, EdgeRead};
+ghost use Rattle.jobhead.specs.ReadLines.{beforeOf, EdgeRead};
 use fields::field_in;
 use framing::framed;
 use framing::line_at;

@@ -19,9 +19,9 @@ use Rattle.jobfile.specs.File.{edgeLine}
 use Rattle.buffer.specs.Layout.{startsPart, targetsPart, pairPart, Lent}
 use Rattle.buffer.specs.Views.{startIn, targetIn}
 use Rattle.buffer.specs.Kept.{SameOutside}
-use Rattle.joblines.specs.Stored.{StartsFilled}
+use Rattle.jobhead.specs.Stored.{StartsFilled}
 use Rattle.lines.specs.Places.{numbersOf, numbersAt, beforeAt, statusAt}
-use Rattle.joblines.specs.ReadLines.{beforeOf, EdgeRead, EdgesRead}
+use Rattle.jobhead.specs.ReadLines.{beforeOf, EdgeRead, EdgesRead}
 use Rattle.lines.proofs.LinesLaws.{passed-more, read-all, read-stop, status-here, numbers-here, passed-length}
 use Rattle.buffer.proofs.KeptLaws.{kept-none, kept-both, kept-put, number-kept}
 

@@ -13,7 +13,7 @@ use Rattle.laws.proofs.Bytes.{number-put}
 use Rattle.buffer.specs.Layout.{startsPart, Lent}
 use Rattle.buffer.specs.Views.{startIn}
 use Rattle.buffer.specs.Kept.{SameOutside}
-use Rattle.joblines.specs.Stored.{StartsFilled}
+use Rattle.jobhead.specs.Stored.{StartsFilled}
 use Rattle.buffer.proofs.KeptLaws.{kept-none, kept-both, kept-put, number-kept}
 
 -- the starts from a up to j are filled

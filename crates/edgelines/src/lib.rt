@@ -2,8 +2,8 @@
 ghost use Prim.Native.Nat.{_≤_};
 ghost use lib.ListN.{length, drop};
 ghost use Rattle.buffer.specs.Layout.{Lent};
-ghost use Rattle.joblines.specs.Stored.{StartsFilled};
-ghost use Rattle.joblines.specs.ReadLines.{EdgesRead};
+ghost use Rattle.jobhead.specs.Stored.{StartsFilled};
+ghost use Rattle.jobhead.specs.ReadLines.{EdgesRead};
 use buffer::STARTS;
 use buffer::TARGETS;
 use edgeline::edge_line;

@@ -5,10 +5,10 @@ ghost use lib.ListN.{length};
 ghost use Rattle.job.specs.Planning.{shadowByte};
 ghost use Rattle.buffer.specs.Layout.{Lent};
 ghost use Rattle.buffer.specs.Views.{nodeIn};
-ghost use Rattle.planning.specs.Passes.{enabledTotal, AllEnabled};
+ghost use Rattle.passes.specs.Passes.{enabledTotal, AllEnabled};
 use buffer::PLAN;
-use places::is_enabled;
-use places::is_shadow;
+use graphreads::is_enabled;
+use graphreads::is_shadow;
 
 // The plan byte with every shadow enabled.
 fn first_mark(work: &[u8], n: usize) -> usize

@@ -10,15 +10,15 @@ use borrow.Author.Tests.{ltb-false}
 use Rattle.laws.proofs.Tests.{fails-of, or-right}
 use Rattle.buffer.specs.Layout.{workSize}
 use Rattle.buffer.specs.Kept.{cleared}
-use Rattle.joblines.specs.declared.head.Head.{Head}
-use Rattle.reader.specs.Rule.{ruleIn}
+use Rattle.jobhead.specs.declared.head.Head.{Head}
+use Rattle.jobreader.specs.Rule.{ruleIn}
 use Rattle.tables.specs.Held.{Usable}
 use Rattle.admission.specs.Admitted.{Admitted}
 use Rattle.admission.proofs.AdmissionLaws.{admitted-reads}
 use Rattle.admission.proofs.CallLaws.{Ends, ends-refused, ends-accepted}
-use Rattle.listings.specs.declared.list.Listed.{Listed}
-use Rattle.listings.specs.declared.list.Listed.the-variants.{Length, Refused}
-use Rattle.listings.specs.ListCall.{listingSize, listAnswer, listedOf, listingAfter}
+use Rattle.listoutcome.specs.declared.list.Listed.{Listed}
+use Rattle.listoutcome.specs.declared.list.Listed.the-variants.{Length, Refused}
+use Rattle.listoutcome.specs.ListCall.{listingSize, listAnswer, listedOf, listingAfter}
 use Rattle.listheld.specs.Held.{SomeJob, ListedHeld}
 
 module _ (file work listing : List ℕ) where

@@ -2,11 +2,11 @@
 ghost use mathlib.Core.Path.{_≡_};
 ghost use lib.ListN.{length};
 ghost use Rattle.admission.specs.Admission.{workAfter};
-ghost use Rattle.listings.specs.ListCall.{listAnswer, listedOf, listingAfter};
+ghost use Rattle.listoutcome.specs.ListCall.{listAnswer, listedOf, listingAfter};
 use door::admit;
+use jobreader::clear::clear;
 use listheld::list_held;
-use listings::list::Listed;
-use reader::clear::clear;
+use listoutcome::list::Listed;
 
 // The smallest listing buffer.
 pub const ROOM: usize = 32768;

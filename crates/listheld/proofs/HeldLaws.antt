@@ -10,11 +10,11 @@ use Rattle.buffer.proofs.KeptLaws.{kept-none, kept-both}
 use Rattle.tables.specs.Rows.{CellsBelow}
 use Rattle.tables.specs.Held.{Usable, JobHeld}
 use Rattle.tables.proofs.JobKeptLaws.{table-usable}
-use Rattle.planning.specs.declared.passes.Counts.{Counts}
-use Rattle.planning.specs.Passes.{countsOf}
-use Rattle.plans.proofs.CountLaws.{counts-held}
-use Rattle.findings.specs.Findings.{Found}
-use Rattle.printing.specs.Printing.{LinesWritten}
+use Rattle.passes.specs.declared.passes.Counts.{Counts}
+use Rattle.passes.specs.Passes.{countsOf}
+use Rattle.planoutcome.proofs.CountLaws.{counts-held}
+use Rattle.found.specs.Findings.{Found}
+use Rattle.listingtext.specs.Printing.{LinesWritten}
 use Rattle.listheld.specs.Held.{SomeJob, ListedHeld}
 
 module _ {rule table : List (List ℕ)} {finals states nodes : ℕ} {l m : List ℕ} {counts : Counts} (same : table ≡ rule)

@@ -9,7 +9,7 @@ use Rattle.job.specs.Job.{Job}
 use Rattle.buffer.specs.Layout.{nodesPart, workSize}
 use Rattle.buffer.specs.Kept.{SameOutside}
 use Rattle.tables.specs.Held.{JobHeld}
-use Rattle.listings.specs.ListCall.{bytesFor}
+use Rattle.listoutcome.specs.ListCall.{bytesFor}
 
 -- the work buffer holds some job
 abbrev pub SomeJob : List ℕ → List (List ℕ) → ℕ → ℕ → ℕ → Type 0

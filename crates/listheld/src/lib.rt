@@ -1,12 +1,12 @@
 // The listing of the job that the work buffer holds, written to the listing buffer.
 ghost use Prim.Native.Nat.{_≤_};
 ghost use lib.ListN.{length};
-ghost use Rattle.reader.specs.Rule.{ruleIn};
+ghost use Rattle.jobreader.specs.Rule.{ruleIn};
 ghost use Rattle.tables.specs.Held.{Usable};
 ghost use Rattle.listheld.specs.Held.{SomeJob, ListedHeld};
 use analysis::find;
+use jobreader::table::table_in;
 use listlines::write_listing;
-use reader::table::table_in;
 
 // Lists the job that the work buffer holds.
 pub fn list_held(

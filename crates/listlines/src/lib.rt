@@ -3,10 +3,10 @@ ghost use Prim.Native.Nat.{_+_, _<_, _≤_};
 ghost use lib.ListN.{length};
 ghost use Rattle.buffer.specs.Layout.{Lent};
 ghost use Rattle.tables.specs.Rows.{CellsBelow};
-ghost use Rattle.printing.specs.Printing.{PointsWritten, LinesWritten};
-use planning::passes::Counts;
+ghost use Rattle.listingtext.specs.Printing.{PointsWritten, LinesWritten};
+use listwriter::write_total_line;
+use passes::passes::Counts;
 use pointlines::write_point;
-use writer::write_total_line;
 
 // Writes the W lines of all shadows in number order: the place after them.
 fn write_points(

@@ -21,9 +21,9 @@ use Rattle.jobfile.proofs.ListingLength.{refused-length, listing-in-buffer}
 use Rattle.jobfile.proofs.ListingFits.{listing-fits}
 use Rattle.buffer.specs.Layout.{workSize}
 use Rattle.admission.specs.Admission.{admitted, workAfter}
-use Rattle.listings.specs.declared.list.Listed.{Listed}
-use Rattle.listings.specs.declared.list.Listed.the-variants.{Length, Refused}
-use Rattle.listings.specs.ListCall.{listingSize, listAnswer, listedOf, listingAfter}
+use Rattle.listoutcome.specs.declared.list.Listed.{Listed}
+use Rattle.listoutcome.specs.declared.list.Listed.the-variants.{Length, Refused}
+use Rattle.listoutcome.specs.ListCall.{listingSize, listAnswer, listedOf, listingAfter}
 
 -- ---- the answer for a file
 

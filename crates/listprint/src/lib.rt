@@ -8,8 +8,8 @@ ghost use Rattle.buffer.specs.Layout.{Lent};
 ghost use Rattle.jobfile.specs.ListingLines.{printedFor};
 ghost use Rattle.admission.specs.Admission.{admitted, workAfter};
 use listcall::list_job;
-use listings::list::Listed;
-use writer::write_refusal_line;
+use listoutcome::list::Listed;
+use listwriter::write_refusal_line;
 
 // Writes what is printed for the file from the start of `out` on: its length.
 pub fn print_job(file: &[u8], work: &mut [u8], out: &mut [u8]) -> usize

@@ -1,10 +1,10 @@
 // The listing of standard input, on standard output.
 use buffer::WORK;
+use jobreader::read::LONGEST;
 use libc::STDIN_FILENO;
 use libc::STDOUT_FILENO;
 use listcall::ROOM;
 use listprint::print_job;
-use reader::read::LONGEST;
 
 // Prints the listing of the job file on standard input, or the X line of its refusal.
 pub fn list_input() {

@@ -24,7 +24,7 @@ use Rattle.buffer.specs.Layout.{workSize}
 use Rattle.buffer.specs.Kept.{cleared}
 use Rattle.admission.specs.Admission.{workAfter}
 use Rattle.admission.proofs.AdmissionLaws.{long-enough, admitted-read}
-use Rattle.listings.specs.ListCall.{listingSize, listedOf, listingAfter, bytesFor}
+use Rattle.listoutcome.specs.ListCall.{listingSize, listedOf, listingAfter, bytesFor}
 use Rattle.listtrials.specs.ListTrials.{CallTrial, ListedSo, ListsSo, AllListed, done, _and_, callTrials}
 
 -- the bytes that are written for an answer

@@ -14,9 +14,9 @@ use Rattle.jobfile.specs.FileTrials.{linesIn, pairFile, smallHead, smallRule, s
 use Rattle.buffer.specs.Layout.{Lent}
 use Rattle.buffer.specs.Kept.{cleared}
 use Rattle.admission.specs.Admission.{workAfter}
-use Rattle.listings.specs.declared.list.Listed.{Listed}
-use Rattle.listings.specs.declared.list.Listed.the-variants.{Length, Refused}
-use Rattle.listings.specs.ListCall.{listingSize, listAnswer, listedOf, listingAfter}
+use Rattle.listoutcome.specs.declared.list.Listed.{Listed}
+use Rattle.listoutcome.specs.declared.list.Listed.the-variants.{Length, Refused}
+use Rattle.listoutcome.specs.ListCall.{listingSize, listAnswer, listedOf, listingAfter}
 
 -- a file, what is answered and the lines that are written
 pub record CallTrial : Type 0 where

@@ -4,8 +4,8 @@ ghost use lib.ListN.{length};
 ghost use Rattle.buffer.specs.Layout.{Lent};
 ghost use Rattle.tables.specs.Tables.{NextMarked, MarksTaken};
 use buffer::MARKS;
+use loads::read16;
 use stores::write16;
-use words::read16;
 
 // The first node from n on that has marks; `nodes` where none has.
 pub fn next_marked(work: &[u8], n: usize, nodes: usize) -> usize

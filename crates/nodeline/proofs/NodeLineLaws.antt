@@ -10,13 +10,13 @@ use lib.ListN.{take, drop}
 use Rattle.lines.specs.declared.field.Field.the-variants.{Number, Malformed}
 use Rattle.lines.specs.Line.{Due, found, lineOf, noRow, rowOf, Framed, at}
 use Rattle.jobfile.specs.File.{nodeLine, nodeOf}
-use Rattle.joblines.specs.Stored.{NodeStored}
+use Rattle.jobhead.specs.Stored.{NodeStored}
 use Rattle.framing.specs.Framing.{collected}
 use Rattle.lines.specs.Places.{numbersOf, statusOf}
-use Rattle.joblines.specs.ReadLines.{NodeRead}
+use Rattle.jobhead.specs.ReadLines.{NodeRead}
 use Rattle.lines.proofs.LineLaws.{fieldAt, fields-no-more, fields-number, due-found, due-malformed}
 use Rattle.lines.proofs.LinesLaws.{row-stops}
-use Rattle.nodes.proofs.NodeLaws.{Test, node-sizes}
+use Rattle.nodestore.proofs.NodeLaws.{Test, node-sizes}
 use Rattle.buffer.proofs.KeptLaws.{kept-none}
 
 module _ (s a n : ℕ) (bytes l : List ℕ) where

@@ -2,15 +2,15 @@
 ghost use Prim.Native.Nat.{_<_, _≤_};
 ghost use lib.ListN.{length, drop};
 ghost use Rattle.buffer.specs.Layout.{Lent};
-ghost use Rattle.joblines.specs.ReadLines.{NodeRead};
+ghost use Rattle.jobhead.specs.ReadLines.{NodeRead};
 use fields::field_in;
 use framing::framed;
 use framing::line_at;
 use framing::refused;
 use lines::field::Field;
 use lines::line::Collected;
-use nodes::is_node;
-use nodes::store_node;
+use nodestore::is_node;
+use nodestore::store_node;
 
 // Reads the P line at `at` as node n: 3, 4 or 7, or its entry set, and the node is stored.
 pub fn node_line(

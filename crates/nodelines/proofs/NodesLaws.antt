@@ -19,7 +19,7 @@ use Rattle.buffer.specs.Views.{nodeIn}
 use Rattle.buffer.specs.Kept.{SameOutside}
 use Rattle.framing.specs.Framing.{collected}
 use Rattle.lines.specs.Places.{numbersOf, numbersAt, statusAt}
-use Rattle.joblines.specs.ReadLines.{NodeRead, NodesRead}
+use Rattle.jobhead.specs.ReadLines.{NodeRead, NodesRead}
 use Rattle.lines.proofs.LinesLaws.{passed-more, read-all, read-stop, status-here, numbers-here}
 use Rattle.buffer.proofs.KeptLaws.{kept-none, kept-both, node-kept}
 

@@ -2,7 +2,7 @@
 ghost use Prim.Native.Nat.{_≤_};
 ghost use lib.ListN.{length, drop};
 ghost use Rattle.buffer.specs.Layout.{Lent};
-ghost use Rattle.joblines.specs.ReadLines.{NodesRead};
+ghost use Rattle.jobhead.specs.ReadLines.{NodesRead};
 use framing::refused;
 use lines::line::Collected;
 use nodeline::node_line;

@@ -10,16 +10,16 @@ use borrow.Author.Tests.{ltb-false}
 use Rattle.laws.proofs.Tests.{fails-of, or-right}
 use Rattle.buffer.specs.Layout.{workSize}
 use Rattle.buffer.specs.Kept.{cleared}
-use Rattle.joblines.specs.declared.head.Head.{Head}
-use Rattle.reader.specs.Rule.{ruleIn}
+use Rattle.jobhead.specs.declared.head.Head.{Head}
+use Rattle.jobreader.specs.Rule.{ruleIn}
 use Rattle.tables.specs.Held.{Usable}
 use Rattle.admission.specs.Admitted.{Admitted}
 use Rattle.admission.proofs.AdmissionLaws.{admitted-reads}
 use Rattle.admission.proofs.CallLaws.{Ends, ends-refused, ends-accepted}
-use Rattle.planning.specs.declared.passes.Counts.{Counts}
-use Rattle.plans.specs.declared.plan.Outcome.{Outcome}
-use Rattle.plans.specs.declared.plan.Outcome.the-variants.{Planned, Refused}
-use Rattle.plans.specs.PlanCall.{planSize, planAnswer, outcomeOf, planAfter}
+use Rattle.passes.specs.declared.passes.Counts.{Counts}
+use Rattle.planoutcome.specs.declared.plan.Outcome.{Outcome}
+use Rattle.planoutcome.specs.declared.plan.Outcome.the-variants.{Planned, Refused}
+use Rattle.planoutcome.specs.PlanCall.{planSize, planAnswer, outcomeOf, planAfter}
 use Rattle.planheld.specs.Held.{PlannedHeld}
 
 module _ (file work plan : List ℕ) where

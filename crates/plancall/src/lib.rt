@@ -2,11 +2,11 @@
 ghost use mathlib.Core.Path.{_≡_};
 ghost use lib.ListN.{length};
 ghost use Rattle.admission.specs.Admission.{workAfter};
-ghost use Rattle.plans.specs.PlanCall.{planAnswer, outcomeOf, planAfter};
+ghost use Rattle.planoutcome.specs.PlanCall.{planAnswer, outcomeOf, planAfter};
 use door::admit;
+use jobreader::clear::clear;
 use planheld::plan_held;
-use plans::plan::Outcome;
-use reader::clear::clear;
+use planoutcome::plan::Outcome;
 
 // The smallest plan buffer.
 const ROOM: usize = 512;

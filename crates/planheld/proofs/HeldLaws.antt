@@ -14,9 +14,9 @@ use Rattle.tables.specs.Held.{Usable}
 use Rattle.tables.proofs.JobKeptLaws.{front-kept, front-job}
 use Rattle.classes.specs.Backwards.{AfterWords}
 use Rattle.tables.proofs.JobKeptLaws.{table-usable}
-use Rattle.planning.specs.declared.passes.Counts.{Counts}
-use Rattle.planning.specs.Passes.{planIn, PlanningKept, PlanMade}
-use Rattle.planning.proofs.PlanInLaws.{plan-in-none, plan-in-more, plan-in-length, planning-outside}
+use Rattle.passes.specs.declared.passes.Counts.{Counts}
+use Rattle.passes.specs.Passes.{planIn, PlanningKept, PlanMade}
+use Rattle.passes.proofs.PlanInLaws.{plan-in-none, plan-in-more, plan-in-length, planning-outside}
 use Rattle.planheld.specs.Held.{PlannedHeld}
 
 -- ---- the plan copied to the plan buffer

@@ -9,8 +9,8 @@ use Rattle.job.specs.Listing.{planOf}
 use Rattle.buffer.specs.Layout.{nodesPart, workSize}
 use Rattle.buffer.specs.Kept.{SameOutside}
 use Rattle.tables.specs.Held.{JobHeld}
-use Rattle.planning.specs.declared.passes.Counts.{Counts}
-use Rattle.planning.specs.Passes.{countsOf}
+use Rattle.passes.specs.declared.passes.Counts.{Counts}
+use Rattle.passes.specs.Passes.{countsOf}
 
 -- the plan buffer holds the plan of every job that the work buffer holds; the work buffer's bytes past the first 65,536 are as they were
 pub record PlannedHeld (table : List (List ℕ)) (finals states nodes : ℕ) (l m before after : List ℕ) (counts : Counts) : Type 0 where

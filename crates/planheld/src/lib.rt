@@ -4,15 +4,15 @@ ghost use Prim.Native.Nat.{_≤_};
 ghost use lib.ListN.{length};
 ghost use lib.Seq.{sets};
 ghost use Rattle.buffer.specs.Layout.{Lent};
-ghost use Rattle.reader.specs.Rule.{ruleIn};
+ghost use Rattle.jobreader.specs.Rule.{ruleIn};
 ghost use Rattle.tables.specs.Held.{Usable};
-ghost use Rattle.planning.specs.Passes.{planIn};
+ghost use Rattle.passes.specs.Passes.{planIn};
 ghost use Rattle.planheld.specs.Held.{PlannedHeld};
 use afterwords::after_words;
 use buffer::PLAN;
+use jobreader::table::table_in;
+use passes::passes::Counts;
 use planmaking::make_plan;
-use planning::passes::Counts;
-use reader::table::table_in;
 
 // Copies the plan of the nodes to the plan buffer.
 fn copy_plan(work: &[u8], plan: &mut [u8], nodes: usize)

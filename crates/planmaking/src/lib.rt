@@ -1,10 +1,10 @@
 // Passes in number order until one changes nothing.
 ghost use Prim.Native.Nat.{_≤_};
 ghost use Rattle.tables.specs.Held.{Usable};
-ghost use Rattle.planning.specs.Passes.{PassMade, PassesMade, PlanMade};
+ghost use Rattle.passes.specs.Passes.{PassMade, PassesMade, PlanMade};
 use enabling::enable_all;
 use enabling::enabled_total;
-use planning::passes::Counts;
+use passes::passes::Counts;
 use tries::first_gone;
 use tries::last_gone;
 

@@ -4,14 +4,14 @@ ghost use Prim.Native.Nat.{_+_, _<_, _≤_};
 ghost use lib.ListN.{length};
 ghost use Rattle.buffer.specs.Layout.{Lent};
 ghost use Rattle.tables.specs.Rows.{CellsBelow};
-ghost use Rattle.printing.specs.Printing.{byteOf, PointWritten};
+ghost use Rattle.listingtext.specs.Printing.{byteOf, PointWritten};
 use beforesets::before_set;
-use places::is_enabled;
-use places::is_shadow;
-use places::symbol_at;
+use graphreads::is_enabled;
+use graphreads::is_shadow;
+use graphreads::symbol_at;
+use listwriter::write_shadow_line;
 use points::class_count;
 use points::is_nop;
-use writer::write_shadow_line;
 
 // A mark as a number: 1 or 0.
 fn mark(b: bool) -> u64

@@ -13,8 +13,8 @@ use Rattle.jobfile.proofs.Longest.{longest-file}
 use Rattle.jobfile.proofs.SpellableLaws.{accepted-written, accepted-well-formed}
 use Rattle.buffer.specs.Layout.{workSize}
 use Rattle.admission.specs.Admission.{admitted}
-use Rattle.plans.specs.PlanCall.{planSize}
-use Rattle.plans.proofs.PlanAfterLaws.{plan-answer-reads, plan-after-plan}
+use Rattle.planoutcome.specs.PlanCall.{planSize}
+use Rattle.planoutcome.proofs.PlanAfterLaws.{plan-answer-reads, plan-after-plan}
 use Rattle.promise.specs.Promise.{PlanningAccepts, BothHalves}
 
 -- every job that a file can spell is accepted

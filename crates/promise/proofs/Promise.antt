@@ -7,7 +7,7 @@ use Rattle.events.proofs.FormLaws.{value-moves, lent-moves}
 use Rattle.twomonitors.specs.Monitors.{RecordsExist, RefusedExist, ListsExist}
 use Rattle.twomonitors.proofs.MonitorsMore.{FormGives, lists-exist}
 use Rattle.twomonitors.proofs.OrderLaws.{any-order}
-use Rattle.plans.proofs.PlanAfterLaws.{plan-bytes-say, seen-by-number}
+use Rattle.planoutcome.proofs.PlanAfterLaws.{plan-bytes-say, seen-by-number}
 use Rattle.eventbytes.specs.Form.{callForm}
 use Rattle.eventbytes.proofs.FormLaws.{call-moves}
 use Rattle.promise.specs.Promise.{PromiseIn, ThirdPromise}

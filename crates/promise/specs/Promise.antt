@@ -12,8 +12,8 @@ use Rattle.twomonitors.specs.Monitors.{AlarmsKept, PointsNeeded, ListsExist, An
 use Rattle.jobfile.specs.File.{accepted, writeJob}
 use Rattle.jobfile.specs.Spellable.{Spellable}
 use Rattle.buffer.specs.Layout.{workSize}
-use Rattle.plans.specs.PlanCall.{planSize, planAnswer, planAfter}
-use Rattle.plans.specs.PlanSays.{PlanBytesSay, SeenByNumber}
+use Rattle.planoutcome.specs.PlanCall.{planSize, planAnswer, planAfter}
+use Rattle.planoutcome.specs.PlanSays.{PlanBytesSay, SeenByNumber}
 use Rattle.eventbytes.specs.Form.{callForm}
 
 -- the plan bytes that planning leaves: those of nodes 0 to N-1

@@ -17,8 +17,8 @@ pub fn read_record(rec: &[u8]) -> Record
 {
     if rec.len() == RECORD_SIZE {
         return Record {
-            state: words::read64(rec, STATE_PLACE),
-            alarms: words::read64(rec, TOTAL_PLACE),
+            state: loads::read64(rec, STATE_PLACE),
+            alarms: loads::read64(rec, TOTAL_PLACE),
         };
     }
     Record {

@@ -15,7 +15,7 @@ use borrow.Author.Tests.{eq-eqb, ne-eqb}
 use Rattle.laws.specs.Bounded.{sumBelow, tab}
 use Rattle.laws.proofs.Bounded.{length-tab}
 use Rattle.job.specs.Job.{Job}
-use Rattle.joblines.specs.declared.head.Head.{Head}
+use Rattle.jobhead.specs.declared.head.Head.{Head}
 use Rattle.lines.specs.declared.line.Collected.{Collected}
 use Rattle.lines.specs.Line.{lineLength, at}
 use Rattle.lines.specs.Lines.{Kind, Lines, lines, refused, linesOf}
@@ -23,10 +23,10 @@ use Rattle.jobfile.specs.File.{ruleLine, nodeLine, edgeLine, ruleOf, nodeOf, ed
 use Rattle.buffer.specs.Layout.{startsPart, pairPart, rulePart, marksPart}
 use Rattle.buffer.specs.Views.{nodeIn, cellIn}
 use Rattle.buffer.specs.Kept.{SameOutside}
-use Rattle.joblines.specs.Stored.{jobIn}
+use Rattle.jobhead.specs.Stored.{jobIn}
 use Rattle.lines.specs.Places.{numbersAt, refusalIn, LinesRead}
-use Rattle.joblines.specs.Reading.{SameRest, JobRead}
-use Rattle.joblines.specs.ReadLines.{refusedHead, RulesRead, NodesRead, EdgesRead}
+use Rattle.jobhead.specs.Reading.{SameRest, JobRead}
+use Rattle.jobhead.specs.ReadLines.{refusedHead, RulesRead, NodesRead, EdgesRead}
 use Rattle.lines.proofs.LinesLaws.{lines-all, passed-length}
 use Rattle.buffer.proofs.KeptLaws.{kept-same, kept-then, kept-fewer, outside-part, node-kept}
 use Rattle.restlines.proofs.JobLaws.{map-tab, table-same, cell-past, nodes-same, entries-test, starts-ascend, edges-same}

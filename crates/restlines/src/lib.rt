@@ -6,10 +6,10 @@ ghost use lib.ListN.{length, drop};
 ghost use Rattle.lines.specs.Line.{lineLength};
 ghost use Rattle.jobfile.specs.File.{readRest};
 ghost use Rattle.buffer.specs.Layout.{Lent};
-ghost use Rattle.joblines.specs.Reading.{JobRead};
+ghost use Rattle.jobhead.specs.Reading.{JobRead};
 use edgelines::edge_lines;
-use joblines::head::Head;
-use joblines::head::turned_back;
+use jobhead::head::Head;
+use jobhead::head::turned_back;
 use nodelines::node_lines;
 use rulelines::rule_lines;
 

@@ -7,9 +7,9 @@ ghost use Rattle.buffer.specs.Views.{pairRowIn};
 ghost use Rattle.tables.specs.Tables.{PairsJoined};
 use buffer::MARKS;
 use buffer::PAIRS;
+use loads::read16;
 use sets::insert;
 use stores::write16;
-use words::read16;
 
 // Row p of the pairs of node n.
 pub fn pair_row(work: &[u8], n: usize, p: usize) -> u16

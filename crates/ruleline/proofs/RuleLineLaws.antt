@@ -17,10 +17,10 @@ use Rattle.lines.specs.declared.line.Row.{Row}
 use Rattle.lines.specs.Line.{lineOf, rowOf, at}
 use Rattle.jobfile.specs.File.{goodRule, ruleLine}
 use Rattle.buffer.specs.Layout.{rulePart}
-use Rattle.joblines.specs.Stored.{RowStored}
+use Rattle.jobhead.specs.Stored.{RowStored}
 use Rattle.framing.specs.Framing.{collected}
 use Rattle.lines.specs.Places.{numbersOf}
-use Rattle.joblines.specs.ReadLines.{RuleRead}
+use Rattle.jobhead.specs.ReadLines.{RuleRead}
 use Rattle.jobfile.specs.Refusal.{RuleWithin}
 use Rattle.jobfile.proofs.WithinLaws.{rule-says}
 use Rattle.lines.proofs.LinesLaws.{row-stops, row-passes, row-fails, row-number, row-long, due-length}

@@ -2,12 +2,12 @@
 ghost use Prim.Native.Nat.{_<_, _≤_};
 ghost use lib.ListN.{length, drop};
 ghost use Rattle.buffer.specs.Layout.{Lent};
-ghost use Rattle.joblines.specs.ReadLines.{RuleRead};
+ghost use Rattle.jobhead.specs.ReadLines.{RuleRead};
 use duelines::due_line;
 use framing::refused;
 use lines::line::Collected;
-use rulerows::are_below;
-use rulerows::store_row;
+use rulestore::are_below;
+use rulestore::store_row;
 
 // Reads the R line at `at` as that of state q: 3, 4 or 6, or its final mark, and the row is stored.
 pub fn rule_line(

@@ -20,10 +20,10 @@ use Rattle.jobfile.specs.File.{ruleLine, finalsOf}
 use Rattle.buffer.specs.Layout.{rulePart, marksPart}
 use Rattle.buffer.specs.Views.{cellIn}
 use Rattle.buffer.specs.Kept.{SameOutside}
-use Rattle.joblines.specs.Stored.{RuleCleared}
+use Rattle.jobhead.specs.Stored.{RuleCleared}
 use Rattle.framing.specs.Framing.{collected}
 use Rattle.lines.specs.Places.{numbersOf, numbersAt, statusAt}
-use Rattle.joblines.specs.ReadLines.{RuleRead, RulesRead}
+use Rattle.jobhead.specs.ReadLines.{RuleRead, RulesRead}
 use Rattle.lines.proofs.LinesLaws.{passed-more, read-all, read-stop, status-here, numbers-here}
 use Rattle.buffer.proofs.KeptLaws.{kept-none, kept-both}
 

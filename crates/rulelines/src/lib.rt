@@ -2,11 +2,11 @@
 ghost use Prim.Native.Nat.{_≤_};
 ghost use lib.ListN.{length, drop};
 ghost use Rattle.buffer.specs.Layout.{Lent};
-ghost use Rattle.joblines.specs.ReadLines.{RulesRead};
+ghost use Rattle.jobhead.specs.ReadLines.{RulesRead};
 use framing::refused;
 use lines::line::Collected;
 use ruleline::rule_line;
-use rulerows::clear_rule;
+use rulestore::clear_rule;
 
 // Reads the R lines from `at` on: 3, 4 or 6, or the set of final states, and the rule is stored.
 pub fn rule_lines(file: &[u8], at: usize, work: &mut [u8], states: u64, symbols: usize) -> Collected

@@ -4,8 +4,8 @@ ghost use lib.ListN.{length};
 ghost use Rattle.buffer.specs.Layout.{Lent};
 ghost use Rattle.tables.specs.Held.{EdgesWithin};
 ghost use Rattle.successors.specs.Joined.{RowsJoined, JoinedPast};
-use places::start_at;
-use places::target_at;
+use graphreads::start_at;
+use graphreads::target_at;
 use rows::join_pairs;
 
 // Joins sixteen rows into those of node n.

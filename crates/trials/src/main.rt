@@ -8,6 +8,7 @@ use checkcall::check_plan;
 use checking::check::Verdict;
 use counterjob::HEAD;
 use counterjob::write_counter;
+use jobreader::read::LONGEST;
 use jobs::CUT;
 use jobs::EDGE_TWICE;
 use jobs::LOOP;
@@ -20,7 +21,6 @@ use jobs::WRITE_TWICE;
 use libc::STDOUT_FILENO;
 use listcall::ROOM;
 use listprint::print_job;
-use reader::read::LONGEST;
 ghost use Prim.Native.Nat.{_≤_};
 
 // Writes to standard output, or says why it cannot.

@@ -1,9 +1,9 @@
 // Tries: a node goes where the plan without it is faithful.
 ghost use Prim.Native.Nat.{_<_, _≤_};
 ghost use Rattle.tables.specs.Held.{Usable};
-ghost use Rattle.planning.specs.Passes.{TriedAt, FirstGone, LastGone};
+ghost use Rattle.passes.specs.Passes.{TriedAt, FirstGone, LastGone};
 use buffer::PLAN;
-use places::is_enabled;
+use graphreads::is_enabled;
 use search::search::is_faithful;
 
 // Tries node n: 1 where it goes, 0 where it stays or is not enabled.

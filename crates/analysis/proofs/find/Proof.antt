@@ -2,7 +2,7 @@
 -- Assumes nothing.
 use borrow.Author.Needs.{needs}
 use Rattle.classes.proofs.AfterLaws.{after-usable}
-use Rattle.findings.proofs.FoundLaws.{before-usable, plan-usable, all-found}
+use Rattle.found.proofs.FoundLaws.{before-usable, plan-usable, all-found}
 use Rattle.analysis.proofs.find.Statement.{statement}
 use Rattle.analysis.proofs.find.Tie as tie
 

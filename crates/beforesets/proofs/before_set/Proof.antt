@@ -1,7 +1,7 @@
 -- `beforesets::before_set` meets its contract.
 -- Assumes nothing.
 use borrow.Author.Needs.{needs}
-use Rattle.findings.specs.Findings.{beforeIn}
+use Rattle.found.specs.Findings.{beforeIn}
 use Rattle.beforesets.proofs.before_set.Statement.{statement}
 use Rattle.beforesets.proofs.before_set.Tie as tie
 

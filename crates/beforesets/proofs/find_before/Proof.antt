@@ -1,7 +1,7 @@
 -- `beforesets::find_before` meets its contract: all points watched, so the search leaves at each point the states that arrive.
 -- Assumes nothing.
 use borrow.Author.Needs.{needs}
-use Rattle.findings.proofs.FoundLaws.{all-usable, before-searched}
+use Rattle.found.proofs.FoundLaws.{all-usable, before-searched}
 use Rattle.beforesets.proofs.find_before.Statement.{statement}
 use Rattle.beforesets.proofs.find_before.Tie as tie
 

@@ -5,7 +5,7 @@
 use Prim.Native.Nat.{_-_, _≤_}
 use native.Mathlib.Omega.{arith}
 use borrow.Author.Needs.{needs}
-use Rattle.findings.proofs.FoundLaws.{StoredSoFar, stored-start, stored-more, stored-end}
+use Rattle.found.proofs.FoundLaws.{StoredSoFar, stored-start, stored-more, stored-end}
 use Rattle.beforesets.proofs.store_before.Statement.{statement}
 use Rattle.beforesets.proofs.store_before.Tie as tie
 

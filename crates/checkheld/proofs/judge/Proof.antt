@@ -4,7 +4,7 @@ use mathlib.Core.Path.{sym, _∙_}
 use mathlib.Core.Bool.{true, false}
 use borrow.Author.Needs.{needs}
 use borrow.Author.Tests.{not-true, not-false}
-use Rattle.reader.specs.Rule.{ruleIn}
+use Rattle.jobreader.specs.Rule.{ruleIn}
 use Rattle.tables.proofs.JobKeptLaws.{table-usable}
 use Rattle.classes.proofs.AfterLaws.{after-usable}
 use Rattle.checking.proofs.CheckLaws.{other-length, other-marks, stored-usable, search-judged}

@@ -4,7 +4,7 @@ use mathlib.Core.Path.{_≡_, refl, sym, subst}
 use mathlib.Core.List.{List}
 use Prim.Native.Nat.{ℕ}
 use borrow.Author.Needs.{needs}
-use Rattle.joblines.specs.declared.head.Head.{Head}
+use Rattle.jobhead.specs.declared.head.Head.{Head}
 use Rattle.jobfile.specs.File.{Answer}
 use Rattle.admission.specs.Admitted.{Admitted}
 use Rattle.admission.proofs.AdmissionLaws.{admit-long, admit-short-work, admit-short-other, admit-refused, admit-accepted}

@@ -5,7 +5,7 @@
 use Prim.Native.Nat.{_-_, _≤_}
 use native.Mathlib.Omega.{arith}
 use borrow.Author.Needs.{needs}
-use Rattle.planning.proofs.EnabledLaws.{mark-small, EnabledSoFar, enabled-start, enabled-more, enabled-end}
+use Rattle.passes.proofs.EnabledLaws.{mark-small, EnabledSoFar, enabled-start, enabled-more, enabled-end}
 use Rattle.enabling.proofs.enable_all.Statement.{statement}
 use Rattle.enabling.proofs.enable_all.Tie as tie
 

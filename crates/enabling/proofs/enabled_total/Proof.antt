@@ -6,8 +6,8 @@ use mathlib.Core.Path.{_≡_}
 use mathlib.Core.Logic.{inl, inr, ⊎-elim}
 use Prim.Native.Nat.{_-_, _≤_}
 use native.Mathlib.Omega.{arith}
-use Rattle.planning.specs.Passes.{enabledTotal}
-use Rattle.planning.proofs.EnabledLaws.{total-none, total-more, total-end}
+use Rattle.passes.specs.Passes.{enabledTotal}
+use Rattle.passes.proofs.EnabledLaws.{total-none, total-more, total-end}
 use Rattle.enabling.proofs.enabled_total.Statement.{statement}
 use Rattle.enabling.proofs.enabled_total.Tie as tie
 

@@ -3,7 +3,7 @@
 use mathlib.Core.Path.{sym, _∙_}
 use borrow.Author.Needs.{needs}
 use Rattle.buffer.specs.Views.{nodeIn}
-use Rattle.planning.proofs.EnabledLaws.{shadow-byte-one, shadow-byte-zero}
+use Rattle.passes.proofs.EnabledLaws.{shadow-byte-one, shadow-byte-zero}
 use Rattle.enabling.proofs.first_mark.Statement.{statement}
 use Rattle.enabling.proofs.first_mark.Tie as tie
 

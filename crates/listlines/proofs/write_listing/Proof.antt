@@ -1,7 +1,7 @@
 -- `listlines::write_listing` meets its contract: the W lines, and the T line after them.
 -- Assumes nothing.
 use borrow.Author.Needs.{needs}
-use Rattle.printing.proofs.TextLaws.{lines-written}
+use Rattle.listingtext.proofs.TextLaws.{lines-written}
 use Rattle.listlines.proofs.write_listing.Statement.{statement}
 use Rattle.listlines.proofs.write_listing.Tie as tie
 

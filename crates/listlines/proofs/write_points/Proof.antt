@@ -5,7 +5,7 @@
 use Prim.Native.Nat.{_-_}
 use native.Mathlib.Omega.{arith}
 use borrow.Author.Needs.{needs}
-use Rattle.printing.proofs.TextLaws.{LinesStored, stored-start, stored-more, stored-end}
+use Rattle.listingtext.proofs.TextLaws.{LinesStored, stored-start, stored-more, stored-end}
 use Rattle.listlines.proofs.write_points.Statement.{statement}
 use Rattle.listlines.proofs.write_points.Tie as tie
 

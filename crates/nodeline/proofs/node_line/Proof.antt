@@ -7,7 +7,7 @@ use lib.Dec.{lit<}
 use lib.ListN.{drop, length-drop}
 use Rattle.lines.proofs.LineLaws.{frame-length}
 use Rattle.nodeline.proofs.NodeLineLaws.{node-stop, node-malformed, node-fails, node-passes}
-use Rattle.nodes.proofs.NodeLaws.{node-sizes}
+use Rattle.nodestore.proofs.NodeLaws.{node-sizes}
 use Rattle.nodeline.proofs.node_line.Statement.{statement}
 use Rattle.nodeline.proofs.node_line.Tie as tie
 

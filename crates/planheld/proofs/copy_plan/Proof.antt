@@ -7,7 +7,7 @@ use native.Mathlib.Omega.{arith}
 use lib.ListN.{length}
 use lib.Seq.{sets}
 use borrow.Author.Needs.{needs}
-use Rattle.planning.specs.Passes.{planIn}
+use Rattle.passes.specs.Passes.{planIn}
 use Rattle.planheld.proofs.HeldLaws.{copied-none, copied-more}
 use Rattle.planheld.proofs.copy_plan.Statement.{statement}
 use Rattle.planheld.proofs.copy_plan.Tie as tie

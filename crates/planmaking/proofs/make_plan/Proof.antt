@@ -1,8 +1,8 @@
 -- `planmaking::make_plan` meets its contract: all points watched, then passes, then the count of those left.
 -- Assumes nothing.
 use borrow.Author.Needs.{needs}
-use Rattle.planning.proofs.PlanInLaws.{planning-plan, usable-kept}
-use Rattle.planning.proofs.EnabledLaws.{plan-made}
+use Rattle.passes.proofs.PlanInLaws.{planning-plan, usable-kept}
+use Rattle.passes.proofs.EnabledLaws.{plan-made}
 use Rattle.planmaking.proofs.make_plan.Statement.{statement}
 use Rattle.planmaking.proofs.make_plan.Tie as tie
 

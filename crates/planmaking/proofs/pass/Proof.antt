@@ -2,8 +2,8 @@
 -- Assumes nothing.
 use native.Mathlib.Omega.{arith}
 use borrow.Author.Needs.{needs}
-use Rattle.planning.proofs.PlanInLaws.{usable-kept}
-use Rattle.planning.proofs.PassMadeLaws.{pass-none, pass-some}
+use Rattle.passes.proofs.PlanInLaws.{usable-kept}
+use Rattle.passes.proofs.PassMadeLaws.{pass-none, pass-some}
 use Rattle.planmaking.proofs.pass.Statement.{statement}
 use Rattle.planmaking.proofs.pass.Tie as tie
 

@@ -4,9 +4,9 @@
 -- Assumes nothing.
 use native.Mathlib.Omega.{arith}
 use Rattle.job.specs.Planning.{enabledCount}
-use Rattle.planning.specs.Passes.{planIn}
-use Rattle.planning.proofs.PlanInLaws.{usable-kept}
-use Rattle.planning.proofs.PassMadeLaws.{count-bounded, Passing, passing-start, passing-more, passesLeft, passes-left-falls, passing-end}
+use Rattle.passes.specs.Passes.{planIn}
+use Rattle.passes.proofs.PlanInLaws.{usable-kept}
+use Rattle.passes.proofs.PassMadeLaws.{count-bounded, Passing, passing-start, passing-more, passesLeft, passes-left-falls, passing-end}
 use Rattle.planmaking.proofs.passes.Statement.{statement}
 use Rattle.planmaking.proofs.passes.Tie as tie
 

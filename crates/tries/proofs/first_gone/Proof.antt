@@ -5,8 +5,8 @@
 use mathlib.Core.Path.{_∙_}
 use Prim.Native.Nat.{_-_, _≤_}
 use native.Mathlib.Omega.{arith}
-use Rattle.planning.proofs.PlanInLaws.{usable-kept}
-use Rattle.planning.proofs.GoneLaws.{NoneGone, none-gone-start, none-gone-more, first-gone-here, first-gone-none}
+use Rattle.passes.proofs.PlanInLaws.{usable-kept}
+use Rattle.passes.proofs.GoneLaws.{NoneGone, none-gone-start, none-gone-more, first-gone-here, first-gone-none}
 use Rattle.tries.proofs.first_gone.Statement.{statement}
 use Rattle.tries.proofs.first_gone.Tie as tie
 

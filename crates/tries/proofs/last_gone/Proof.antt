@@ -5,8 +5,8 @@
 use Prim.Native.Nat.{_-_, _≤_}
 use native.Mathlib.Omega.{arith}
 use borrow.Author.Needs.{needs}
-use Rattle.planning.proofs.PlanInLaws.{usable-kept}
-use Rattle.planning.proofs.GoneLaws.{LastSoFar, last-so-far-start, last-adds, last-so-far-more, last-so-far-end}
+use Rattle.passes.proofs.PlanInLaws.{usable-kept}
+use Rattle.passes.proofs.GoneLaws.{LastSoFar, last-so-far-start, last-adds, last-so-far-more, last-so-far-end}
 use Rattle.tries.proofs.last_gone.Statement.{statement}
 use Rattle.tries.proofs.last_gone.Tie as tie
 

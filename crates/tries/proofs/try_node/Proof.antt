@@ -7,7 +7,7 @@ use lib.ListN.{length-set}
 use borrow.Author.Tests.{not-true, not-false}
 use borrow.Author.Needs.{needs}
 use Rattle.buffer.specs.Layout.{planPart}
-use Rattle.planning.proofs.TryLaws.{cleared-usable, try-disabled, try-removed, try-needed}
+use Rattle.passes.proofs.TryLaws.{cleared-usable, try-disabled, try-removed, try-needed}
 use Rattle.tries.proofs.try_node.Statement.{statement}
 use Rattle.tries.proofs.try_node.Tie as tie
 

@@ -7,7 +7,7 @@ use lib.Dec.{ltb}
 use lib.ListN.{length}
 use borrow.Author.Needs.{needs}
 use Rattle.buffer.specs.Layout.{workSize}
-use Rattle.listings.specs.ListCall.{listingSize, listNumber}
+use Rattle.listoutcome.specs.ListCall.{listingSize, listNumber}
 use Rattle.dapohiru.proofs.FitsLaws.{listed-fits}
 use Rattle.dapohiru.proofs.list.dapohiru_list.Statement.{statement}
 use Rattle.dapohiru.proofs.list.dapohiru_list.Tie as tie

@@ -7,7 +7,7 @@ use lib.Dec.{ltb}
 use lib.ListN.{length}
 use borrow.Author.Needs.{needs}
 use Rattle.buffer.specs.Layout.{workSize}
-use Rattle.plans.specs.PlanCall.{planSize, planNumber}
+use Rattle.planoutcome.specs.PlanCall.{planSize, planNumber}
 use Rattle.dapohiru.proofs.FitsLaws.{outcome-fits}
 use Rattle.dapohiru.proofs.plan.dapohiru_plan.Statement.{statement}
 use Rattle.dapohiru.proofs.plan.dapohiru_plan.Tie as tie

@@ -1,0 +1,48 @@
+-- The table of the buffer is the rule of the job that it holds, on every cell that has a meaning.
+-- Assumes nothing.
+use mathlib.Core.Path.{_≡_, refl, sym, ap, _∙_}
+use mathlib.Core.List.{List, []}
+use Prim.Native.Nat.{ℕ, _+_, _*_, _<_}
+use native.Mathlib.Nat.{add-assoc}
+use native.Mathlib.Omega.{arith}
+use lib.ListN.{getD, take, drop}
+use lib.Seq.{getD-take, getD-drop}
+use Rattle.laws.specs.Bounded.{tab}
+use Rattle.laws.proofs.Bounded.{getD-tab}
+use Rattle.automaton.specs.Automaton.{cell}
+use Rattle.automaton.specs.Table.{rowOf, tableOf}
+use Rattle.buffer.specs.Layout.{rulePart}
+use Rattle.buffer.specs.Views.{cellIn, tableIn}
+use Rattle.jobreader.specs.Rule.{ruleIn, HandsOverRule}
+
+-- a cell of a table of bytes
+table-cell : (l : List ℕ) (q a : ℕ) → q < 16 → a < 16 → cell (tableOf l) q a ≡ getD l (q * 16 + a) 0
+unfolding cell tableOf rowOf
+table-cell l q a h k =
+    ap (λ (r : List ℕ). getD r a 0) (getD-tab 16 (λ (p : ℕ). rowOf l (p * 16)) q [] h)
+    ∙ getD-tab 16 (λ (c : ℕ). getD l (q * 16 + c) 0) a 0 k
+
+-- a cell of the buffer's table
+pub rule-cell : (work : List ℕ) (q a : ℕ) → q < 16 → a < 16 → cell (ruleIn work) q a ≡ cellIn work q a
+unfolding ruleIn cellIn
+rule-cell work q a h k =
+    table-cell (take 256 (drop rulePart work)) q a h k
+    ∙ getD-take 256 (drop rulePart work) (q * 16 + a) 0 (omega arith)
+    ∙ getD-drop rulePart work (q * 16 + a) 0
+    ∙ ap (λ (i : ℕ). getD work i 0) (sym (add-assoc rulePart (q * 16) a))
+
+-- a cell of the job's table
+job-cell : (work : List ℕ) (s a q c : ℕ) → q < s → c < a → cell (tableIn work s a) q c ≡ cellIn work q c
+unfolding cell tableIn
+job-cell work s a q c h k =
+    ap (λ (r : List ℕ). getD r c 0) (getD-tab s (λ (p : ℕ). tab a (cellIn work p)) q [] h) ∙ getD-tab a (cellIn work q) c 0 k
+
+-- the table handed over is the job's rule but for cells past S or A
+pub rule-held : HandsOverRule
+rule-held work h few less =
+    record {
+      states = refl;
+      symbols = refl;
+      finals = refl;
+      cells = λ q a k m. job-cell work (h .states) (h .symbols) q a k m ∙ sym (rule-cell work q a (omega arith) (omega arith));
+    }

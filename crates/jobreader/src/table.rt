@@ -1,0 +1,16 @@
+// The rule's table out of the work buffer.
+ghost use mathlib.Core.Path.{_≡_};
+ghost use Prim.Native.Nat.{_≤_};
+ghost use lib.ListN.{length};
+ghost use Rattle.buffer.specs.Layout.{Lent};
+ghost use Rattle.jobreader.specs.Rule.{ruleIn};
+use buffer::MARKS;
+use buffer::RULE;
+
+// The sixteen rows of sixteen next states that the buffer holds.
+pub fn table_in(work: &[u8]) -> [[u8; 16]; 16]
+    requires { ⌜ Lent (now work) ⌝ }
+    ensures { λ r. ⌜ r ≡ ruleIn (now (work .entry)) ⌝ }
+{
+    ruletable::table_of(&work[RULE..MARKS])
+}

@@ -1,0 +1,216 @@
+-- Laws of P lines and of nodes in the buffer, in the shape of the code.
+-- Assumes nothing.
+use mathlib.Core.Path.{_≡_, refl, sym, _∙_}
+use mathlib.Core.Bool.{Bool, true, false, _||_, true≢false}
+use mathlib.Core.Logic.{_⊎_, inl, inr}
+use mathlib.Core.List.{List, [], _∷_}
+use Prim.Native.Nat.{ℕ, zero, suc, _+_, _*_, _/_, _^_, _≤_, _<_}
+use native.Mathlib.Nat.{ne-of-lt, lt-of-lt-of-le}
+use native.Mathlib.Omega.{arith}
+use lib.Dec.{eqb, ltb}
+use lib.Pow.{pow-mono}
+use lib.ListN.{length, getD, set, length-set}
+use lib.Seq.{getD-set-same, getD-set-other}
+use borrow.Author.Tests.{eq-eqb, ne-eqb, eqb-true, le-leb, lt-ltb, ltb-true}
+use Rattle.laws.specs.Bytes.{numberAt, putNumber}
+use Rattle.laws.proofs.Bytes.{number-cong, number-put, number-put-other, length-put, getD-put-outside}
+use Rattle.laws.proofs.Bits.{shr-zero-says, below-says}
+use Rattle.laws.proofs.Tests.{fails-of, test-ext}
+use Rattle.jobfile.specs.File.{goodValue, goodNode, nodeOf}
+use Rattle.buffer.specs.Layout.{Lent}
+use Rattle.buffer.specs.Views.{nodeIn}
+use Rattle.jobhead.specs.Stored.{NodeStored}
+use Rattle.jobfile.specs.Refusal.{NodeWithin}
+use Rattle.jobfile.proofs.WithinLaws.{value-says, node-says}
+
+-- ---- the tests of a P line
+
+-- a shift that leaves nothing
+pub shr-test : (v a : ℕ) → eqb (v / 2 ^ a) 0 ≡ ltb v (2 ^ a)
+shr-test v a =
+    test-ext (eqb (v / 2 ^ a) 0) (ltb v (2 ^ a))
+    (λ h. lt-ltb v (2 ^ a) (shr-zero-says a v .0 (eqb-true (v / 2 ^ a) 0 h)))
+    (λ h. eq-eqb (v / 2 ^ a) 0 (shr-zero-says a v .1 (ltb-true v (2 ^ a) h)))
+
+-- a kind above 2
+pub value-none : (a k v : ℕ) → (k ≡ 0 → ⊥) → (k ≡ 1 → ⊥) → (k ≡ 2 → ⊥) → goodValue a k v ≡ false
+value-none a zero v p q r = absurd (p refl)
+value-none a (suc zero) v p q r = absurd (q refl)
+value-none a (suc (suc zero)) v p q r = absurd (r refl)
+value-none a (suc (suc (suc k))) v p q r = refl
+
+module _ (s a place node kind value entries exits after : ℕ) where
+  -- the line's numbers
+  abbrev ns : List ℕ
+  ns = node ∷ kind ∷ value ∷ entries ∷ exits ∷ after ∷ []
+
+  -- the test of the code's numbers
+  abbrev pub Test : Bool
+  Test = goodNode s a place [] ns
+
+  -- a test that would pass against what the line has
+  denied : (NodeWithin s a place ns → ⊥) → false ≡ Test
+  denied h = sym (fails-of Test (λ t. h (node-says s a place [] ns .0 t)))
+
+  -- a node out of order
+  pub node-place : (node ≡ place → ⊥) → false ≡ Test
+  node-place h = denied (λ w. h (w .node))
+
+  -- a value that its kind has not
+  pub node-value : goodValue a kind value ≡ false → false ≡ Test
+  node-value h =
+      denied (λ w. true≢false (sym (value-says a kind value .1 (w .kind, w .plain-value, w .symbol, w .call-set)) ∙ h))
+
+  -- an entry set with a state of S or more
+  pub node-entries : (entries / 2 ^ s ≡ 0 → ⊥) → false ≡ Test
+  node-entries h = denied (λ w. h (shr-zero-says s entries .1 (below-says s entries .1 (w .entry-set))))
+
+  -- an exit mark above 1
+  pub node-exits : 1 < exits → false ≡ Test
+  node-exits h = denied (λ w. absurd (omega (arith, w .exit-mark)))
+
+  -- an after set with a symbol of A or more
+  pub node-after : (after / 2 ^ a ≡ 0 → ⊥) → false ≡ Test
+  node-after h = denied (λ w. h (shr-zero-says a after .1 (below-says a after .1 (w .after-set))))
+
+  module _ (p1 : node ≡ place) (p2 : goodValue a kind value ≡ true) (p3 : entries / 2 ^ s ≡ 0) (p4 : exits ≤ 1) (p5 : after / 2 ^ a ≡ 0) where
+    -- the first five tests pass
+    node-last : Test ≡ (eqb exits 1 || eqb after 0)
+    node-last =
+        rw (
+          eq-eqb node place p1,
+          p2,
+          lt-ltb entries (2 ^ s) (shr-zero-says s entries .0 p3),
+          le-leb exits 1 p4,
+          lt-ltb after (2 ^ a) (shr-zero-says a after .0 p5),
+        )
+
+    -- an exit
+    pub node-exit : exits ≡ 1 → true ≡ Test
+    node-exit e = sym (node-last ∙ rw (eq-eqb exits 1 e))
+
+    -- no exit, and so no after set
+    pub node-inner : (exits ≡ 1 → ⊥) → eqb after 0 ≡ Test
+    node-inner e = sym (node-last ∙ rw (ne-eqb exits 1 e))
+
+-- ---- what a P line that passes has
+
+-- two to a number of at most 16
+pub pow-small : (n : ℕ) → n ≤ 16 → 2 ^ n ≤ 65536
+pow-small n h = pow-mono h
+
+-- a value that passes has two bytes
+value-small : (a k v : ℕ) → a ≤ 16 → goodValue a k v ≡ true → v < 65536
+value-small a zero v h g = omega (arith, eqb-true v 0 g)
+value-small a (suc zero) v h g = omega (arith, ltb-true v a g)
+value-small a (suc (suc zero)) v h g = lt-of-lt-of-le (ltb-true v (2 ^ a) g) (pow-small a h)
+value-small a (suc (suc (suc k))) v h g = absurd (true≢false (sym g))
+
+-- the sizes of the numbers of a node
+pub record NodeSizes (kind value entries exits after : ℕ) : Type 0 where
+  pub kind-small : kind < 256
+  pub value-fits : value < 65536
+  pub entries-fit : entries < 65536
+  pub exits-small : exits < 256
+  pub after-fits : after < 65536
+
+-- a line that passes has them
+pub node-sizes
+    : (s a place node kind value entries exits after : ℕ) (t : Bool) → s ≤ 16 → a ≤ 16
+    → t ≡ Test s a place node kind value entries exits after → t ≡ true → NodeSizes kind value entries exits after
+node-sizes s a place node kind value entries exits after t hs ha g v =
+    let w = node-says s a place [] (node ∷ kind ∷ value ∷ entries ∷ exits ∷ after ∷ []) .0 (sym g ∙ v) in
+    record {
+      kind-small = omega (arith, w .kind);
+      value-fits = value-small a kind value ha (value-says a kind value .1 (w .kind, w .plain-value, w .symbol, w .call-set));
+      entries-fit = lt-of-lt-of-le (below-says s entries .1 (w .entry-set)) (pow-small s hs);
+      exits-small = omega (arith, w .exit-mark);
+      after-fits = lt-of-lt-of-le (below-says a after .1 (w .after-set)) (pow-small a ha);
+    }
+
+-- ---- a node in the buffer
+
+-- a byte stored past a number
+number-set : (l : List ℕ) (i v j : ℕ) → j + 2 ≤ i → numberAt 2 (set l i v) j ≡ numberAt 2 l j
+number-set l i v j h = number-cong 2 (set l i v) l j j (λ k p. getD-set-other l i (j + k) v 0 (ne-of-lt (omega arith)))
+
+module _ (l : List ℕ) (n kind value entries exits after : ℕ) (h : n < 512) (long : Lent l)
+    (z : NodeSizes kind value entries exits after) where
+  abbrev w1 : List ℕ
+  w1 = putNumber 2 l (n * 8) value
+
+  abbrev w2 : List ℕ
+  w2 = putNumber 2 w1 (n * 8 + 2) entries
+
+  abbrev w3 : List ℕ
+  w3 = putNumber 2 w2 (n * 8 + 4) after
+
+  abbrev w4 : List ℕ
+  w4 = set w3 (n * 8 + 6) kind
+
+  long1 : length w1 ≡ length l
+  long1 = length-put 2 l (n * 8) value
+
+  long2 : length w2 ≡ length l
+  long2 = length-put 2 w1 (n * 8 + 2) entries ∙ long1
+
+  long3 : length w3 ≡ length l
+  long3 = length-put 2 w2 (n * 8 + 4) after ∙ long2
+
+  long4 : length w4 ≡ length l
+  long4 = length-set w3 (n * 8 + 6) kind ∙ long3
+
+  value-is : numberAt 2 (set w4 (n * 8 + 7) exits) (n * 8) ≡ value
+  value-is =
+      number-set w4 (n * 8 + 7) exits (n * 8) (omega arith) ∙ number-set w3 (n * 8 + 6) kind (n * 8) (omega arith)
+      ∙ number-put-other 2 2 w2 (n * 8 + 4) (n * 8) after (inl (omega arith))
+      ∙ number-put-other 2 2 w1 (n * 8 + 2) (n * 8) entries (inl (omega arith))
+      ∙ number-put 2 l (n * 8) value (z .value-fits) (omega arith)
+
+  entries-are : numberAt 2 (set w4 (n * 8 + 7) exits) (n * 8 + 2) ≡ entries
+  entries-are =
+      number-set w4 (n * 8 + 7) exits (n * 8 + 2) (omega arith) ∙ number-set w3 (n * 8 + 6) kind (n * 8 + 2) (omega arith)
+      ∙ number-put-other 2 2 w2 (n * 8 + 4) (n * 8 + 2) after (inl (omega arith))
+      ∙ number-put 2 w1 (n * 8 + 2) entries (z .entries-fit) (omega (arith, long1))
+
+  after-is : numberAt 2 (set w4 (n * 8 + 7) exits) (n * 8 + 4) ≡ after
+  after-is =
+      number-set w4 (n * 8 + 7) exits (n * 8 + 4) (omega arith) ∙ number-set w3 (n * 8 + 6) kind (n * 8 + 4) (omega arith)
+      ∙ number-put 2 w2 (n * 8 + 4) after (z .after-fits) (omega (arith, long2))
+
+  kind-is : getD (set w4 (n * 8 + 7) exits) (n * 8 + 6) 0 ≡ kind
+  kind-is =
+      getD-set-other w4 (n * 8 + 7) (n * 8 + 6) exits 0 (ne-of-lt (omega arith))
+      ∙ getD-set-same w3 (n * 8 + 6) kind 0 (omega (arith, long3))
+
+  exits-are : getD (set w4 (n * 8 + 7) exits) (n * 8 + 7) 0 ≡ exits
+  exits-are = getD-set-same w4 (n * 8 + 7) exits 0 (omega (arith, long4))
+
+  other-byte : (k : ℕ) → (k < n * 8) ⊎ (n * 8 + 8 ≤ k) → getD (set w4 (n * 8 + 7) exits) k 0 ≡ getD l k 0
+  other-byte k p =
+      getD-set-other w4 (n * 8 + 7) k exits 0 (not-at (n * 8 + 7) (omega arith) (omega arith) p)
+      ∙ getD-set-other w3 (n * 8 + 6) k kind 0 (not-at (n * 8 + 6) (omega arith) (omega arith) p)
+      ∙ getD-put-outside 2 w2 (n * 8 + 4) after k 0 (apart (n * 8 + 4) (omega arith) (omega arith) p)
+      ∙ getD-put-outside 2 w1 (n * 8 + 2) entries k 0 (apart (n * 8 + 2) (omega arith) (omega arith) p)
+      ∙ getD-put-outside 2 l (n * 8) value k 0 (apart (n * 8) (omega arith) (omega arith) p)
+    where
+      not-at : (i : ℕ) → n * 8 ≤ i → i < n * 8 + 8 → (k < n * 8) ⊎ (n * 8 + 8 ≤ k) → k ≡ i → ⊥
+      not-at i a b (inl q) e = absurd (omega arith)
+      not-at i a b (inr q) e = absurd (omega arith)
+
+      apart : (i : ℕ) → n * 8 ≤ i → i + 2 ≤ n * 8 + 8 → (k < n * 8) ⊎ (n * 8 + 8 ≤ k) → (k < i) ⊎ (i + 2 ≤ k)
+      apart i a b (inl q) = inl (omega arith)
+      apart i a b (inr q) = inr (omega arith)
+
+  -- the stores of a node
+  pub node-stored
+      : (v1 v2 v3 : List ℕ) → v1 ≡ putNumber 2 l (n * 8) value → v2 ≡ putNumber 2 v1 (n * 8 + 2) entries
+      → v3 ≡ putNumber 2 v2 (n * 8 + 4) after
+      → NodeStored l (set (set v3 (n * 8 + 6) kind) (n * 8 + 7) exits) n (nodeOf (n ∷ kind ∷ value ∷ entries ∷ exits ∷ after ∷ []))
+  unfolding nodeIn
+  node-stored v1 v2 v3 e1 e2 e3 =
+      rw (e3, e2, e1)
+      (record {
+        here = rw (value-is, entries-are, after-is, kind-is, exits-are);
+        kept = record { long = length-set w4 (n * 8 + 7) exits ∙ long4; outside = other-byte };
+      })

@@ -1,0 +1,26 @@
+-- `nodestore::is_value` meets its contract, by cases on the kind.
+-- Assumes nothing.
+use mathlib.Core.Path.{sym}
+use borrow.Author.Needs.{needs}
+use Rattle.nodestore.proofs.NodeLaws.{shr-test, value-none}
+use Rattle.nodestore.proofs.is_value.Statement.{statement}
+use Rattle.nodestore.proofs.is_value.Tie as tie
+
+returns : tie.Need-returns
+returns c = rw (c .if1 .taken)
+
+returns-2 : tie.Need-returns-2
+returns-2 c = rw (c .if2 .taken)
+
+shr-result : tie.Need-shr-result
+shr-result c = search needs
+
+returns-3 : tie.Need-returns-3
+returns-3 c = rw (c .if3 .taken) (shr-test (c .before .before .before .args .value) (c .before .before .before .args .symbols))
+
+returns-4 : tie.Need-returns-4
+returns-4 c = let x = c .before .before .before .args in
+    sym (value-none (x .symbols) (x .kind) (x .value) (c .before .before .if1 .left) (c .before .if2 .left) (c .if3 .left))
+
+pub is-value-spec : {M : Type 1} → statement M
+is-value-spec = tie.close (tie.spec returns returns-2 shr-result returns-3 returns-4)

@@ -1,0 +1,98 @@
+-- Laws of a try in the work buffer: in the shape of the code, what its three ends leave.
+-- Assumes nothing.
+use mathlib.Core.Path.{_≡_, refl, sym, ap, _∙_}
+use mathlib.Core.Logic.{inl, inr}
+use mathlib.Core.Bool.{Bool, true, false}
+use mathlib.Core.List.{List}
+use Prim.Native.Nat.{ℕ, _+_, _<_}
+use native.Mathlib.Omega.{arith}
+use native.Mathlib.Nat.{lt-of-lt-of-le}
+use lib.ListN.{set}
+use Rattle.job.specs.Job.{Job}
+use Rattle.job.specs.Plan.{enables}
+use Rattle.job.specs.Planning.{enabledCount}
+use Rattle.job.specs.Search.{faithful}
+use Rattle.job.proofs.PlanBytes.{set-back, count-set}
+use Rattle.job.proofs.PassLaws.{tried-disabled, tried-needed, tried-removed}
+use Rattle.buffer.specs.Layout.{planPart}
+use Rattle.buffer.specs.Views.{enabledIn}
+use Rattle.tables.specs.Held.{Usable, JobHeld, AfterHeld}
+use Rattle.search.specs.Searched.{SearchedAt}
+use Rattle.passes.specs.Passes.{planIn, PlanningKept, TriedAt}
+use Rattle.passes.proofs.PlanInLaws.{plan-in-held, plan-in-set, plan-in-enables, plan-in-same}
+use Rattle.passes.proofs.PlanInLaws.{planning-none, planning-both, planning-search, planning-plan, plan-stored}
+use Rattle.passes.proofs.PlanInLaws.{usable-kept, job-kept, after-kept}
+
+module _ {table : List (List ℕ)} {states nodes n : ℕ} {l : List ℕ} (small : n < nodes) (u : Usable l table states nodes) where
+  -- the store of a plan byte keeps the rest
+  cleared-kept : PlanningKept l (set l (planPart + n) 0)
+  cleared-kept = planning-plan (plan-stored l n 0 (lt-of-lt-of-le small (u .few-nodes)))
+
+  -- the buffer with the node disabled may be searched
+  pub cleared-usable : Usable (set l (planPart + n) 0) table states nodes
+  cleared-usable = usable-kept cleared-kept u
+
+  -- a node that is not enabled
+  pub try-disabled : {finals : ℕ} → enabledIn l n ≡ false → TriedAt table finals states nodes n l l 0
+  try-disabled w =
+      record {
+        kept = planning-none l;
+        small = omega arith;
+        exact = λ j h a. sym (tried-disabled (faithful j) n (planIn l nodes) (plan-in-enables l nodes n small ∙ w));
+        stays = λ e. refl;
+        goes = λ e. absurd (omega arith);
+      }
+
+  module _ {finals : ℕ} {m : List ℕ} {answer : Bool} (w : enabledIn l n ≡ true)
+      (s : SearchedAt table finals states nodes (set l (planPart + n) 0) m answer) where
+    -- the plan enables it
+    enabled-here : enables (planIn l nodes) n ≡ true
+    enabled-here = plan-in-enables l nodes n small ∙ w
+
+    -- the search leaves the plan without the node
+    plan-searched : planIn m nodes ≡ set (planIn l nodes) n 0
+    plan-searched =
+        plan-in-same (set l (planPart + n) 0) m nodes (s .kept .long)
+        (λ k g h. s .kept .outside k (inr (omega arith), inl (omega arith))) (cleared-usable .long) (u .few-nodes)
+        ∙ plan-in-set l nodes n 0 small
+
+    -- its answer is that of the plan without the node
+    answer-is : (j : Job) → JobHeld j l table finals states nodes → AfterHeld j l nodes → answer ≡ faithful j (set (planIn l nodes) n 0)
+    answer-is j h a =
+        s .exact j (planIn (set l (planPart + n) 0) nodes) (job-kept cleared-kept u h) (plan-in-held (set l (planPart + n) 0) nodes)
+        (after-kept cleared-kept u h a)
+        .exact
+        ∙ ap (faithful j) (plan-in-set l nodes n 0 small)
+
+    -- what the store and the search keep
+    searched-kept : PlanningKept l m
+    searched-kept = planning-both cleared-kept (planning-search (s .kept))
+
+    -- the plan without it is faithful: it goes
+    pub try-removed : answer ≡ true → TriedAt table finals states nodes n l m 1
+    try-removed t =
+        record {
+          kept = searched-kept;
+          small = omega arith;
+          exact = λ j h a.
+              plan-searched ∙ sym (tried-removed (faithful j) n (planIn l nodes) enabled-here (sym (answer-is j h a) ∙ t));
+          stays = λ e. absurd (omega arith);
+          goes = λ e. omega (arith, ap enabledCount plan-searched, count-set (planIn l nodes) n enabled-here);
+        }
+
+    -- the plan with it back
+    plan-back : planIn (set m (planPart + n) 1) nodes ≡ planIn l nodes
+    plan-back =
+        plan-in-set m nodes n 1 small ∙ ap (λ (p : List ℕ). set p n 1) plan-searched ∙ set-back (planIn l nodes) n enabled-here
+
+    -- it is not: the node stays
+    pub try-needed : answer ≡ false → TriedAt table finals states nodes n l (set m (planPart + n) 1) 0
+    try-needed t =
+        record {
+          kept = planning-both searched-kept (planning-plan (plan-stored m n 1 (lt-of-lt-of-le small (u .few-nodes))));
+          small = omega arith;
+          exact = λ j h a.
+              plan-back ∙ sym (tried-needed (faithful j) n (planIn l nodes) enabled-here (sym (answer-is j h a) ∙ t));
+          stays = λ e. plan-back;
+          goes = λ e. absurd (omega arith);
+        }
