@@ -10,10 +10,10 @@ ghost use Rattle.classes.specs.Backwards.{wordRow, WordsGrown, WordsClosed, Aft
 use classrows::class_row;
 use classrows::join_classes;
 use clearing::clear_classes;
-use graphreads::after_set;
-use moves::next_state;
-use moves::preimage_under;
-use moves::unlike_states;
+use images::next_state;
+use images::preimage_under;
+use images::unlike_states;
+use nodereads::after_set;
 use sets::lowest;
 use sets::without_lowest;
 

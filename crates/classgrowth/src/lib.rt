@@ -8,8 +8,8 @@ ghost use Rattle.classes.specs.Backwards.{ClassesFound};
 ghost use Rattle.classes.specs.Classes.{NodeGrown, ClassesGrown};
 use afterwords::word_row;
 use classrows::join_classes;
-use graphreads::call_set;
 use nextrows::successor_row;
+use nodereads::call_set;
 
 // Joins into the rows of node n what they and the rows of its successors tell apart: the number of rows that grew.
 fn class_node(

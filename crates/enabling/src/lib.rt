@@ -8,7 +8,7 @@ ghost use Rattle.buffer.specs.Views.{nodeIn};
 ghost use Rattle.passes.specs.Passes.{enabledTotal, AllEnabled};
 use buffer::PLAN;
 use graphreads::is_enabled;
-use graphreads::is_shadow;
+use nodereads::is_shadow;
 
 // The plan byte with every shadow enabled.
 fn first_mark(work: &[u8], n: usize) -> usize

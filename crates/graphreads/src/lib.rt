@@ -1,69 +1,12 @@
 // The nodes, edges and plan that the work buffer holds.
 ghost use mathlib.Core.Path.{_≡_};
-ghost use mathlib.Core.Bool.{cond};
-ghost use Prim.Native.Nat.{ℕ, _+_, _*_, _%_, _≤_, _<_};
-ghost use lib.ListN.{length, getD};
-ghost use Rattle.job.specs.Job.{point, pointOf, callSet, isEvent};
+ghost use Prim.Native.Nat.{_+_, _*_, _≤_, _<_};
 ghost use Rattle.buffer.specs.Layout.{Lent};
-ghost use Rattle.buffer.specs.Views.{nodeIn, startIn, targetIn, enabledIn};
+ghost use Rattle.buffer.specs.Views.{startIn, targetIn, enabledIn};
 use buffer::PLAN;
 use buffer::STARTS;
 use buffer::TARGETS;
 use loads::read16;
-
-// The number of the kind of node n.
-fn kind_at(work: &[u8], n: usize) -> u8
-    requires { ⌜ (Lent (now work)) × (n < 512) ⌝ }
-    ensures { λ r. ⌜ r ≡ getD (now (work .entry)) (n * 8 + 6) 0 ⌝ }
-{
-    work[n * 8 + 6]
-}
-
-// Whether node n is a shadow.
-pub fn is_shadow(work: &[u8], n: usize) -> bool
-    requires { ⌜ (Lent (now work)) × (n < 512) ⌝ }
-    ensures { λ r. ⌜ r ≡ isEvent (nodeIn (now (work .entry)) n .kind) ⌝ }
-{
-    kind_at(work, n) == 1
-}
-
-// The symbol of a shadow, as a number below 16; free at any other node.
-pub fn symbol_at(work: &[u8], n: usize) -> usize
-    requires { ⌜ (Lent (now work)) × (n < 512) ⌝ }
-    ensures { λ r. ⌜ (r < 16) × ((a : ℕ) → pointOf (nodeIn (now (work .entry)) n .kind) ≡ point a → r ≡ a % 16) ⌝ }
-{
-    (read16(work, n * 8) as usize) % 16
-}
-
-// The symbols of a call; none at any other node.
-pub fn call_set(work: &[u8], n: usize) -> u16
-    requires { ⌜ (Lent (now work)) × (n < 512) ⌝ }
-    ensures { λ r. ⌜ r ≡ callSet (nodeIn (now (work .entry)) n .kind) ⌝ }
-{
-    if kind_at(work, n) < 2 {
-        return 0;
-    }
-    read16(work, n * 8)
-}
-
-// The admitted start states of node n.
-pub fn entry_set(work: &[u8], n: usize) -> u16
-    requires { ⌜ (Lent (now work)) × (n < 512) ⌝ }
-    ensures { λ r. ⌜ r ≡ nodeIn (now (work .entry)) n .entry ⌝ }
-{
-    read16(work, n * 8 + 2)
-}
-
-// The symbols of the word after an exit; none at any other node.
-pub fn after_set(work: &[u8], n: usize) -> u16
-    requires { ⌜ (Lent (now work)) × (n < 512) ⌝ }
-    ensures { λ r. ⌜ r ≡ cond (nodeIn (now (work .entry)) n .exit) (nodeIn (now (work .entry)) n .after) 0 ⌝ }
-{
-    if work[n * 8 + 7] != 1 {
-        return 0;
-    }
-    read16(work, n * 8 + 4)
-}
 
 // The index of the first edge of node n; at the number of nodes, the number of edges.
 pub fn start_at(work: &[u8], n: usize) -> usize

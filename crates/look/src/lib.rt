@@ -5,12 +5,12 @@ ghost use Rattle.buffer.specs.Layout.{Lent};
 ghost use Rattle.tables.specs.Rows.{CellsBelow};
 ghost use Rattle.look.specs.Looking.{LookedAt};
 use classrows::class_row;
-use graphreads::call_set;
 use graphreads::is_enabled;
-use graphreads::is_shadow;
-use graphreads::symbol_at;
 use moves::Past;
 use moves::past_row;
+use nodereads::call_set;
+use nodereads::is_shadow;
+use nodereads::symbol_at;
 use rows::pair_row;
 use spread::spread;
 

@@ -7,13 +7,13 @@ ghost use Rattle.tables.specs.Rows.{CellsBelow};
 ghost use Rattle.tables.specs.Held.{EdgesWithin};
 ghost use Rattle.classes.specs.Classes.{beforeRow, NextRow};
 use classrows::class_row;
-use graphreads::is_shadow;
 use graphreads::start_at;
-use graphreads::symbol_at;
 use graphreads::target_at;
-use moves::next_state;
-use moves::preimage_under;
-use moves::unlike_states;
+use images::next_state;
+use images::preimage_under;
+use images::unlike_states;
+use nodereads::is_shadow;
+use nodereads::symbol_at;
 
 // The states told apart from p before node m.
 fn before_row(

@@ -7,7 +7,7 @@ ghost use Rattle.buffer.specs.Layout.{Lent};
 ghost use Rattle.buffer.specs.Views.{nodeIn};
 ghost use Rattle.checking.specs.Checking.{goodMark, PlanStored};
 use buffer::PLAN;
-use graphreads::is_shadow;
+use nodereads::is_shadow;
 
 // Whether node n may have the plan byte: 0, or 1 at a shadow.
 fn is_mark(work: &[u8], n: usize, mark: u8) -> bool

@@ -5,12 +5,12 @@ ghost use lib.ListN.{length};
 ghost use Rattle.buffer.specs.Layout.{Lent};
 ghost use Rattle.tables.specs.Rows.{CellsBelow};
 ghost use Rattle.listingtext.specs.Printing.{byteOf, PointWritten};
-use beforesets::before_set;
+use beforestore::before_set;
+use classreads::class_count;
 use graphreads::is_enabled;
-use graphreads::is_shadow;
-use graphreads::symbol_at;
 use listwriter::write_shadow_line;
-use points::class_count;
+use nodereads::is_shadow;
+use nodereads::symbol_at;
 use points::is_nop;
 
 // A mark as a number: 1 or 0.

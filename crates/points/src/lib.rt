@@ -1,17 +1,13 @@
 // What is found at a point: its before set, the lowest states of its classes, and its nop mark.
 ghost use mathlib.Core.Path.{_≡_};
-ghost use mathlib.Core.Bool.{cond};
 ghost use Prim.Native.Nat.{_<_, _≤_};
-ghost use lib.ListN.{length};
-ghost use Rattle.laws.specs.Bounded.{sumBelow};
 ghost use Rattle.buffer.specs.Layout.{Lent};
 ghost use Rattle.tables.specs.Rows.{CellsBelow};
-ghost use Rattle.classes.specs.Backwards.{heldStates, isLowest, lowestStates, isNop};
+ghost use Rattle.classes.specs.Backwards.{heldStates, isNop};
 use classrows::class_row;
-use moves::next_state;
+use images::next_state;
 use rows::pair_row;
 use sets::contains;
-use sets::count;
 use sets::insert;
 use sets::lowest;
 use sets::without_lowest;
@@ -30,30 +26,6 @@ pub fn held_states(work: &[u8], n: usize, states: usize) -> u16
         q += 1;
     }
     out
-}
-
-// The states of node n that are lowest in their class.
-pub fn lowest_states(work: &[u8], n: usize, states: usize) -> u16
-    requires { ⌜ (Lent (now work)) × ((n < 512) × (states ≤ 16)) ⌝ }
-    ensures { λ r. ⌜ r ≡ lowestStates (now (work .entry)) n states ⌝ }
-{
-    let mut out = 0;
-    let mut apart = 65535;
-    let mut q = 0;
-    while q < states {
-        out = out | (apart & (1 << q));
-        apart = apart & class_row(work, n, q);
-        q += 1;
-    }
-    out
-}
-
-// The number of classes past node n.
-pub fn class_count(work: &[u8], n: usize, states: usize) -> u32
-    requires { ⌜ (Lent (now work)) × ((n < 512) × (states ≤ 16)) ⌝ }
-    ensures { λ r. ⌜ r ≡ sumBelow states (λ q. cond (isLowest (now (work .entry)) n q) 1 0) ⌝ }
-{
-    count(lowest_states(work, n, states))
 }
 
 // The nop mark of a shadow: from every state of its before set the symbol leads to one that is not final and of the same class.

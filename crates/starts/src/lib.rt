@@ -5,7 +5,7 @@ ghost use Rattle.buffer.specs.Layout.{Lent};
 ghost use Rattle.starts.specs.Started.{StartedNode, Started};
 use clearing::clear_marks;
 use clearing::clear_pairs;
-use graphreads::entry_set;
+use nodereads::entry_set;
 use rows::join_pairs;
 use sets::insert;
 use sets::lowest;

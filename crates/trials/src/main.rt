@@ -5,7 +5,6 @@ mod jobs; // jobs.rt: the jobs, as files
 
 use buffer::WORK;
 use checkcall::check_plan;
-use checking::check::Verdict;
 use counterjob::HEAD;
 use counterjob::write_counter;
 use jobreader::read::LONGEST;
@@ -18,25 +17,13 @@ use jobs::SEAL_THEN_NOTHING;
 use jobs::SEAL_THEN_WRITES;
 use jobs::TURN;
 use jobs::WRITE_TWICE;
-use libc::STDOUT_FILENO;
 use listcall::ROOM;
 use listprint::print_job;
+use trialprint::print;
+use trialprint::print_job_under;
+use trialprint::print_marks;
+use trialprint::print_verdict;
 ghost use Prim.Native.Nat.{_≤_};
-
-// Writes to standard output, or says why it cannot.
-fn print(bytes: &[u8]) {
-    if !io::write_all(STDOUT_FILENO, bytes) {
-        os::fail(b"write");
-    }
-}
-
-// Prints the title, and the job or the start of it.
-fn print_job_under(title: &[u8], job: &[u8]) {
-    print(title);
-    print(b"\n");
-    print(job);
-    print(b"\n");
-}
 
 // Prints the listing of a job, or the X line of its refusal.
 fn print_listing(job: &[u8]) {
@@ -45,34 +32,6 @@ fn print_listing(job: &[u8]) {
     let length = print_job(job, &mut work, &mut out);
     print(&out[0..length]);
     print(b"\n");
-}
-
-// Prints a byte of a plan.
-fn print_mark(mark: u8) {
-    print(b" ");
-    io::print_decimal(STDOUT_FILENO, mark as u64);
-}
-
-// Prints the bytes of a plan.
-fn print_marks(plan: &[u8]) {
-    let mut n = 0;
-    while n < plan.len() {
-        print_mark(plan[n]);
-        n += 1;
-    }
-}
-
-// Prints the answer of the plan check.
-fn print_verdict(verdict: Verdict) {
-    match verdict {
-        Verdict::Faithful => print(b"faithful\n\n"),
-        Verdict::Different => print(b"different\n\n"),
-        Verdict::Refused(number) => {
-            print(b"X ");
-            io::print_decimal(STDOUT_FILENO, number);
-            print(b"\n\n");
-        }
-    }
 }
 
 // Lists a job.

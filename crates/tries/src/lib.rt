@@ -1,33 +1,8 @@
 // Tries: a node goes where the plan without it is faithful.
 ghost use Prim.Native.Nat.{_<_, _≤_};
 ghost use Rattle.tables.specs.Held.{Usable};
-ghost use Rattle.passes.specs.Passes.{TriedAt, FirstGone, LastGone};
-use buffer::PLAN;
-use graphreads::is_enabled;
-use search::search::is_faithful;
-
-// Tries node n: 1 where it goes, 0 where it stays or is not enabled.
-fn try_node(
-    work: &mut [u8],
-    table: &[[u8; 16]; 16],
-    finals: u16,
-    states: usize,
-    nodes: usize,
-    n: usize,
-) -> usize
-    requires { ⌜ (n < nodes) × Usable (now work) (now table) states nodes ⌝ }
-    ensures { λ r. ⌜ TriedAt (now (table .entry)) finals states nodes n (now (work .entry)) (now (work .exit)) r ⌝ }
-{
-    if !is_enabled(work, n) {
-        return 0;
-    }
-    work[PLAN + n] = 0;
-    if is_faithful(work, table, finals, states, nodes) {
-        return 1;
-    }
-    work[PLAN + n] = 1;
-    0
-}
+ghost use Rattle.passes.specs.Passes.{FirstGone, LastGone};
+use trynode::try_node;
 
 // Tries the nodes before `end` in turn until one goes: one past that node, or 0 where none goes.
 pub fn first_gone(

@@ -1,0 +1,30 @@
+// One try: a node goes where the plan without it is faithful.
+ghost use Prim.Native.Nat.{_<_};
+ghost use Rattle.tables.specs.Held.{Usable};
+ghost use Rattle.passes.specs.Passes.{TriedAt};
+use buffer::PLAN;
+use graphreads::is_enabled;
+use search::search::is_faithful;
+
+// Tries node n: 1 where it goes, 0 where it stays or is not enabled.
+pub fn try_node(
+    work: &mut [u8],
+    table: &[[u8; 16]; 16],
+    finals: u16,
+    states: usize,
+    nodes: usize,
+    n: usize,
+) -> usize
+    requires { ⌜ (n < nodes) × Usable (now work) (now table) states nodes ⌝ }
+    ensures { λ r. ⌜ TriedAt (now (table .entry)) finals states nodes n (now (work .entry)) (now (work .exit)) r ⌝ }
+{
+    if !is_enabled(work, n) {
+        return 0;
+    }
+    work[PLAN + n] = 0;
+    if is_faithful(work, table, finals, states, nodes) {
+        return 1;
+    }
+    work[PLAN + n] = 1;
+    0
+}
