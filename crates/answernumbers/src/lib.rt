@@ -1,24 +1,11 @@
 // The number that a C call returns for each answer of the plan check, of planning and of listing.
-use callnumber::ACCEPTED;
-use checking::check::Verdict;
-use listoutcome::list::Listed;
-use planoutcome::plan::Outcome;
 ghost use mathlib.Core.Path.{_≡_};
-ghost use Rattle.checking.specs.Checking.{verdictNumber};
 ghost use Rattle.planoutcome.specs.PlanCall.{planNumber};
 ghost use Rattle.listoutcome.specs.ListCall.{listNumber};
 ghost use Rattle.answernumbers.specs.Fits.{OutcomeFits, ListedFits};
-
-// 2^48 for faithful, 2^48 + 1 for different, or the refusal's number.
-pub fn of_verdict(verdict: Verdict) -> u64
-    ensures { λ r. ⌜ r ≡ verdictNumber verdict ⌝ }
-{
-    match verdict {
-        Verdict::Faithful => ACCEPTED,
-        Verdict::Different => ACCEPTED + 1,
-        Verdict::Refused(number) => number,
-    }
-}
+use callnumber::ACCEPTED;
+use listoutcome::list::Listed;
+use planoutcome::plan::Outcome;
 
 // 2^48 plus event nodes times 2^32, watched points times 2^16, and passes, or the refusal's number.
 pub fn of_outcome(outcome: Outcome) -> u64

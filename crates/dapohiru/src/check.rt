@@ -9,5 +9,5 @@ pub extern "C" fn dapohiru_check(job: &[u8], plan: &[u8], work: &mut [u8]) -> u6
     ensures { λ r. ⌜ (r ≡ verdictNumber (checked (now (job .entry)) (now (plan .entry)) (length (now (work .entry)))))
         × (now (work .exit) ≡ workLeft (checked (now (job .entry)) (now (plan .entry)) (length (now (work .entry)))) (now (work .entry))) ⌝ }
 {
-    answernumbers::of_verdict(checkcall::check_plan(job, plan, work))
+    verdictnumbers::of_verdict(checkcall::check_plan(job, plan, work))
 }

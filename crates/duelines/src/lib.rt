@@ -4,7 +4,7 @@ ghost use Prim.Native.Nat.{_+_, _*_, _≤_};
 ghost use lib.ListN.{length, drop};
 ghost use Rattle.lines.specs.Line.{foundIn, fieldsOf, lineOf, noRow, rowOf};
 use fields::field_in;
-use framing::framed;
+use frames::framed;
 use framing::line_at;
 use lines::field::Field;
 use lines::line::Row;

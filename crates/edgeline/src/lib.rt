@@ -6,7 +6,7 @@ ghost use lib.ListN.{length, drop};
 ghost use Rattle.jobfile.specs.File.{goodEdge};
 ghost use Rattle.jobhead.specs.ReadLines.{beforeOf, EdgeRead};
 use fields::field_in;
-use framing::framed;
+use frames::framed;
 use framing::line_at;
 use framing::refused;
 use lines::field::Field;

@@ -4,7 +4,7 @@ ghost use lib.ListN.{length, drop};
 ghost use Rattle.buffer.specs.Layout.{Lent};
 ghost use Rattle.jobhead.specs.ReadLines.{NodeRead};
 use fields::field_in;
-use framing::framed;
+use frames::framed;
 use framing::line_at;
 use framing::refused;
 use lines::field::Field;

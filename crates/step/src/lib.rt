@@ -1,30 +1,12 @@
 // The event step on values: one event moves the state, and alarms when the state moved to is final.
+ghost use mathlib.Core.Path.{_≡_};
+ghost use Rattle.automaton.specs.Automaton.{automatonOf};
+ghost use Rattle.events.specs.Monitor.{taken};
 use events::Record;
 use events::Report;
 use events::Taken;
-ghost use mathlib.Core.Path.{_≡_};
-ghost use Rattle.automaton.specs.Automaton.{automatonOf};
-ghost use Rattle.events.specs.Monitor.{raised, refusedWith, taken};
-
-// The alarm total after one alarm more.
-fn raise(alarms: u64) -> u64
-    ensures { λ r. ⌜ r ≡ raised alarms ⌝ }
-{
-    if alarms < 18_446_744_073_709_551_615 {
-        return alarms + 1;
-    }
-    alarms
-}
-
-// The record as it was, with a refusal's number.
-fn refuse(number: u64, r: Record) -> Taken
-    ensures { λ t. ⌜ t ≡ refusedWith number r ⌝ }
-{
-    Taken {
-        left: r,
-        report: Report::Refused(number),
-    }
-}
+use raising::raise;
+use raising::refuse;
 
 // Takes one event: the state moves on, and the total rises at an alarm. A refusal leaves the record.
 pub fn step(

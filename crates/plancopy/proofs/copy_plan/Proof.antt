@@ -1,4 +1,4 @@
--- `planheld::copy_plan` meets its contract.
+-- `plancopy::copy_plan` meets its contract.
 -- Invariant: the first n bytes of the plan are copied. Measure: the bytes still to be copied.
 -- Assumes nothing.
 use mathlib.Core.Path.{_≡_, ap, _∙_}
@@ -8,9 +8,9 @@ use lib.ListN.{length}
 use lib.Seq.{sets}
 use borrow.Author.Needs.{needs}
 use Rattle.passes.specs.Passes.{planIn}
-use Rattle.planheld.proofs.HeldLaws.{copied-none, copied-more}
-use Rattle.planheld.proofs.copy_plan.Statement.{statement}
-use Rattle.planheld.proofs.copy_plan.Tie as tie
+use Rattle.plancopy.proofs.CopyLaws.{copied-none, copied-more}
+use Rattle.plancopy.proofs.copy_plan.Statement.{statement}
+use Rattle.plancopy.proofs.copy_plan.Tie as tie
 
 abbrev Inv-loop : tie.InvT-loop
 Inv-loop work plan₀ nodes n₀ plan n = (n ≤ nodes) × (length plan ≡ length plan₀) × (plan ≡ sets plan₀ 0 (planIn work n))

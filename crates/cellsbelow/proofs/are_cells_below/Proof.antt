@@ -1,4 +1,4 @@
--- `wellformed::are_cells_below` meets its contract.
+-- `cellsbelow::are_cells_below` meets its contract.
 -- Invariants: all rows before q pass the test of a row, and in row q all cells before a pass that of a cell.
 -- Measures: the rows, and the cells of the row, still to be looked at. A cell that fails makes its row fail, and the row the whole.
 -- Assumes nothing.
@@ -11,8 +11,8 @@ use Rattle.laws.specs.Bounded.{allBelow}
 use Rattle.laws.proofs.Bounded.{all-none, all-more, all-end}
 use Rattle.automaton.proofs.AutomatonLaws.{cell-fails, cell-high, cell-low}
 use Rattle.automaton.specs.Automaton.{cell, cellBelow, cellsBelow}
-use Rattle.wellformed.proofs.are_cells_below.Statement.{statement}
-use Rattle.wellformed.proofs.are_cells_below.Tie as tie
+use Rattle.cellsbelow.proofs.are_cells_below.Statement.{statement}
+use Rattle.cellsbelow.proofs.are_cells_below.Tie as tie
 
 abbrev Inv-loop2 : tie.InvT-loop2
 Inv-loop2 table states symbols rows columns q a₀ a = (a ≤ columns) × (allBelow a (cellBelow table states q) ≡ true)

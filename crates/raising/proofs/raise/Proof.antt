@@ -1,10 +1,10 @@
--- `step::raise` meets its contract: below the ceiling the total rises, at it the total stays.
+-- `raising::raise` meets its contract: below the ceiling the total rises, at it the total stays.
 -- Assumes nothing.
 use mathlib.Core.Path.{sym}
 use Rattle.events.proofs.MonitorLaws.{raised-rises, raised-stays}
 use borrow.Author.Needs.{needs}
-use Rattle.step.proofs.raise.Statement.{statement}
-use Rattle.step.proofs.raise.Tie as tie
+use Rattle.raising.proofs.raise.Statement.{statement}
+use Rattle.raising.proofs.raise.Tie as tie
 
 add-result : tie.Need-add-result
 add-result c = search needs

@@ -1,12 +1,12 @@
--- `framing::framed` meets its contract: nothing is left, too little, another letter or end byte, or a line but for its fields.
+-- `frames::framed` meets its contract: nothing is left, too little, another letter or end byte, or a line but for its fields.
 -- Assumes nothing.
 use Prim.Native.Nat.{_+_, _*_}
 use native.Mathlib.Omega.{arith}
 use borrow.Author.Needs.{needs}
 use lib.ListN.{length-drop, drop}
 use Rattle.lines.proofs.LineLaws.{due-ends, due-short, due-letter, due-end-byte, due-frame, line-length}
-use Rattle.framing.proofs.framed.Statement.{statement}
-use Rattle.framing.proofs.framed.Tie as tie
+use Rattle.frames.proofs.framed.Statement.{statement}
+use Rattle.frames.proofs.framed.Tie as tie
 
 sub-left : tie.Need-sub-left
 sub-left c = search needs
