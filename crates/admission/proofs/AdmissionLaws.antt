@@ -20,8 +20,9 @@ use Rattle.jobfile.specs.Refusal.{TurnedBack, too-long, at-head, at-rule, at-no
 use Rattle.jobfile.proofs.RefusalLaws.{turned-says}
 use Rattle.jobfile.proofs.ListingFits.{listing-fits}
 use Rattle.jobfile.proofs.SpellableLaws.{read-written}
-use Rattle.buffer.specs.Layout.{nodesPart, workSize, Lent}
-use Rattle.buffer.specs.Kept.{SameOutside, cleared}
+use Rattle.buffer.specs.Buffer.{workSize, cleared}
+use Rattle.buffer.specs.Layout.{nodesPart, Lent}
+use Rattle.buffer.specs.Kept.{SameOutside}
 use Rattle.jobhead.specs.declared.head.Head.{Head}
 use Rattle.jobhead.specs.ReadLines.{refusedHead}
 use Rattle.jobhead.specs.Reading.{headOfAnswer, JobRead, SameRest}

@@ -1,4 +1,5 @@
 -- What the answers of planning and listing are that their number, made of fields of 16 bits above 2^48, holds; every answer is one.
+-- Inner contracts: what functions ask of and leave to each other. No promise rests on them; a reader need not believe them.
 -- Assumes nothing.
 use Prim.Native.Nat.{ℕ, _^_, _<_}
 use Rattle.planoutcome.specs.declared.plan.Outcome.{Outcome}

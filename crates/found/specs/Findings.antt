@@ -1,4 +1,5 @@
--- What is found at all points together: the contracts of the parts, which a first reading may leave out.
+-- What is found at all points together.
+-- Inner contracts: what functions ask of and leave to each other. No promise rests on them; a reader need not believe them.
 -- Assumes nothing.
 use mathlib.Core.Path.{_≡_}
 use mathlib.Core.Bool.{true}
@@ -9,12 +10,14 @@ use Rattle.laws.specs.Bytes.{numberAt}
 use Rattle.job.specs.Job.{isEvent, Job, nodeAt}
 use Rattle.job.specs.Found.{statesBefore}
 use Rattle.job.specs.Listing.{planOf}
-use Rattle.buffer.specs.Layout.{pairPart, classPart, foundPart, planPart, workSize}
+use Rattle.buffer.specs.Buffer.{workSize}
+use Rattle.buffer.specs.Layout.{pairPart, classPart, foundPart, planPart}
 use Rattle.buffer.specs.Kept.{SameOutside, Kept, Outside}
 use Rattle.tables.specs.Held.{JobHeld, AfterHeld}
 use Rattle.classes.specs.Backwards.{ClassesHeld, heldStates}
 use Rattle.passes.specs.declared.passes.Counts.{Counts}
-use Rattle.passes.specs.Passes.{planIn, countsOf}
+use Rattle.passes.specs.Counts.{countsOf}
+use Rattle.passes.specs.Passes.{planIn}
 
 -- the before set that the buffer holds for node n
 unfoldable pub beforeIn : List ℕ → ℕ → ℕ

@@ -2,7 +2,7 @@
 ghost use mathlib.Core.Path.{_≡_};
 ghost use Prim.Native.Nat.{_+_, _≤_};
 ghost use lib.ListN.{length, take, drop};
-ghost use Rattle.lines.specs.Line.{Framed};
+ghost use Rattle.lines.specs.Inner.{Framed};
 ghost use Rattle.framing.specs.Framing.{collected};
 use lines::line::Collected;
 

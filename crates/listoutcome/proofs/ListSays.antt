@@ -13,7 +13,7 @@ use Rattle.callnumber.specs.CallNumber.{acceptedFrom}
 use Rattle.jobfile.specs.File.{Answer, accepted, turned}
 use Rattle.jobfile.proofs.SpellableLaws.{read-written}
 use Rattle.jobfile.proofs.ListingLength.{listing-in-buffer}
-use Rattle.buffer.specs.Layout.{workSize}
+use Rattle.buffer.specs.Buffer.{workSize}
 use Rattle.admission.specs.Admission.{admitted}
 use Rattle.admission.proofs.AdmissionLaws.{admitted-spells, admitted-reads, admitted-small}
 use Rattle.admission.proofs.CallLaws.{written-first}

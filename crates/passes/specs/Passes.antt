@@ -1,5 +1,5 @@
--- The plan in the work buffer, and what a try, a pass and planning leave there: the contracts of the parts, which a first reading may leave
--- out but for `countsOf`.
+-- The plan in the work buffer, and what a try, a pass and planning leave there.
+-- Inner contracts: what functions ask of and leave to each other. No promise rests on them; a reader need not believe them.
 -- Assumes nothing.
 use mathlib.Core.Path.{_≡_}
 use mathlib.Core.Logic.{_⊎_}
@@ -17,6 +17,7 @@ use Rattle.buffer.specs.Kept.{SameOutside, Kept, Outside}
 use Rattle.laws.specs.Bounded.{sumBelow}
 use Rattle.tables.specs.Held.{JobHeld, AfterHeld}
 use Rattle.passes.specs.declared.passes.Counts.{Counts}
+use Rattle.passes.specs.Counts.{countsOf}
 
 -- the plan of the first nodes
 unfoldable pub planIn : List ℕ → ℕ → List ℕ
@@ -99,11 +100,6 @@ pub record PassesMade (table : List (List ℕ)) (finals states nodes : ℕ) (l m
 -- the enabled nodes, counted
 unfoldable pub enabledTotal : List ℕ → ℕ → ℕ
 enabledTotal work nodes = sumBelow nodes (λ n. cond (enabledIn work n) 1 0)
-
--- "the counts of event nodes, watched points and passes"
-abbrev pub countsOf : Job → Counts
-countsOf j =
-    record { shadows = enabledCount (allEnabled j); enabled = enabledCount (planOf j .plan); passes = planOf j .passes }
 
 -- planning was done: the plan, and the answer, which is the counts
 pub record PlanMade (table : List (List ℕ)) (finals states nodes : ℕ) (l m : List ℕ) (answer : Counts) : Type 0 where

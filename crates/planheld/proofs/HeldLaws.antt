@@ -7,7 +7,8 @@ use native.Mathlib.Omega.{arith}
 use lib.ListN.{length, getD, set}
 use lib.Seq.{sets}
 use Rattle.laws.proofs.Sets.{sets-append}
-use Rattle.buffer.specs.Layout.{nodesPart, pairPart, classPart, foundPart, planPart, workSize, Lent}
+use Rattle.buffer.specs.Buffer.{workSize}
+use Rattle.buffer.specs.Layout.{nodesPart, pairPart, classPart, foundPart, planPart, Lent}
 use Rattle.buffer.specs.Kept.{SameOutside}
 use Rattle.buffer.proofs.KeptLaws.{kept-none, kept-both}
 use Rattle.tables.specs.Held.{Usable}

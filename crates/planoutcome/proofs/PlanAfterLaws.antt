@@ -18,9 +18,9 @@ use Rattle.job.specs.Search.{faithful}
 use Rattle.job.proofs.PlanningResult.{planned-plan, planned-counts}
 use Rattle.jobfile.specs.File.{Answer, accepted, turned, readJob}
 use Rattle.jobfile.proofs.SpellableLaws.{read-written}
-use Rattle.buffer.specs.Layout.{workSize}
+use Rattle.buffer.specs.Buffer.{workSize}
 use Rattle.passes.specs.declared.passes.Counts.{Counts}
-use Rattle.passes.specs.Passes.{countsOf}
+use Rattle.passes.specs.Counts.{countsOf}
 use Rattle.planoutcome.specs.declared.plan.Outcome.{Outcome}
 use Rattle.planoutcome.specs.declared.plan.Outcome.the-variants.{Planned, Refused}
 use Rattle.admission.specs.Admission.{admitted, WrittenFirst}

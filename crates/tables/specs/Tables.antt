@@ -1,4 +1,5 @@
 -- The tables of the searches in the work buffer: what the functions on them ask and leave.
+-- Inner contracts: what functions ask of and leave to each other. No promise rests on them; a reader need not believe them.
 -- Assumes nothing.
 use mathlib.Core.Path.{_≡_}
 use mathlib.Core.Logic.{_⊎_}
