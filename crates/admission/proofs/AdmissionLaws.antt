@@ -1,7 +1,7 @@
 -- Laws of admission: the tests in their order, and each way out of the function that admits.
 -- Assumes nothing.
 use mathlib.Core.Path.{_≡_, refl, sym, ap, _∙_, subst}
-use mathlib.Core.Logic.{inl, inr}
+use mathlib.Core.Logic.{inr}
 use mathlib.Core.Bool.{Bool, true, false, cond, _||_}
 use mathlib.Core.List.{List}
 use Prim.Native.Nat.{ℕ, zero, suc, _^_, _≤_, _<_}
@@ -20,14 +20,15 @@ use Rattle.jobfile.specs.Refusal.{TurnedBack, too-long, at-head, at-rule, at-no
 use Rattle.jobfile.proofs.RefusalLaws.{turned-says}
 use Rattle.jobfile.proofs.ListingFits.{listing-fits}
 use Rattle.jobfile.proofs.SpellableLaws.{read-written}
-use Rattle.buffer.specs.Layout.{nodesPart, workSize, Lent}
-use Rattle.buffer.specs.Kept.{SameOutside, cleared}
+use Rattle.buffer.specs.Buffer.{workSize, cleared}
+use Rattle.buffer.specs.Layout.{nodesPart, Lent}
+use Rattle.buffer.specs.Kept.{SameOutside}
 use Rattle.jobhead.specs.declared.head.Head.{Head}
 use Rattle.jobhead.specs.ReadLines.{refusedHead}
 use Rattle.jobhead.specs.Reading.{headOfAnswer, JobRead, SameRest}
 use Rattle.jobreader.proofs.ClearLaws.{cleared-same}
-use Rattle.admission.specs.Admission.{admitted, refusedLeft, workAfter}
-use Rattle.admission.specs.Admitted.{JobAdmitted, Admitted}
+use Rattle.admission.specs.Admission.{admitted, refusedLeft}
+use Rattle.admission.specs.Admitted.{Admitted}
 use Rattle.admission.proofs.JobHeldLaws.{finals-read, usable-read, job-read}
 use Rattle.admission.proofs.AnswerReadLaws.{turned-read, accepted-read}
 

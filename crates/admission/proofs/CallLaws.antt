@@ -8,8 +8,9 @@ use lib.ListN.{length, take, drop}
 use lib.Seq.{sets, sets-eq, length-sets, take-at, drop-at}
 use Rattle.job.specs.Job.{Job}
 use Rattle.jobfile.specs.File.{Answer, accepted, turned}
-use Rattle.buffer.specs.Layout.{nodesPart, workSize}
-use Rattle.buffer.specs.Kept.{SameOutside, cleared}
+use Rattle.buffer.specs.Buffer.{workSize, cleared}
+use Rattle.buffer.specs.Layout.{nodesPart}
+use Rattle.buffer.specs.Kept.{SameOutside}
 use Rattle.jobhead.specs.declared.head.Head.{Head}
 use Rattle.jobhead.specs.Reading.{headOfAnswer}
 use Rattle.jobreader.specs.Rule.{ruleIn}

@@ -7,7 +7,7 @@ use Prim.Native.Nat.{ℕ, zero, suc}
 use lib.Dec.{ltb}
 use lib.ListN.{length, take, drop}
 use Rattle.jobfile.specs.File.{Answer, accepted, turned, maxFile, readJob}
-use Rattle.buffer.specs.Kept.{cleared}
+use Rattle.buffer.specs.Buffer.{cleared}
 
 -- "tests go by rising number": 1 for a file that is too long, 2 where a lent buffer is too short, then what the file spells
 unfoldable pub admitted : List ℕ → Bool → Answer

@@ -1,11 +1,12 @@
 -- What the function that admits a file and the lent buffers leaves to the call.
+-- Inner contracts: what functions ask of and leave to each other. No promise is stated in them; a reader need not believe them.
 -- Assumes nothing.
 use mathlib.Core.Path.{_≡_}
 use mathlib.Core.List.{List}
 use Prim.Native.Nat.{ℕ, _^_, _≤_, _<_}
 use Rattle.job.specs.Job.{Job}
 use Rattle.jobfile.specs.File.{Answer, accepted}
-use Rattle.buffer.specs.Kept.{cleared}
+use Rattle.buffer.specs.Buffer.{cleared}
 use Rattle.jobhead.specs.declared.head.Head.{Head}
 use Rattle.jobhead.specs.Reading.{headOfAnswer}
 use Rattle.jobreader.specs.Rule.{ruleIn}

@@ -1,6 +1,7 @@
 -- What the answers of planning and listing are that their number, made of fields of 16 bits above 2^48, holds; every answer is one.
+-- Inner contracts: what functions ask of and leave to each other. No promise is stated in them; a reader need not believe them.
 -- Assumes nothing.
-use Prim.Native.Nat.{ℕ, _^_, _<_}
+use Prim.Native.Nat.{_^_, _<_}
 use Rattle.planoutcome.specs.declared.plan.Outcome.{Outcome}
 use Rattle.planoutcome.specs.declared.plan.Outcome.the-variants.{Planned, Refused}
 use Rattle.listoutcome.specs.declared.list.Listed.{Listed}

@@ -1,8 +1,10 @@
 -- Where the parts of the lent work buffer lie, each by the part before it and that part's size.
+-- Inner contracts: what functions ask of and leave to each other. No promise is stated in them; a reader need not believe them.
 -- Assumes nothing.
 use mathlib.Core.List.{List}
 use Prim.Native.Nat.{ℕ, _+_, _*_, _≤_}
 use lib.ListN.{length}
+use Rattle.buffer.specs.Buffer.{workSize}
 
 -- the nodes: 512 of eight bytes
 abbrev pub nodesPart : ℕ
@@ -43,10 +45,6 @@ marksPart = rulePart + 256
 -- the first byte past them
 abbrev pub marksEnd : ℕ
 marksEnd = marksPart + 512 * 2
-
--- the bytes that a call may use
-abbrev pub workSize : ℕ
-workSize = 65536
 
 -- these bytes have room for all of them
 abbrev pub Lent : List ℕ → Type 0

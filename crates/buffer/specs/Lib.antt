@@ -1,5 +1,7 @@
 -- The lent work buffer.
 -- Assumes nothing.
+pub mod Buffer
+-- inner contracts
 pub mod Layout
 pub mod Views
 pub mod Kept

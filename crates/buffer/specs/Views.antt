@@ -1,4 +1,5 @@
 -- What a work buffer holds, part by part.
+-- Inner contracts: what functions ask of and leave to each other. No promise is stated in them; a reader need not believe them.
 -- Assumes nothing.
 use mathlib.Core.Path.{_≡_}
 use mathlib.Core.Bool.{Bool, true}
@@ -10,7 +11,7 @@ use Rattle.laws.specs.Bounded.{tabFrom, tab}
 use Rattle.laws.specs.Bits.{has}
 use Rattle.laws.specs.Bytes.{numberAt}
 use Rattle.job.specs.Job.{Node, Edge, kindOf}
-use Rattle.buffer.specs.Layout.{nodesPart, startsPart, targetsPart, pairPart, classPart, planPart, rulePart, marksPart}
+use Rattle.buffer.specs.Layout.{startsPart, targetsPart, pairPart, classPart, planPart, rulePart, marksPart}
 
 -- ---- the job
 

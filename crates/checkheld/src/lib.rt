@@ -1,7 +1,7 @@
 // The verdict on a plan, for the job that the work buffer holds.
 ghost use Rattle.jobreader.specs.Rule.{ruleIn};
 ghost use Rattle.tables.specs.Held.{Usable};
-ghost use Rattle.checking.specs.Checking.{Judged};
+ghost use Rattle.checking.specs.Inner.{Judged};
 use afterwords::after_words;
 use checking::check::Verdict;
 use jobreader::table::table_in;

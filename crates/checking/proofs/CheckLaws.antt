@@ -1,7 +1,7 @@
 -- Laws of the plan check, in the shape of its code.
 -- Assumes nothing.
 use mathlib.Core.Path.{_≡_, refl, sym, ap, _∙_, subst}
-use mathlib.Core.Logic.{inl, inr}
+use mathlib.Core.Logic.{inr}
 use mathlib.Core.Bool.{Bool, true, false, cond, _||_}
 use mathlib.Core.List.{List}
 use Prim.Native.Nat.{ℕ, _+_, _≤_, _<_}
@@ -14,9 +14,10 @@ use Rattle.laws.proofs.Bounded.{all-cong}
 use Rattle.job.specs.Job.{Job, Node, nodeAt}
 use Rattle.job.specs.Search.{faithful}
 use Rattle.jobfile.specs.File.{Answer, maxFile, readJob}
-use Rattle.buffer.specs.Layout.{nodesPart, classPart, foundPart, planPart, rulePart, workSize}
+use Rattle.buffer.specs.Buffer.{workSize, cleared}
+use Rattle.buffer.specs.Layout.{nodesPart, classPart, foundPart, planPart, rulePart}
 use Rattle.buffer.specs.Views.{nodeIn}
-use Rattle.buffer.specs.Kept.{SameOutside, cleared}
+use Rattle.buffer.specs.Kept.{SameOutside}
 use Rattle.buffer.proofs.KeptLaws.{kept-fewer, outside-part, kept-none, kept-both}
 use Rattle.jobhead.specs.declared.head.Head.{Head}
 use Rattle.jobreader.specs.Rule.{ruleIn}
@@ -32,7 +33,8 @@ use Rattle.admission.proofs.AdmissionLaws.{admitted-long, admitted-short, admit
 use Rattle.admission.proofs.CallLaws.{answer-refused}
 use Rattle.checking.specs.declared.check.Verdict.{Verdict}
 use Rattle.checking.specs.declared.check.Verdict.the-variants.{Faithful, Different, Refused}
-use Rattle.checking.specs.Checking.{goodMark, judged, answered, checked, workLeft, PlanStored, Judged}
+use Rattle.checking.specs.Inner.{PlanStored, Judged}
+use Rattle.checking.specs.Checking.{goodMark, judged, answered, checked, workLeft}
 
 -- ---- the answer for a job
 

@@ -19,8 +19,7 @@ use Rattle.job.specs.Search.{faithful}
 use Rattle.job.proofs.Decide.{faithful-says, different-says}
 use Rattle.jobfile.specs.File.{Answer, accepted, turned, maxFile, readJob}
 use Rattle.jobfile.proofs.SpellableLaws.{read-written}
-use Rattle.buffer.specs.Layout.{workSize}
-use Rattle.buffer.specs.Kept.{cleared}
+use Rattle.buffer.specs.Buffer.{workSize, cleared}
 use Rattle.admission.specs.Admission.{admitted}
 use Rattle.admission.proofs.AdmissionLaws.{admitted-small}
 use Rattle.checking.specs.declared.check.Verdict.{Verdict}

@@ -8,12 +8,13 @@ use Prim.Native.Nat.{ℕ, _+_, _≤_, _<_}
 use native.Mathlib.Nat.{eq-or-lt-of-le}
 use native.Mathlib.Omega.{arith}
 use lib.Dec.{eqb, leb}
-use lib.ListN.{length, getD, set}
+use lib.ListN.{getD, set}
 use lib.Seq.{getD-set-same, getD-set-other}
 use Rattle.job.specs.Job.{Kind, isEvent}
 use Rattle.buffer.proofs.KeptLaws.{kept-none, kept-both, kept-set}
 use Rattle.buffer.specs.Layout.{planPart, rulePart, Lent}
-use Rattle.checking.specs.Checking.{goodMark, PlanStored}
+use Rattle.checking.specs.Inner.{PlanStored}
+use Rattle.checking.specs.Checking.{goodMark}
 
 -- the byte of a shadow is at most 1
 pub mark-shadow : (k : Kind) (b : ℕ) → isEvent k ≡ true → leb b 1 ≡ goodMark k b

@@ -1,9 +1,8 @@
 -- The plan check (document 01, "What is found at a point" and "Turned back, by number").
 -- Assumes nothing.
-use mathlib.Core.Path.{_≡_}
 use mathlib.Core.Bool.{Bool, cond}
 use mathlib.Core.List.{List}
-use Prim.Native.Nat.{ℕ, zero, suc, _+_, _<_}
+use Prim.Native.Nat.{ℕ, _+_}
 use lib.Dec.{eqb, leb, ltb}
 use lib.ListN.{length, getD}
 use Rattle.laws.specs.Bounded.{allBelow}
@@ -11,11 +10,9 @@ use Rattle.callnumber.specs.CallNumber.{acceptedFrom}
 use Rattle.job.specs.Job.{Kind, isEvent, Job, nodeAt}
 use Rattle.job.specs.Search.{faithful}
 use Rattle.jobfile.specs.File.{Answer, accepted, turned}
-use Rattle.buffer.specs.Layout.{nodesPart, planPart, rulePart, workSize}
-use Rattle.buffer.specs.Kept.{SameOutside, cleared}
+use Rattle.buffer.specs.Buffer.{workSize, cleared}
 use Rattle.checking.specs.declared.check.Verdict.{Verdict}
 use Rattle.checking.specs.declared.check.Verdict.the-variants.{Faithful, Different, Refused}
-use Rattle.tables.specs.Held.{JobHeld}
 use Rattle.admission.specs.Admission.{admitted, refusedLeft}
 
 -- a plan byte that a node may have: 0, and 1 at an event node
@@ -56,15 +53,3 @@ abbrev pub verdictNumber : Verdict → ℕ
 verdictNumber Faithful = acceptedFrom
 verdictNumber Different = acceptedFrom + 1
 verdictNumber (Refused k) = k
-
--- ---- what the parts of the check leave
-
--- the plan was stored in its part of the buffer
-pub record PlanStored (plan l m : List ℕ) (nodes : ℕ) : Type 0 where
-  pub kept : SameOutside l m planPart rulePart
-  pub here : (n : ℕ) → n < nodes → getD m (planPart + n) 0 ≡ getD plan n 0
-
--- the answer for every job that the buffer holds; the bytes past the first 65,536 are as they were
-pub record Judged (table : List (List ℕ)) (finals states nodes : ℕ) (plan l m : List ℕ) (answer : Verdict) : Type 0 where
-  pub kept : SameOutside l m nodesPart workSize
-  pub exact : (j : Job) → JobHeld j l table finals states nodes → answer ≡ judged j plan

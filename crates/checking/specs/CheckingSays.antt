@@ -12,8 +12,7 @@ use Rattle.callnumber.specs.CallNumber.{acceptedFrom}
 use Rattle.job.specs.Job.{Kind, isEvent, Job, nodeAt}
 use Rattle.job.specs.Plan.{enables, Faithful as FaithfulPlan, Different as DifferentPlan}
 use Rattle.jobfile.specs.File.{accepted, maxFile, readJob}
-use Rattle.buffer.specs.Layout.{workSize}
-use Rattle.buffer.specs.Kept.{cleared}
+use Rattle.buffer.specs.Buffer.{workSize, cleared}
 use Rattle.checking.specs.declared.check.Verdict.{Verdict}
 use Rattle.checking.specs.declared.check.Verdict.the-variants.{Faithful, Different, Refused}
 use Rattle.checking.specs.Checking.{checked, workLeft, verdictNumber}

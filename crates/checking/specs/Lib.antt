@@ -2,3 +2,5 @@
 -- Assumes nothing.
 pub mod Checking
 pub mod CheckingSays
+-- inner contracts
+pub mod Inner

@@ -1,5 +1,5 @@
--- What the backward searches leave in the class rows, and what is read off rows at a point; a first reading may leave it out for
--- `FoundSays.antt`.
+-- What the backward searches leave in the class rows, and what is read off rows at a point.
+-- Inner contracts: what functions ask of and leave to each other. No promise is stated in them; a reader need not believe them.
 -- Assumes nothing.
 use mathlib.Core.Path.{_≡_}
 use mathlib.Core.Bool.{Bool, true, not, _&&_, _||_}

@@ -1,4 +1,5 @@
 -- What is found at a point, in the definitions of the job: the rows of the buffer are right, so what is read off them is.
+-- Inner contracts: what functions ask of and leave to each other. No promise is stated in them; a reader need not believe them.
 -- Assumes nothing.
 use mathlib.Core.Path.{_≡_}
 use mathlib.Core.Bool.{cond, not}

@@ -1,6 +1,5 @@
 // The growth of the class rows from the after words of the exits, backwards over the edges.
 ghost use Prim.Native.Nat.{_<_, _≤_};
-ghost use lib.ListN.{length};
 ghost use Rattle.buffer.specs.Layout.{Lent};
 ghost use Rattle.tables.specs.Rows.{CellsBelow};
 ghost use Rattle.tables.specs.Held.{EdgesWithin, Usable};

@@ -2,7 +2,7 @@
 ghost use mathlib.Core.Bool.{_||_};
 ghost use lib.Dec.{ltb};
 ghost use lib.ListN.{length};
-ghost use Rattle.buffer.specs.Layout.{workSize};
+ghost use Rattle.buffer.specs.Buffer.{workSize};
 ghost use Rattle.admission.specs.Admission.{admitted};
 ghost use Rattle.admission.specs.Admitted.{Admitted};
 use buffer::WORK;

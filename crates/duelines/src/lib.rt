@@ -2,7 +2,8 @@
 ghost use mathlib.Core.Path.{_≡_};
 ghost use Prim.Native.Nat.{_+_, _*_, _≤_};
 ghost use lib.ListN.{length, drop};
-ghost use Rattle.lines.specs.Line.{foundIn, fieldsOf, lineOf, noRow, rowOf};
+ghost use Rattle.lines.specs.Inner.{noRow, rowOf};
+ghost use Rattle.lines.specs.Line.{foundIn, fieldsOf, lineOf};
 use fields::field_in;
 use frames::framed;
 use framing::line_at;

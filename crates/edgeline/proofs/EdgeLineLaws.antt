@@ -12,7 +12,8 @@ use lib.ListN.{take, drop}
 use borrow.Author.Tests.{eq-eqb, eqb-true, le-leb, leb-true, lt-ltb, ltb-true}
 use Rattle.laws.proofs.Tests.{fails-of, test-ext, or-left, or-right, or-passes}
 use Rattle.lines.specs.declared.field.Field.the-variants.{Number, Malformed}
-use Rattle.lines.specs.Line.{Due, found, lineOf, noRow, rowOf, Framed, at}
+use Rattle.lines.specs.Inner.{noRow, rowOf, Framed}
+use Rattle.lines.specs.Line.{Due, found, lineOf, at}
 use Rattle.jobfile.specs.File.{ascends, goodEdge, edgeLine}
 use Rattle.framing.specs.Framing.{collected}
 use Rattle.lines.specs.Places.{numbersOf, statusOf}

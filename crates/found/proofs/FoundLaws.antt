@@ -9,12 +9,13 @@ use native.Mathlib.Nat.{eq-or-lt-of-le, le-of-suc-le-suc}
 use native.Mathlib.Numerals.{add-one}
 use native.Mathlib.Omega.{arith}
 use lib.Dec.{eqb}
-use lib.ListN.{length, getD}
+use lib.ListN.{getD}
 use Rattle.laws.specs.Bytes.{putNumber}
 use Rattle.laws.proofs.Bytes.{number-cong, number-put, number-put-other}
 use Rattle.job.specs.Job.{Job}
 use Rattle.job.specs.Planning.{allEnabled}
-use Rattle.buffer.specs.Layout.{pairPart, classPart, foundPart, planPart, workSize, Lent}
+use Rattle.buffer.specs.Buffer.{workSize}
+use Rattle.buffer.specs.Layout.{pairPart, classPart, foundPart, planPart, Lent}
 use Rattle.buffer.specs.Views.{pairRowIn}
 use Rattle.buffer.specs.Kept.{SameOutside}
 use Rattle.buffer.proofs.KeptLaws.{kept-then, kept-fewer, outside-part, kept-none, kept-both, kept-put, number-kept}
@@ -28,8 +29,9 @@ use Rattle.classes.specs.Backwards.{AfterWords, ClassesFound, heldStates}
 use Rattle.classes.proofs.FoundSays.{before-found}
 use Rattle.classes.proofs.AfterLaws.{after-front, after-usable}
 use Rattle.passes.specs.declared.passes.Counts.{Counts}
-use Rattle.passes.specs.Passes.{AllEnabled, countsOf, PlanMade}
-use Rattle.passes.proofs.PlanInLaws.{plan-in-held, plan-in-same, planning-search, planning-plan, planning-outside, usable-kept, job-kept, after-kept}
+use Rattle.passes.specs.Counts.{countsOf}
+use Rattle.passes.specs.Passes.{AllEnabled, PlanMade}
+use Rattle.passes.proofs.PlanInLaws.{plan-in-held, plan-in-same, planning-plan, planning-outside, usable-kept, job-kept, after-kept}
 use Rattle.found.specs.Findings.{beforeIn, BeforeHeld, BeforeStored, BeforeFound, FoundHeld, Found}
 
 -- ---- the before sets as they are stored

@@ -1,20 +1,22 @@
--- What is found at all points together: the contracts of the parts, which a first reading may leave out.
+-- What is found at all points together.
+-- Inner contracts: what functions ask of and leave to each other. No promise is stated in them; a reader need not believe them.
 -- Assumes nothing.
 use mathlib.Core.Path.{_≡_}
 use mathlib.Core.Bool.{true}
 use mathlib.Core.List.{List}
 use Prim.Native.Nat.{ℕ, _+_, _*_, _≤_, _<_}
-use lib.ListN.{getD}
 use Rattle.laws.specs.Bytes.{numberAt}
 use Rattle.job.specs.Job.{isEvent, Job, nodeAt}
 use Rattle.job.specs.Found.{statesBefore}
 use Rattle.job.specs.Listing.{planOf}
-use Rattle.buffer.specs.Layout.{pairPart, classPart, foundPart, planPart, workSize}
+use Rattle.buffer.specs.Buffer.{workSize}
+use Rattle.buffer.specs.Layout.{pairPart, classPart, foundPart, planPart}
 use Rattle.buffer.specs.Kept.{SameOutside, Kept, Outside}
 use Rattle.tables.specs.Held.{JobHeld, AfterHeld}
 use Rattle.classes.specs.Backwards.{ClassesHeld, heldStates}
 use Rattle.passes.specs.declared.passes.Counts.{Counts}
-use Rattle.passes.specs.Passes.{planIn, countsOf}
+use Rattle.passes.specs.Counts.{countsOf}
+use Rattle.passes.specs.Passes.{planIn}
 
 -- the before set that the buffer holds for node n
 unfoldable pub beforeIn : List ℕ → ℕ → ℕ
@@ -29,7 +31,7 @@ pub record BeforeStored (l m : List ℕ) (states nodes : ℕ) : Type 0 where
   pub kept : SameOutside l m foundPart planPart
   pub here : (n : ℕ) → n < nodes → beforeIn m n ≡ heldStates l n states
 
--- the before sets were found; the job and the class rows are as they were
+-- the before sets were found; only the rows of pairs and the bytes past the class rows are touched
 pub record BeforeFound (table : List (List ℕ)) (finals states nodes : ℕ) (l m : List ℕ) : Type 0 where
   pub kept : Kept (λ k. Outside pairPart classPart k × Outside foundPart workSize k) l m
   pub exact : (j : Job) → JobHeld j l table finals states nodes → AfterHeld j l nodes → BeforeHeld j m

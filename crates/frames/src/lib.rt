@@ -1,7 +1,7 @@
 // A line's frame: its letter, its length and its end.
 ghost use Prim.Native.Nat.{_+_, _≤_};
 ghost use lib.ListN.{length, drop};
-ghost use Rattle.lines.specs.Line.{Framed};
+ghost use Rattle.lines.specs.Inner.{Framed};
 use framing::line_at;
 
 // Whether a line with this letter and so many fields stands at `at`, its fields aside: 3, 4, or 0.

@@ -1,4 +1,5 @@
 -- What a reader of lines returns.
+-- Inner contracts: what functions ask of and leave to each other. No promise is stated in them; a reader need not believe them.
 -- Assumes nothing.
 use Prim.Native.Nat.{ℕ}
 use Rattle.lines.specs.declared.line.Collected.{Collected}

@@ -4,7 +4,6 @@ pub mod Job
 pub mod Walk
 pub mod Plan
 pub mod Search
-pub mod Words
 pub mod Found
 pub mod FoundSays
 pub mod SearchSays
@@ -13,3 +12,5 @@ pub mod Listing
 pub mod PlanningSays
 pub mod Trials
 pub mod Slips
+-- inner contracts
+pub mod Words

@@ -1,4 +1,5 @@
 -- Words over a set of symbols, as a call's word and the word after an exit are (document 01, "Nodes and walks").
+-- Inner contracts: what functions ask of and leave to each other. No promise is stated in them; a reader need not believe them.
 -- Assumes nothing.
 use mathlib.Core.Path.{_≡_}
 use mathlib.Core.Bool.{true, not}

@@ -11,7 +11,8 @@ use lib.ListN.{getD}
 use Rattle.laws.specs.Bounded.{tabFrom, tab}
 use Rattle.lines.specs.declared.line.Row.{Row}
 use Rattle.jobhead.specs.declared.head.Head.{Head}
-use Rattle.lines.specs.Line.{lineOf, rowOf}
+use Rattle.lines.specs.Inner.{rowOf}
+use Rattle.lines.specs.Line.{lineOf}
 use Rattle.jobfile.specs.File.{goodHead, headLine}
 use Rattle.lines.specs.Places.{numbersOf, dueAt, numbersAt, beforeAt, statusAt}
 use Rattle.jobhead.specs.ReadLines.{refusedHead}

@@ -1,4 +1,5 @@
 -- What reading the lines of each kind finds, in numbers, and what it leaves in the buffer.
+-- Inner contracts: what functions ask of and leave to each other. No promise is stated in them; a reader need not believe them.
 -- Assumes nothing.
 use mathlib.Core.Path.{_≡_}
 use mathlib.Core.List.{List, [], _∷_}

@@ -1,10 +1,11 @@
 -- What reading a job file returns, and what it leaves in the buffer.
+-- Inner contracts: what functions ask of and leave to each other. No promise is stated in them; a reader need not believe them.
 -- Assumes nothing.
 use mathlib.Core.Path.{_≡_}
 use mathlib.Core.Logic.{_⊎_}
 use mathlib.Core.List.{List}
 use Prim.Native.Nat.{ℕ, suc, _≤_, _<_}
-use lib.ListN.{length, getD}
+use lib.ListN.{length}
 use Rattle.buffer.specs.Layout.{nodesPart, pairPart, rulePart, marksPart}
 use Rattle.buffer.specs.Views.{startIn, cellIn}
 use Rattle.buffer.specs.Kept.{Kept, Outside}

@@ -1,4 +1,5 @@
 -- The job that a work buffer holds, and what storing its lines leaves.
+-- Inner contracts: what functions ask of and leave to each other. No promise is stated in them; a reader need not believe them.
 -- Assumes nothing.
 use mathlib.Core.Path.{_≡_}
 use mathlib.Core.List.{List}

@@ -7,8 +7,7 @@ use native.Mathlib.Nat.{le-add-right}
 use lib.ListN.{length, getD, drop, set, replicate, length-drop}
 use lib.Seq.{ext-getD, getD-drop}
 use borrow.Author.Fill.{fill-none, fill-more}
-use Rattle.buffer.specs.Layout.{workSize}
-use Rattle.buffer.specs.Kept.{filled, cleared}
+use Rattle.buffer.specs.Buffer.{workSize, filled, cleared}
 
 -- nothing is cleared yet
 pub filled-none : (l : List ℕ) → l ≡ filled 0 l

@@ -1,4 +1,5 @@
 -- The rule that the work buffer hands over, whole: sixteen rows of sixteen next states.
+-- Inner contracts: what functions ask of and leave to each other. No promise is stated in them; a reader need not believe them.
 -- Assumes nothing.
 use mathlib.Core.List.{List}
 use Prim.Native.Nat.{ℕ, _≤_}

@@ -1,9 +1,8 @@
 // Clearing the work buffer.
 ghost use mathlib.Core.Path.{_≡_};
 ghost use Prim.Native.Nat.{_≤_};
-ghost use lib.ListN.{length};
 ghost use Rattle.buffer.specs.Layout.{Lent};
-ghost use Rattle.buffer.specs.Kept.{cleared};
+ghost use Rattle.buffer.specs.Buffer.{cleared};
 use buffer::WORK;
 
 // Makes the first 65,536 bytes zero and leaves the rest.

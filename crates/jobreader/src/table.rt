@@ -1,7 +1,6 @@
 // The rule's table out of the work buffer.
 ghost use mathlib.Core.Path.{_≡_};
 ghost use Prim.Native.Nat.{_≤_};
-ghost use lib.ListN.{length};
 ghost use Rattle.buffer.specs.Layout.{Lent};
 ghost use Rattle.jobreader.specs.Rule.{ruleIn};
 use buffer::MARKS;

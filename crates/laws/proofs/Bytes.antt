@@ -6,7 +6,7 @@ use mathlib.Core.Logic.{_⊎_, _≢_, inl, inr, ⊎-elim, by-cases}
 use mathlib.Core.List.{List}
 use native.Mathlib.Nat.{le-refl, le-step, zero-add, add-zero, add-suc, suc-add, mul-assoc, pow-suc, pow-succ', div-one, div-div-eq-div-mul}
 use native.Mathlib.Nat.{ne-of-lt, ne-of-gt}
-use native.Mathlib.Decide.{ℕ-discrete, decLt}
+use native.Mathlib.Decide.{decLt}
 use native.Mathlib.Omega.{arith}
 use lib.Dec.{lit<}
 use lib.ListN.{length, getD, set, length-set, List·getD-eq-default}

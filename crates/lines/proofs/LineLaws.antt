@@ -19,7 +19,8 @@ use Rattle.laws.proofs.Bounded.{length-tab, getD-tab, fill-done}
 use Rattle.lines.specs.declared.field.Field.{Field}
 use Rattle.lines.specs.declared.field.Field.the-variants.{Number, Malformed}
 use Rattle.lines.specs.declared.line.Row.{Row}
-use Rattle.lines.specs.Line.{fieldOf, Numbers, numbers, no-numbers, consField, fieldsOf, found, foundIn, lineOf, padded, noRow, rowOf, Framed}
+use Rattle.lines.specs.Inner.{padded, noRow, rowOf, Framed}
+use Rattle.lines.specs.Line.{fieldOf, Numbers, numbers, no-numbers, consField, fieldsOf, found, foundIn, lineOf}
 
 -- a row of these two
 abbrev pub row : ℕ → List ℕ → Row

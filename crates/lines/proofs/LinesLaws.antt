@@ -17,7 +17,8 @@ use Rattle.laws.proofs.Bounded.{getD-tab}
 use Rattle.lines.specs.declared.field.Field.{Field}
 use Rattle.lines.specs.declared.field.Field.the-variants.{Number, Malformed}
 use Rattle.lines.specs.declared.line.Row.{Row}
-use Rattle.lines.specs.Line.{fieldOf, Numbers, numbers, no-numbers, consField, fieldsOf, Due, ends, no-line, found, foundIn, lineLength, lineOf, padded, rowOf}
+use Rattle.lines.specs.Inner.{padded, rowOf}
+use Rattle.lines.specs.Line.{fieldOf, Numbers, numbers, no-numbers, consField, fieldsOf, Due, ends, no-line, found, foundIn, lineLength, lineOf}
 use Rattle.lines.specs.Lines.{Kind, Lines, lines, refused, consLine, onDue, linesOf}
 use Rattle.lines.specs.Places.{numbersOf, statusOf, dueAt, numbersAt, beforeAt, statusAt, refusalIn, LinesRead}
 

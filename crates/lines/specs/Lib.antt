@@ -3,5 +3,7 @@
 pub mod Line
 pub mod Lines
 pub mod Written
+-- inner contracts
 pub mod Places
 pub mod Field
+pub mod Inner

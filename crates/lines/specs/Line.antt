@@ -1,15 +1,12 @@
 -- Fields and lines (document 01, "The job file").
 -- Assumes nothing.
-use mathlib.Core.Path.{_≡_}
 use mathlib.Core.Bool.{Bool, cond, _&&_}
 use mathlib.Core.List.{List, [], _∷_, _++_}
-use Prim.Native.Nat.{ℕ, zero, suc, _+_, _-_, _*_, _/_, _%_, _≤_}
+use Prim.Native.Nat.{ℕ, zero, suc, _+_, _-_, _*_, _/_, _%_}
 use lib.Dec.{eqb, leb, ltb}
 use lib.ListN.{length, take, drop, getD, replicate}
-use Rattle.laws.specs.Bounded.{tab}
 use Rattle.lines.specs.declared.field.Field.{Field}
 use Rattle.lines.specs.declared.field.Field.the-variants.{Number, Malformed}
-use Rattle.lines.specs.declared.line.Row.{Row}
 
 -- ---- writing
 
@@ -103,23 +100,3 @@ unfolding fieldsOf
 lineOf letter k [] = ends
 lineOf letter k (b ∷ bytes) =
     cond (eqb b letter && leb (k * 6 + 1) (length bytes) && eqb (getD bytes (k * 6) 0) 10) (foundIn (fieldsOf k bytes)) no-line
-
--- the numbers of a line in eighteen places, with zeros after them
-unfoldable pub padded : List ℕ → List ℕ
-padded ns = tab 18 (λ i. getD ns i 0)
-
--- a refusal beside zeros
-abbrev pub noRow : ℕ → Row
-noRow k = record { status = k; numbers = padded [] }
-
--- what is due, in numbers: a line's own numbers beside 0, and zeros beside 3 and 4
-abbrev pub rowOf : Due → Row
-rowOf ends = noRow 3
-rowOf no-line = noRow 4
-rowOf (found ns) = record { status = 0; numbers = padded ns }
-
--- what is due, its fields aside: r is 3 or 4 where there is no such line, and 0 where the fields decide
-pub record Framed (letter k : ℕ) (bytes : List ℕ) (r : ℕ) : Type 0 where
-  pub stops : (r ≡ 0 → ⊥) → noRow r ≡ rowOf (lineOf letter k bytes)
-  pub line : r ≡ 0 → lineOf letter k bytes ≡ foundIn (fieldsOf k (drop 1 (take (lineLength k) bytes)))
-  pub within : r ≡ 0 → lineLength k ≤ length bytes

@@ -1,4 +1,5 @@
 -- Lines by their places: what stands in the place of each line of a kind, and whether it passes.
+-- Inner contracts: what functions ask of and leave to each other. No promise is stated in them; a reader need not believe them.
 -- Assumes nothing.
 use mathlib.Core.Path.{_≡_}
 use mathlib.Core.Bool.{cond}

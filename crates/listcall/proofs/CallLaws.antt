@@ -8,8 +8,7 @@ use lib.Dec.{ltb}
 use lib.ListN.{length}
 use borrow.Author.Tests.{ltb-false}
 use Rattle.laws.proofs.Tests.{fails-of, or-right}
-use Rattle.buffer.specs.Layout.{workSize}
-use Rattle.buffer.specs.Kept.{cleared}
+use Rattle.buffer.specs.Buffer.{workSize, cleared}
 use Rattle.jobhead.specs.declared.head.Head.{Head}
 use Rattle.jobreader.specs.Rule.{ruleIn}
 use Rattle.tables.specs.Held.{Usable}

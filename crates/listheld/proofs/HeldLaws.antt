@@ -5,13 +5,14 @@ use mathlib.Core.List.{List}
 use Prim.Native.Nat.{ℕ, _≤_, _<_}
 use native.Mathlib.Omega.{arith}
 use lib.ListN.{length}
-use Rattle.buffer.specs.Layout.{nodesPart, pairPart, workSize, Lent}
+use Rattle.buffer.specs.Buffer.{workSize}
+use Rattle.buffer.specs.Layout.{nodesPart, pairPart, Lent}
 use Rattle.buffer.proofs.KeptLaws.{kept-none, kept-both}
 use Rattle.tables.specs.Rows.{CellsBelow}
 use Rattle.tables.specs.Held.{Usable, JobHeld}
 use Rattle.tables.proofs.JobKeptLaws.{table-usable}
 use Rattle.passes.specs.declared.passes.Counts.{Counts}
-use Rattle.passes.specs.Passes.{countsOf}
+use Rattle.passes.specs.Counts.{countsOf}
 use Rattle.planoutcome.proofs.CountLaws.{counts-held}
 use Rattle.found.specs.Findings.{Found}
 use Rattle.listingtext.specs.Printing.{LinesWritten}

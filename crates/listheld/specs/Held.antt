@@ -1,4 +1,5 @@
 -- What the listing of the job that the work buffer holds asks and leaves.
+-- Inner contracts: what functions ask of and leave to each other. No promise is stated in them; a reader need not believe them.
 -- Assumes nothing.
 use mathlib.Core.Path.{_≡_}
 use mathlib.Core.List.{List}
@@ -6,7 +7,8 @@ use Prim.Native.Nat.{ℕ}
 use lib.ListN.{length}
 use lib.Seq.{sets}
 use Rattle.job.specs.Job.{Job}
-use Rattle.buffer.specs.Layout.{nodesPart, workSize}
+use Rattle.buffer.specs.Buffer.{workSize}
+use Rattle.buffer.specs.Layout.{nodesPart}
 use Rattle.buffer.specs.Kept.{SameOutside}
 use Rattle.tables.specs.Held.{JobHeld}
 use Rattle.listoutcome.specs.ListCall.{bytesFor}

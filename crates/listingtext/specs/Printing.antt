@@ -1,4 +1,5 @@
--- The lines that are written of what was found: the contracts of the parts, which a first reading may leave out.
+-- The lines that are written of what was found.
+-- Inner contracts: what functions ask of and leave to each other. No promise is stated in them; a reader need not believe them.
 -- Assumes nothing.
 use mathlib.Core.Path.{_≡_}
 use mathlib.Core.Bool.{Bool, cond}
@@ -10,7 +11,7 @@ use Rattle.job.specs.Job.{pointOf, Job, nodeAt}
 use Rattle.job.specs.Listing.{planOf, lineOf, listingOf}
 use Rattle.jobfile.specs.ListingLines.{shadowsBytes, listingBytes}
 use Rattle.passes.specs.declared.passes.Counts.{Counts}
-use Rattle.passes.specs.Passes.{countsOf}
+use Rattle.passes.specs.Counts.{countsOf}
 use Rattle.found.specs.Findings.{FoundHeld}
 
 -- a mark as a number

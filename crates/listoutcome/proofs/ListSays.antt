@@ -1,6 +1,6 @@
 -- What a caller of listing has: the lines in its buffer, and the answer read back from the number.
 -- Assumes nothing.
-use mathlib.Core.Path.{_≡_, refl, sym, ap, _∙_}
+use mathlib.Core.Path.{_≡_, refl, sym, _∙_}
 use mathlib.Core.Bool.{Bool, true≢false, _||_}
 use mathlib.Core.List.{List}
 use Prim.Native.Nat.{ℕ, _+_, _-_, _≤_}
@@ -13,7 +13,7 @@ use Rattle.callnumber.specs.CallNumber.{acceptedFrom}
 use Rattle.jobfile.specs.File.{Answer, accepted, turned}
 use Rattle.jobfile.proofs.SpellableLaws.{read-written}
 use Rattle.jobfile.proofs.ListingLength.{listing-in-buffer}
-use Rattle.buffer.specs.Layout.{workSize}
+use Rattle.buffer.specs.Buffer.{workSize}
 use Rattle.admission.specs.Admission.{admitted}
 use Rattle.admission.proofs.AdmissionLaws.{admitted-spells, admitted-reads, admitted-small}
 use Rattle.admission.proofs.CallLaws.{written-first}

@@ -12,7 +12,7 @@ use Rattle.job.specs.Job.{Job}
 use Rattle.job.specs.Listing.{listingOf}
 use Rattle.jobfile.specs.File.{Answer, accepted, turned}
 use Rattle.jobfile.specs.ListingLines.{listingBytes}
-use Rattle.buffer.specs.Layout.{workSize}
+use Rattle.buffer.specs.Buffer.{workSize}
 use Rattle.admission.specs.Admission.{admitted}
 use Rattle.listoutcome.specs.declared.list.Listed.{Listed}
 use Rattle.listoutcome.specs.declared.list.Listed.the-variants.{Length, Refused}

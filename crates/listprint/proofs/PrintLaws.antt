@@ -19,7 +19,7 @@ use Rattle.jobfile.proofs.RefusalLaws.{turned-says}
 use Rattle.jobfile.proofs.SpellableLaws.{read-written}
 use Rattle.jobfile.proofs.ListingLength.{refused-length, listing-in-buffer}
 use Rattle.jobfile.proofs.ListingFits.{listing-fits}
-use Rattle.buffer.specs.Layout.{workSize}
+use Rattle.buffer.specs.Buffer.{workSize}
 use Rattle.admission.specs.Admission.{admitted, workAfter}
 use Rattle.listoutcome.specs.declared.list.Listed.{Listed}
 use Rattle.listoutcome.specs.declared.list.Listed.the-variants.{Length, Refused}

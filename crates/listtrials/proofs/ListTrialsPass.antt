@@ -20,8 +20,7 @@ use Rattle.lines.specs.Lines.{linesOf}
 use Rattle.jobfile.specs.File.{Answer, accepted, turned, maxFile, finalsOf, someEntry, readRest, readJob}
 use Rattle.jobfile.specs.FileTrials.{linesIn}
 use Rattle.jobfile.specs.ListingLines.{shadowsBytes, listingBytes}
-use Rattle.buffer.specs.Layout.{workSize}
-use Rattle.buffer.specs.Kept.{cleared}
+use Rattle.buffer.specs.Buffer.{workSize, cleared}
 use Rattle.admission.specs.Admission.{workAfter}
 use Rattle.admission.proofs.AdmissionLaws.{long-enough, admitted-read}
 use Rattle.listoutcome.specs.ListCall.{listingSize, listedOf, listingAfter, bytesFor}

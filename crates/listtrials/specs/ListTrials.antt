@@ -11,8 +11,7 @@ use lib.Seq.{sets}
 use Rattle.job.specs.Trials.{turn, lastSeal, writeTwice, aroundTheRing}
 use Rattle.jobfile.specs.File.{Answer, writeJob}
 use Rattle.jobfile.specs.FileTrials.{linesIn, pairFile, smallHead, smallRule, smallNode, withNode}
-use Rattle.buffer.specs.Layout.{Lent}
-use Rattle.buffer.specs.Kept.{cleared}
+use Rattle.buffer.specs.Buffer.{workSize, cleared}
 use Rattle.admission.specs.Admission.{workAfter}
 use Rattle.listoutcome.specs.declared.list.Listed.{Listed}
 use Rattle.listoutcome.specs.declared.list.Listed.the-variants.{Length, Refused}
@@ -37,7 +36,7 @@ pub record ListedSo (t : CallTrial) (a : Answer) (work listing : List ℕ) : Typ
 -- so for any work buffer and any listing buffer that are long enough
 abbrev pub ListsSo : CallTrial → Type 0
 ListsSo t =
-    (work listing : List ℕ) → Lent work → listingSize ≤ length listing
+    (work listing : List ℕ) → workSize ≤ length work → listingSize ≤ length listing
     → ListedSo t (listAnswer (t .file) (length work) (length listing)) work listing
 
 infixr 5 _and_

@@ -9,7 +9,6 @@ use native.Mathlib.Nat.{mod-eq-of-lt}
 use native.Mathlib.Omega.{arith}
 use borrow.Author.Tests.{eqb-true, eqb-false}
 use lib.Dec.{eqb}
-use lib.ListN.{length}
 use lib.Bits.{bitAnd}
 use Rattle.laws.specs.Bits.{has}
 use Rattle.laws.proofs.Bits.{has-below, has-empty}

@@ -1,6 +1,5 @@
 // The marks of the rows of pairs that may have grown.
 ghost use Prim.Native.Nat.{_<_, _≤_};
-ghost use lib.ListN.{length};
 ghost use Rattle.buffer.specs.Layout.{Lent};
 ghost use Rattle.tables.specs.Tables.{NextMarked, MarksTaken};
 use buffer::MARKS;

@@ -1,4 +1,5 @@
 -- A row of pairs past a node, on values: a state of the full monitor, and a set of states of the residual one.
+-- Inner contracts: what functions ask of and leave to each other. No promise is stated in them; a reader need not believe them.
 -- Assumes nothing.
 use mathlib.Core.Bool.{Bool, true, false}
 use mathlib.Core.List.{List}

@@ -1,7 +1,6 @@
 // The states told apart before a node, and before the successors of one.
 ghost use mathlib.Core.Path.{_≡_};
 ghost use Prim.Native.Nat.{_<_, _≤_};
-ghost use lib.ListN.{length};
 ghost use Rattle.buffer.specs.Layout.{Lent};
 ghost use Rattle.tables.specs.Rows.{CellsBelow};
 ghost use Rattle.tables.specs.Held.{EdgesWithin};

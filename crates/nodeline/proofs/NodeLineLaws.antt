@@ -8,7 +8,8 @@ use native.Mathlib.Omega.{arith}
 use lib.Dec.{lit<}
 use lib.ListN.{take, drop}
 use Rattle.lines.specs.declared.field.Field.the-variants.{Number, Malformed}
-use Rattle.lines.specs.Line.{Due, found, lineOf, noRow, rowOf, Framed, at}
+use Rattle.lines.specs.Inner.{noRow, rowOf, Framed}
+use Rattle.lines.specs.Line.{Due, found, lineOf, at}
 use Rattle.jobfile.specs.File.{nodeLine, nodeOf}
 use Rattle.jobhead.specs.Stored.{NodeStored}
 use Rattle.framing.specs.Framing.{collected}

@@ -2,7 +2,6 @@
 ghost use mathlib.Core.Path.{_≡_};
 ghost use mathlib.Core.List.{[], _∷_};
 ghost use Prim.Native.Nat.{_<_, _≤_};
-ghost use lib.ListN.{length};
 ghost use Rattle.jobfile.specs.File.{goodValue, goodNode, nodeOf};
 ghost use Rattle.buffer.specs.Layout.{Lent};
 ghost use Rattle.jobhead.specs.Stored.{NodeStored};

@@ -13,7 +13,8 @@ use lib.Seq.{take-suc, length-take-le, getD-take, getD-drop, take-set-lt, drop-s
 use Rattle.buffer.proofs.KeptLaws.{kept-same, kept-then, kept-fewer, outside-part}
 use Rattle.job.specs.Job.{Job}
 use Rattle.job.specs.Plan.{enables}
-use Rattle.buffer.specs.Layout.{pairPart, planPart, rulePart, workSize, Lent}
+use Rattle.buffer.specs.Buffer.{workSize}
+use Rattle.buffer.specs.Layout.{pairPart, planPart, rulePart, Lent}
 use Rattle.buffer.specs.Views.{nodeIn, enabledIn}
 use Rattle.buffer.specs.Kept.{SameOutside}
 use Rattle.tables.specs.Tables.{SearchKept}

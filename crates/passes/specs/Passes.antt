@@ -1,12 +1,12 @@
--- The plan in the work buffer, and what a try, a pass and planning leave there: the contracts of the parts, which a first reading may leave
--- out but for `countsOf`.
+-- The plan in the work buffer, and what a try, a pass and planning leave there.
+-- Inner contracts: what functions ask of and leave to each other. No promise is stated in them; a reader need not believe them.
 -- Assumes nothing.
 use mathlib.Core.Path.{_≡_}
 use mathlib.Core.Logic.{_⊎_}
 use mathlib.Core.Bool.{cond}
 use mathlib.Core.List.{List}
 use Prim.Native.Nat.{ℕ, _≤_, _<_}
-use lib.ListN.{length, getD, take, drop}
+use lib.ListN.{take, drop}
 use Rattle.job.specs.Job.{Job}
 use Rattle.job.specs.Planning.{allEnabled, tried, passed, enabledCount}
 use Rattle.job.specs.Listing.{planOf}
@@ -17,12 +17,13 @@ use Rattle.buffer.specs.Kept.{SameOutside, Kept, Outside}
 use Rattle.laws.specs.Bounded.{sumBelow}
 use Rattle.tables.specs.Held.{JobHeld, AfterHeld}
 use Rattle.passes.specs.declared.passes.Counts.{Counts}
+use Rattle.passes.specs.Counts.{countsOf}
 
 -- the plan of the first nodes
 unfoldable pub planIn : List ℕ → ℕ → List ℕ
 planIn work nodes = take nodes (drop planPart work)
 
--- the bytes apart from the rows of pairs, the plan and the marks are as they were
+-- only the rows of pairs and the bytes from the plan up to the end of the marks are touched
 abbrev pub PlanningKept : List ℕ → List ℕ → Type 0
 PlanningKept = Kept (λ k. Outside pairPart classPart k × Outside planPart marksEnd k)
 
@@ -99,11 +100,6 @@ pub record PassesMade (table : List (List ℕ)) (finals states nodes : ℕ) (l m
 -- the enabled nodes, counted
 unfoldable pub enabledTotal : List ℕ → ℕ → ℕ
 enabledTotal work nodes = sumBelow nodes (λ n. cond (enabledIn work n) 1 0)
-
--- "the counts of event nodes, watched points and passes"
-abbrev pub countsOf : Job → Counts
-countsOf j =
-    record { shadows = enabledCount (allEnabled j); enabled = enabledCount (planOf j .plan); passes = planOf j .passes }
 
 -- planning was done: the plan, and the answer, which is the counts
 pub record PlanMade (table : List (List ℕ)) (finals states nodes : ℕ) (l m : List ℕ) (answer : Counts) : Type 0 where

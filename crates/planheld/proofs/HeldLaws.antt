@@ -1,11 +1,12 @@
 -- Laws of the plan of the job that the work buffer holds.
 -- Assumes nothing.
-use mathlib.Core.Path.{_≡_, sym, ap, _∙_, subst}
+use mathlib.Core.Path.{_≡_, ap, _∙_, subst}
 use mathlib.Core.List.{List}
 use Prim.Native.Nat.{ℕ, _+_, _≤_, _<_}
 use native.Mathlib.Omega.{arith}
 use lib.Seq.{sets}
-use Rattle.buffer.specs.Layout.{nodesPart, pairPart, classPart, foundPart, workSize}
+use Rattle.buffer.specs.Buffer.{workSize}
+use Rattle.buffer.specs.Layout.{nodesPart, pairPart, classPart, foundPart}
 use Rattle.buffer.specs.Kept.{SameOutside}
 use Rattle.buffer.proofs.KeptLaws.{kept-none, kept-both}
 use Rattle.tables.specs.Held.{Usable}

@@ -5,7 +5,8 @@ ghost use lib.ListN.{length, getD};
 ghost use Rattle.laws.specs.Bounded.{allBelow};
 ghost use Rattle.buffer.specs.Layout.{Lent};
 ghost use Rattle.buffer.specs.Views.{nodeIn};
-ghost use Rattle.checking.specs.Checking.{goodMark, PlanStored};
+ghost use Rattle.checking.specs.Inner.{PlanStored};
+ghost use Rattle.checking.specs.Checking.{goodMark};
 use buffer::PLAN;
 use nodereads::is_shadow;
 

@@ -2,7 +2,7 @@
 -- from the number.
 -- Assumes nothing.
 use mathlib.Core.Path.{_≡_, refl, sym, ap, _∙_, subst}
-use mathlib.Core.Bool.{Bool, true, cond, _||_, true≢false}
+use mathlib.Core.Bool.{Bool, true, _||_, true≢false}
 use mathlib.Core.List.{List}
 use Prim.Native.Nat.{ℕ, _+_, _*_, _^_, _/_, _%_, _≤_, _<_}
 use native.Mathlib.Omega.{arith}
@@ -18,10 +18,9 @@ use Rattle.job.specs.Search.{faithful}
 use Rattle.job.proofs.PlanningResult.{planned-plan, planned-counts}
 use Rattle.jobfile.specs.File.{Answer, accepted, turned, readJob}
 use Rattle.jobfile.proofs.SpellableLaws.{read-written}
-use Rattle.buffer.specs.Layout.{workSize}
+use Rattle.buffer.specs.Buffer.{workSize}
 use Rattle.passes.specs.declared.passes.Counts.{Counts}
-use Rattle.passes.specs.Passes.{countsOf}
-use Rattle.planoutcome.specs.declared.plan.Outcome.{Outcome}
+use Rattle.passes.specs.Counts.{countsOf}
 use Rattle.planoutcome.specs.declared.plan.Outcome.the-variants.{Planned, Refused}
 use Rattle.admission.specs.Admission.{admitted, WrittenFirst}
 use Rattle.planoutcome.specs.PlanCall.{planSize, planAnswer, outcomeOf, planAfter, planNumber}

@@ -8,8 +8,8 @@ use lib.Seq.{sets}
 use Rattle.callnumber.specs.CallNumber.{acceptedFrom}
 use Rattle.job.specs.Listing.{planOf}
 use Rattle.jobfile.specs.File.{Answer, accepted, turned}
-use Rattle.buffer.specs.Layout.{workSize}
-use Rattle.passes.specs.Passes.{countsOf}
+use Rattle.buffer.specs.Buffer.{workSize}
+use Rattle.passes.specs.Counts.{countsOf}
 use Rattle.admission.specs.Admission.{admitted}
 use Rattle.planoutcome.specs.declared.plan.Outcome.{Outcome}
 use Rattle.planoutcome.specs.declared.plan.Outcome.the-variants.{Planned, Refused}

@@ -14,7 +14,7 @@ use Rattle.job.specs.Plan.{IsPlan}
 use Rattle.job.specs.Listing.{planOf}
 use Rattle.jobfile.specs.File.{Answer, accepted, turned}
 use Rattle.passes.specs.declared.passes.Counts.{Counts}
-use Rattle.passes.specs.Passes.{countsOf}
+use Rattle.passes.specs.Counts.{countsOf}
 use Rattle.admission.specs.Admission.{WrittenFirst}
 use Rattle.planoutcome.specs.declared.plan.Outcome.{Outcome}
 use Rattle.planoutcome.specs.declared.plan.Outcome.the-variants.{Planned, Refused}

@@ -11,7 +11,7 @@ use Rattle.twomonitors.proofs.TwoMonitors.{plan-keeps-alarms}
 use Rattle.jobfile.specs.File.{maxFile, writeJob}
 use Rattle.jobfile.proofs.Longest.{longest-file}
 use Rattle.jobfile.proofs.SpellableLaws.{accepted-written, accepted-well-formed}
-use Rattle.buffer.specs.Layout.{workSize}
+use Rattle.buffer.specs.Buffer.{workSize}
 use Rattle.admission.specs.Admission.{admitted}
 use Rattle.planoutcome.specs.PlanCall.{planSize}
 use Rattle.planoutcome.proofs.PlanAfterLaws.{plan-answer-reads, plan-after-plan}

@@ -4,7 +4,7 @@
 use Rattle.events.specs.Form.{EventForm, FormMoves, valueForm, lentForm}
 use Rattle.events.proofs.MonitorLaws.{report-by-number}
 use Rattle.events.proofs.FormLaws.{value-moves, lent-moves}
-use Rattle.twomonitors.specs.Monitors.{RecordsExist, RefusedExist, ListsExist}
+use Rattle.twomonitors.specs.Monitors.{RecordsExist, RefusedExist}
 use Rattle.twomonitors.proofs.MonitorsMore.{FormGives, lists-exist}
 use Rattle.twomonitors.proofs.OrderLaws.{any-order}
 use Rattle.planoutcome.proofs.PlanAfterLaws.{plan-bytes-say, seen-by-number}

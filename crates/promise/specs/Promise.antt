@@ -11,7 +11,7 @@ use Rattle.job.specs.Job.{Job}
 use Rattle.twomonitors.specs.Monitors.{AlarmsKept, PointsNeeded, ListsExist, AnyOrder}
 use Rattle.jobfile.specs.File.{accepted, writeJob}
 use Rattle.jobfile.specs.Spellable.{Spellable}
-use Rattle.buffer.specs.Layout.{workSize}
+use Rattle.buffer.specs.Buffer.{workSize}
 use Rattle.planoutcome.specs.PlanCall.{planSize, planAnswer, planAfter}
 use Rattle.planoutcome.specs.PlanSays.{PlanBytesSay, SeenByNumber}
 use Rattle.eventbytes.specs.Form.{callForm}

@@ -14,7 +14,8 @@ use Rattle.laws.specs.Bounded.{allBelow}
 use Rattle.laws.proofs.Bounded.{all-cong, all-at, all-of}
 use Rattle.laws.proofs.Tests.{fails-of}
 use Rattle.lines.specs.declared.line.Row.{Row}
-use Rattle.lines.specs.Line.{lineOf, rowOf, at}
+use Rattle.lines.specs.Inner.{rowOf}
+use Rattle.lines.specs.Line.{lineOf, at}
 use Rattle.jobfile.specs.File.{goodRule, ruleLine}
 use Rattle.buffer.specs.Layout.{rulePart}
 use Rattle.jobhead.specs.Stored.{RowStored}

@@ -2,7 +2,7 @@
 ghost use mathlib.Core.Path.{_≡_};
 ghost use Prim.Native.Nat.{ℕ, _+_, _<_, _≤_};
 ghost use lib.Dec.{ltb};
-ghost use lib.ListN.{length, getD};
+ghost use lib.ListN.{getD};
 ghost use Rattle.laws.specs.Bounded.{allBelow};
 ghost use Rattle.buffer.specs.Layout.{Lent};
 ghost use Rattle.jobhead.specs.Stored.{RowStored, RuleCleared};

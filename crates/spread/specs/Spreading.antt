@@ -1,4 +1,5 @@
 -- What moving a row by each symbol of a call set leaves.
+-- Inner contracts: what functions ask of and leave to each other. No promise is stated in them; a reader need not believe them.
 -- Assumes nothing.
 use mathlib.Core.Path.{_≡_}
 use mathlib.Core.Logic.{_⊎_}

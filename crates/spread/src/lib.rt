@@ -1,6 +1,5 @@
 // A row of pairs moved by the symbols of a call word.
 ghost use Prim.Native.Nat.{_<_, _≤_};
-ghost use lib.ListN.{length};
 ghost use Rattle.buffer.specs.Layout.{Lent};
 ghost use Rattle.tables.specs.Rows.{CellsBelow};
 ghost use Rattle.spread.specs.Spreading.{Spread};

@@ -1,6 +1,5 @@
 // The starts of a search in the rows of pairs.
 ghost use Prim.Native.Nat.{_≤_, _<_};
-ghost use lib.ListN.{length};
 ghost use Rattle.buffer.specs.Layout.{Lent};
 ghost use Rattle.starts.specs.Started.{StartedNode, Started};
 use clearing::clear_marks;

@@ -7,7 +7,6 @@ use mathlib.Core.List.{List}
 use Prim.Native.Nat.{ℕ, suc, _+_, _*_, _≤_, _<_}
 use native.Mathlib.Nat.{lt-of-lt-of-le}
 use native.Mathlib.Omega.{arith}
-use lib.ListN.{length, getD}
 use Rattle.buffer.proofs.KeptLaws.{kept-fewer}
 use Rattle.laws.specs.Bytes.{numberAt}
 use Rattle.laws.proofs.Bytes.{number-cong}

@@ -7,7 +7,6 @@ use Prim.Native.Nat.{ℕ, _+_, _≤_, _<_}
 use native.Mathlib.Nat.{le-refl}
 use native.Mathlib.Omega.{arith}
 use lib.Dec.{eqb}
-use lib.ListN.{getD}
 use Rattle.buffer.proofs.KeptLaws.{kept-same, kept-then, kept-fewer}
 use Rattle.job.specs.Job.{Job}
 use Rattle.buffer.specs.Layout.{planPart}

@@ -1,13 +1,14 @@
 -- The tables of the searches in the work buffer: what the functions on them ask and leave.
+-- Inner contracts: what functions ask of and leave to each other. No promise is stated in them; a reader need not believe them.
 -- Assumes nothing.
 use mathlib.Core.Path.{_≡_}
 use mathlib.Core.Logic.{_⊎_}
-use mathlib.Core.Bool.{Bool, true, false, cond}
+use mathlib.Core.Bool.{true, false, cond}
 use mathlib.Core.List.{List}
-use Prim.Native.Nat.{ℕ, suc, _+_, _-_, _*_, _≤_, _<_}
+use Prim.Native.Nat.{ℕ, _+_, _-_, _*_, _≤_, _<_}
 use lib.Dec.{eqb}
 use lib.Bits.{bitOr}
-use lib.ListN.{length, getD}
+use lib.ListN.{getD}
 use Rattle.laws.specs.Bounded.{sumBelow}
 use Rattle.laws.specs.Bits.{has, with}
 use Rattle.laws.specs.Bytes.{numberAt, putNumber}

@@ -3,12 +3,10 @@
 -- leaves its record, so that the calls after it find the records as before.
 -- Assumes nothing.
 use mathlib.Core.Path.{_≡_, refl, sym, ap, _∙_, subst}
-use mathlib.Core.Bool.{true}
 use mathlib.Core.List.{List, [], _∷_, _++_}
 use Prim.Native.Nat.{ℕ, _<_}
 use Rattle.automaton.specs.Automaton.{Automaton, WellFormed}
 use Rattle.events.specs.Form.{EventForm, RefusalKeeps, FormMoves}
-use Rattle.job.specs.Job.{Job, WellFormedJob}
 use Rattle.job.specs.Walk.{Event, symbolOf}
 use Rattle.job.specs.Plan.{Enabling, enables}
 use Rattle.twomonitors.specs.Monitors.{Entry, walked, on-full, on-planned, elsewhere, eventsIn, Both, afterEntry, afterList, ProperList, PassableList, RecordsExist, CallsExist, StandsBetween, RefusedAnywhere, RefusedExist, ListsExist}

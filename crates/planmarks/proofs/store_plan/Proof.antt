@@ -4,10 +4,9 @@
 use mathlib.Core.Path.{_≡_, subst}
 use Prim.Native.Nat.{ℕ, _-_, _≤_}
 use native.Mathlib.Omega.{arith}
-use lib.ListN.{length}
 use borrow.Author.Needs.{needs}
 use Rattle.buffer.specs.Layout.{Lent}
-use Rattle.checking.specs.Checking.{PlanStored}
+use Rattle.checking.specs.Inner.{PlanStored}
 use Rattle.checking.proofs.PlanLaws.{plan-none, plan-more}
 use Rattle.planmarks.proofs.store_plan.Statement.{statement}
 use Rattle.planmarks.proofs.store_plan.Tie as tie

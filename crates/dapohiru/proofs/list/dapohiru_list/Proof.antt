@@ -6,7 +6,7 @@ use mathlib.Core.Bool.{_||_}
 use lib.Dec.{ltb}
 use lib.ListN.{length}
 use borrow.Author.Needs.{needs}
-use Rattle.buffer.specs.Layout.{workSize}
+use Rattle.buffer.specs.Buffer.{workSize}
 use Rattle.listoutcome.specs.ListCall.{listingSize, listNumber}
 use Rattle.dapohiru.proofs.FitsLaws.{listed-fits}
 use Rattle.dapohiru.proofs.list.dapohiru_list.Statement.{statement}

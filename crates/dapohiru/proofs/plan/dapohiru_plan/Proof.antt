@@ -6,7 +6,7 @@ use mathlib.Core.Bool.{_||_}
 use lib.Dec.{ltb}
 use lib.ListN.{length}
 use borrow.Author.Needs.{needs}
-use Rattle.buffer.specs.Layout.{workSize}
+use Rattle.buffer.specs.Buffer.{workSize}
 use Rattle.planoutcome.specs.PlanCall.{planSize, planNumber}
 use Rattle.dapohiru.proofs.FitsLaws.{outcome-fits}
 use Rattle.dapohiru.proofs.plan.dapohiru_plan.Statement.{statement}

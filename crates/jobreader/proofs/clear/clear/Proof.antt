@@ -6,8 +6,8 @@ use mathlib.Core.Path.{_≡_, _∙_}
 use native.Mathlib.Omega.{arith}
 use borrow.Author.Needs.{needs}
 use lib.ListN.{length, length-set}
-use Rattle.buffer.specs.Layout.{workSize, Lent}
-use Rattle.buffer.specs.Kept.{filled}
+use Rattle.buffer.specs.Buffer.{workSize, filled}
+use Rattle.buffer.specs.Layout.{Lent}
 use Rattle.jobreader.proofs.ClearLaws.{filled-none, filled-more, filled-end}
 use Rattle.jobreader.proofs.clear.clear.Statement.{statement}
 use Rattle.jobreader.proofs.clear.clear.Tie as tie
