@@ -1,4 +1,4 @@
-// The number that a C call returns for each answer of the plan check, of planning and of listing.
+// The number that a C call returns for each answer of planning and of listing.
 ghost use mathlib.Core.Path.{_≡_};
 ghost use Rattle.planoutcome.specs.PlanCall.{planNumber};
 ghost use Rattle.listoutcome.specs.ListCall.{listNumber};
