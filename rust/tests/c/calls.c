@@ -3,6 +3,7 @@
  * every byte that was lent. Prints how many tests there were; status 1 if one failed. Compiles as C99 and as C++.
  */
 #include "dapohiru.h"
+#include "pair.h"
 
 #include <stdio.h>
 #include <stdlib.h>
@@ -11,22 +12,6 @@
 /* Bytes past each buffer that no call may change. */
 #define PAST 64
 #define FILL 0xa5
-
-static const char PAIR[] = "J     3     3     3     2\n"
-                           "R     0     0     1     0     0\n"
-                           "R     1     0     1     0     2\n"
-                           "R     2     1     1     0     2\n"
-                           "P     0     1     0     1     0     0\n"
-                           "P     1     1     0     0     0     0\n"
-                           "P     2     1     2     0     1     0\n"
-                           "F     0     1\n"
-                           "F     1     2\n";
-static const char LINES[] = "W     0     0     1     1     1     0\n"
-                            "W     1     0     2     2     1     1\n"
-                            "W     2     2     2     1     0     1\n"
-                            "T     3     2     2\n";
-#define PAIR_LEN (sizeof PAIR - 1)
-#define LINES_LEN (sizeof LINES - 1)
 
 static int tests, failures;
 
@@ -70,6 +55,14 @@ static int work_after(uint64_t answer)
     return all(work, DAPOHIRU_WORK_LEN, kept ? FILL : 0) && all(work + DAPOHIRU_WORK_LEN, PAST, FILL);
 }
 
+/* Asks that the check of a plan for PAIR gives this answer, and leaves the work buffer as such an answer does. */
+static void checked(uint64_t answer, const uint8_t *own, size_t own_len)
+{
+    fresh();
+    HOLD(dapohiru_check(file, PAIR_LEN, own, own_len, work, sizeof work) == answer);
+    HOLD(work_after(answer));
+}
+
 static void pair_is_planned_listed_and_checked(void)
 {
     static const uint8_t planned[] = {0, 1, 1}, own[] = {1, 0, 1}, none[] = {0, 0, 1};
@@ -90,12 +83,8 @@ static void pair_is_planned_listed_and_checked(void)
     HOLD(all(listing + LINES_LEN, sizeof listing - LINES_LEN, FILL));
     HOLD(work_after(answer));
 
-    fresh();
-    HOLD(dapohiru_check(file, PAIR_LEN, own, 3, work, sizeof work) == DAPOHIRU_FAITHFUL);
-    HOLD(work_after(DAPOHIRU_FAITHFUL));
-    fresh();
-    HOLD(dapohiru_check(file, PAIR_LEN, none, 3, work, sizeof work) == DAPOHIRU_DIFFERENT);
-    HOLD(work_after(DAPOHIRU_DIFFERENT));
+    checked(DAPOHIRU_FAITHFUL, own, 3);
+    checked(DAPOHIRU_DIFFERENT, none, 3);
 }
 
 /* Asks that the three calls on the file refuse it by this number, and leave what a refusal leaves. */
@@ -165,16 +154,10 @@ static void plans_are_refused_by_number(void)
 {
     uint8_t own[] = {1, 0, 1, 0};
 
-    fresh();
-    HOLD(dapohiru_check(file, PAIR_LEN, own, 2, work, sizeof work) == DAPOHIRU_BAD_PLAN_LENGTH);
-    HOLD(work_after(DAPOHIRU_BAD_PLAN_LENGTH));
-    fresh();
-    HOLD(dapohiru_check(file, PAIR_LEN, own, 4, work, sizeof work) == DAPOHIRU_BAD_PLAN_LENGTH);
-    HOLD(work_after(DAPOHIRU_BAD_PLAN_LENGTH));
-    fresh();
+    checked(DAPOHIRU_BAD_PLAN_LENGTH, own, 2);
+    checked(DAPOHIRU_BAD_PLAN_LENGTH, own, 4);
     own[2] = 2;
-    HOLD(dapohiru_check(file, PAIR_LEN, own, 3, work, sizeof work) == DAPOHIRU_BAD_PLAN_BYTE);
-    HOLD(work_after(DAPOHIRU_BAD_PLAN_BYTE));
+    checked(DAPOHIRU_BAD_PLAN_BYTE, own, 3);
     HOLD(own[0] == 1 && own[1] == 0 && own[2] == 2 && own[3] == 0);
     HOLD(memcmp(file, PAIR, PAIR_LEN) == 0);
 }

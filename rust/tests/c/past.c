@@ -3,22 +3,10 @@
  * reach past it: past job | work | plan | listing | checked | rule | record.
  */
 #include "dapohiru.h"
+#include "pair.h"
 
 #include <stdlib.h>
 #include <string.h>
-
-static const char PAIR[] = "J     3     3     3     2\n"
-                           "R     0     0     1     0     0\n"
-                           "R     1     0     1     0     2\n"
-                           "R     2     1     1     0     2\n"
-                           "P     0     1     0     1     0     0\n"
-                           "P     1     1     0     0     0     0\n"
-                           "P     2     1     2     0     1     0\n"
-                           "F     0     1\n"
-                           "F     1     2\n";
-#define PAIR_LEN (sizeof PAIR - 1)
-/* PAIR's listing */
-#define LINES_LEN (3 * 38 + 20)
 
 /* An allocation of len bytes, or of less if it is the one that is named. */
 static uint8_t *lent(const char *short_one, const char *name, size_t len, size_t less)
