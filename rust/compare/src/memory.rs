@@ -1,11 +1,14 @@
 //! Memory that calls are made on, with every byte that they could reach looked at afterwards, and
 //! counts of their answers.
 use dapohiru_generators::random::Random;
+use dapohiru_second::reading::WORK;
 use std::collections::BTreeMap;
-use std::fmt::Debug;
+use std::fmt::{Debug, Display};
 
 /// An F line, to stand past a file in memory.
 pub const PAST_FILE: &[u8] = b"F     0     0\n";
+/// The longest work buffer that is lent.
+pub const MOST_WORK: usize = 70_000;
 /// The bytes on both sides of a buffer, which no call may change.
 const MARGIN: usize = 64;
 
@@ -89,6 +92,61 @@ impl Lent {
     }
 }
 
+/// What every call on a file is lent: the file and a work buffer.
+pub struct Buffers {
+    /// Places the next buffers.
+    pub random: Random,
+    pub work: Lent,
+    pub file: Lent,
+}
+
+impl Buffers {
+    /// Buffers that are filled and placed from this seed on.
+    pub fn new(seed: u64) -> Self {
+        let mut random = Random(seed);
+        Buffers {
+            work: Lent::new(&mut random, MOST_WORK, 1),
+            file: Lent::new(&mut random, 0, 1),
+            random,
+        }
+    }
+
+    /// A fresh work buffer of this length, and a file with other bytes right past it.
+    pub fn fresh(&mut self, work_len: usize, file: &[u8], past: &[u8]) {
+        self.work.fresh(&mut self.random, work_len);
+        self.file.holding(file, past);
+    }
+
+    /// Says so if a call with this answer has changed the file.
+    pub fn keeps_file(&self, answer: &impl Debug) -> Result<(), String> {
+        match self.file.is_unchanged() {
+            true => Ok(()),
+            false => Err(format!("{answer:?} changes the file or bytes beside it")),
+        }
+    }
+
+    /// How many bytes of the work buffer a call with this answer has cleared, all of them or none; says
+    /// so if it has left another byte than those.
+    pub fn cleared(&self, answer: &impl Debug) -> Result<usize, String> {
+        if self.work.is_unchanged() {
+            return Ok(0);
+        }
+        match self.work.is_cleared(WORK) {
+            true => Ok(WORK),
+            false => Err(format!(
+                "after {answer:?} a work buffer of {} bytes is neither as it was nor zero in its first {WORK} bytes alone",
+                self.work.len
+            )),
+        }
+    }
+}
+
+/// The start of a file, for a message: each line in a line of its own.
+pub fn start_of(file: &[u8]) -> String {
+    let start = &file[..file.len().min(2_000)];
+    start.escape_ascii().to_string().replace("\\n", "\\n\n")
+}
+
 /// Whether all of these bytes are zero.
 fn is_zero(bytes: &[u8]) -> bool {
     const ZEROS: [u8; 4_096] = [0; 4_096];
@@ -109,6 +167,15 @@ impl<T> Default for Counts<T> {
 impl<T: Ord + Copy + Debug> Counts<T> {
     pub fn add(&mut self, answer: T) {
         *self.0.entry(answer).or_default() += 1;
+    }
+
+    /// Adds the answer that both agree on, or fails with how they differ at what is named.
+    #[track_caller]
+    pub fn agree(&mut self, name: impl Display, answer: Result<T, String>) {
+        match answer {
+            Ok(answer) => self.add(answer),
+            Err(why) => panic!("{name}: {why}"),
+        }
     }
 
     pub fn of(&self, answer: T) -> u64 {

@@ -6,9 +6,7 @@ use dapohiru_second::step::{Answer, Second};
 
 /// What the library answers, with the record altered as it does.
 pub fn answer(library: Library, call: &mut Call) -> Answer {
-    let (states, symbols, finals, symbol) = (call.states, call.symbols, call.finals, call.symbol);
-    let (rule, record) = call.lend();
-    match (library.event)(rule, states, symbols, finals, symbol, record) {
+    match call.by(library.event) {
         ACCEPTED => Answer::Quiet,
         ALARM => Answer::Alarm,
         number => Answer::Refused(number),
@@ -17,9 +15,9 @@ pub fn answer(library: Library, call: &mut Call) -> Answer {
 
 /// What the second implementation answers, with the record altered as it does.
 fn second_answer(second: Second, call: &mut Call) -> Answer {
-    let (states, symbols, finals, symbol) = (call.states, call.symbols, call.finals, call.symbol);
-    let (rule, record) = call.lend();
-    second.event(rule, states, symbols, finals, symbol, record)
+    call.by(|rule, states, symbols, finals, symbol, record| {
+        second.event(rule, states, symbols, finals, symbol, record)
+    })
 }
 
 /// What a comparison of one call finds: the library's answer, or in words how the two differ.

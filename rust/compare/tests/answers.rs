@@ -11,7 +11,7 @@ mod stored;
 use dapohiru::numbers::{self, ACCEPTED};
 use dapohiru_generators::damage::damaged;
 use dapohiru_generators::events::Call;
-use dapohiru_generators::faults::{self, NUMBERS};
+use dapohiru_generators::faults::{possible, refused, NUMBERS};
 use dapohiru_generators::large::{self, Order};
 use dapohiru_generators::mixed;
 use dapohiru_generators::random::Random;
@@ -99,11 +99,11 @@ fn job(random: &mut Random, number: u64) -> Job {
 /// A file with damage or with a fault of its own.
 fn damaged_file(random: &mut Random, number: u64) -> Vec<u8> {
     let job = small::job(random);
-    match NUMBERS[number as usize % 8] {
-        _ if number.is_multiple_of(2) => damaged(random, &job),
-        8 if job.edges.is_empty() => faults::refused(random, &job, 10),
-        refusal => faults::refused(random, &job, refusal),
+    if number.is_multiple_of(2) {
+        return damaged(random, &job);
     }
+    let refusal = possible(&job, NUMBERS[number as usize % 8]);
+    refused(random, &job, refusal)
 }
 
 /// The answers to a thousand events, as a hash of their numbers and records.
@@ -111,10 +111,7 @@ fn events(number: u64) -> String {
     let (mut random, mut left) = (random(number), Vec::new());
     for _ in 0..1_000 {
         let mut call = Call::any(&mut random);
-        let (states, symbols, finals, symbol) =
-            (call.states, call.symbols, call.finals, call.symbol);
-        let (rule, record) = call.lend();
-        let answer = numbers::event(rule, states, symbols, finals, symbol, record);
+        let answer = call.by(numbers::event);
         left.extend(answer.to_le_bytes());
         left.extend(call.record());
     }

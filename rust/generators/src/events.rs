@@ -81,10 +81,14 @@ impl Call {
         &self.around[MARGIN..MARGIN + self.record_len]
     }
 
-    /// The rule, and the record to be altered.
-    pub fn lend(&mut self) -> (&[u8], &mut [u8]) {
-        (
+    /// What this event step answers, with the record altered as it does.
+    pub fn by<T>(&mut self, event: impl FnOnce(&[u8], u64, u64, u64, u64, &mut [u8]) -> T) -> T {
+        event(
             &self.rule[..self.rule_len],
+            self.states,
+            self.symbols,
+            self.finals,
+            self.symbol,
             &mut self.around[MARGIN..MARGIN + self.record_len],
         )
     }

@@ -1,10 +1,30 @@
 //! Faults that are put into the file of a job, alone or together.
 use crate::random::Random;
 use dapohiru_second::job::{spell, Job, Line};
+use dapohiru_second::reading::{LONGEST, WORK};
 use std::slice::from_ref;
 
 /// The refusals that a file deserves by what it holds.
 pub const NUMBERS: [u64; 8] = [3, 4, 5, 6, 7, 8, 9, 10];
+
+/// This refusal of [`NUMBERS`], or 10 for one that no file like this job's deserves: 8 asks for an edge.
+pub fn possible(job: &Job, number: u64) -> u64 {
+    match number {
+        8 if job.edges.is_empty() => 10,
+        _ => number,
+    }
+}
+
+/// Makes a file longer than any may be.
+pub fn lengthen(random: &mut Random, file: &mut Vec<u8>) {
+    let len = LONGEST + random.pick(&[1, 1, 2, 20_000]);
+    file.resize(len, b'\n');
+}
+
+/// The length of a work buffer that is too short.
+pub fn short_work(random: &mut Random) -> usize {
+    random.pick(&[0, 1, 32_768, WORK - 1, WORK - 1])
+}
 
 /// A fault of a file, with the lines counted from the J line on.
 #[derive(Clone, Copy, Debug)]

@@ -1,11 +1,12 @@
 //! Random calls: small jobs with all kinds of plans, and calls with faults.
-use super::memory::{Memory, Seen, MOST_WORK};
-use dapohiru_generators::faults::{refused, NUMBERS};
+use super::memory::{Memory, Seen};
+use crate::memory::{start_of, MOST_WORK};
+use dapohiru_generators::faults::{lengthen, possible, refused, short_work, NUMBERS};
 use dapohiru_generators::random::Random;
 use dapohiru_generators::small;
 use dapohiru_second::checking::{check, Call, Outcome};
 use dapohiru_second::job::{Job, EVENT};
-use dapohiru_second::reading::{LONGEST, WORK};
+use dapohiru_second::reading::WORK;
 use dapohiru_second::slip::Slip;
 use dapohiru_second::walk::Walks;
 
@@ -41,15 +42,14 @@ impl Case {
 
     /// Makes the file too long.
     pub fn with_long_file(mut self, random: &mut Random) -> Self {
-        let len = LONGEST + random.pick(&[1, 1, 2, 20_000]);
-        self.file.resize(len, b'\n');
+        lengthen(random, &mut self.file);
         self.unread = self.unread.or(Some(9));
         self
     }
 
     /// Makes the work buffer too short.
     pub fn with_short_work(mut self, random: &mut Random) -> Self {
-        self.work_len = random.pick(&[0, 1, 32_768, WORK - 1, WORK - 1]);
+        self.work_len = short_work(random);
         self
     }
 
@@ -113,13 +113,12 @@ impl Case {
 
     /// The call in words; of a long file only its start.
     pub fn words(&self) -> String {
-        let start = &self.file[..self.file.len().min(2_000)];
         format!(
             "work buffer of {} bytes, plan {:?}, file of {} bytes:\n{}",
             self.work_len,
             self.plan,
             self.file.len(),
-            start.escape_ascii().to_string().replace("\\n", "\\n\n")
+            start_of(&self.file)
         )
     }
 }
@@ -151,8 +150,8 @@ fn faulty_case(random: &mut Random, mut case: Case) -> Case {
             1 => case.with_short_work(random),
             2..=3 if case.unread.is_none() => {
                 let number = random.pick(&NUMBERS);
-                let possible = number != 8 || !case.job.edges.is_empty();
-                case.with_file_fault(random, if possible { number } else { 10 })
+                let number = possible(&case.job, number);
+                case.with_file_fault(random, number)
             }
             4..=5 => case.with_plan_length_fault(random),
             _ => case.with_plan_byte_fault(random),

@@ -1,10 +1,9 @@
 //! One call on memory whose every byte is looked at afterwards.
 use crate::library::Library;
-use crate::memory::{Lent, PAST_FILE};
+use crate::memory::{Buffers, Lent, PAST_FILE};
 use dapohiru::numbers::ACCEPTED;
 use dapohiru_generators::random::Random;
 use dapohiru_second::checking::{Answer, Outcome};
-use dapohiru_second::reading::WORK;
 
 /// What a call answers.
 #[derive(Clone, Copy, Debug, PartialEq, Eq, PartialOrd, Ord)]
@@ -54,63 +53,41 @@ impl Seen {
     }
 }
 
-/// The longest work buffer that is lent.
-pub const MOST_WORK: usize = 70_000;
-
 /// The memory that calls are made on.
 pub struct Memory {
     library: Library,
-    random: Random,
-    work: Lent,
-    file: Lent,
+    buffers: Buffers,
     plan: Lent,
 }
 
 impl Memory {
     /// Memory for calls of this library.
     pub fn new(library: Library) -> Self {
-        let mut random = Random(1);
+        let mut buffers = Buffers::new(1);
         Memory {
             library,
-            work: Lent::new(&mut random, MOST_WORK, 1),
-            file: Lent::new(&mut random, 0, 1),
-            plan: Lent::new(&mut random, 0, 1),
-            random,
+            plan: Lent::new(&mut buffers.random, 0, 1),
+            buffers,
         }
     }
 
     /// Places the next buffers by this seed.
     pub fn begin(&mut self, seed: u64) {
-        self.random = Random(seed);
+        self.buffers.random = Random(seed);
     }
 
     /// Calls the library, and looks at every byte that it could reach.
     pub fn call(&mut self, file: &[u8], plan: &[u8], work_len: usize) -> Result<Seen, String> {
-        self.work.fresh(&mut self.random, work_len);
-        self.file.holding(file, PAST_FILE);
+        self.buffers.fresh(work_len, file, PAST_FILE);
         self.plan.holding(plan, &[]);
-        let said = Said::of((self.library.check)(
-            self.file.bytes(),
-            self.plan.bytes(),
-            self.work.bytes(),
-        ));
-        if !self.file.is_unchanged() {
-            return Err(format!("{said:?} changes the file or bytes beside it"));
-        }
+        let Buffers { file, work, .. } = &mut self.buffers;
+        let number = (self.library.check)(file.bytes(), self.plan.bytes(), work.bytes());
+        let said = Said::of(number);
+        self.buffers.keeps_file(&said)?;
         if !self.plan.is_unchanged() {
             return Err(format!("{said:?} changes the plan or bytes beside it"));
         }
-        if self.work.is_unchanged() {
-            return Ok(Seen { said, cleared: 0 });
-        }
-        if !self.work.is_cleared(WORK) {
-            return Err(format!(
-                "after {said:?} a work buffer of {work_len} bytes is neither as it was nor zero in its first {WORK} bytes alone"
-            ));
-        }
-        Ok(Seen {
-            said,
-            cleared: WORK,
-        })
+        let cleared = self.buffers.cleared(&said)?;
+        Ok(Seen { said, cleared })
     }
 }

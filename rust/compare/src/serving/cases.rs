@@ -1,9 +1,10 @@
 //! Random calls of planning and listing: jobs with buffers that are long enough, and calls with faults.
-use super::memory::{Memory, Said, Seen, MOST_LENT, MOST_WORK};
-use dapohiru_generators::faults::{refused, NUMBERS};
+use super::memory::{Memory, Said, Seen, MOST_LENT};
+use crate::memory::{start_of, MOST_WORK};
+use dapohiru_generators::faults::{lengthen, possible, refused, short_work, NUMBERS};
 use dapohiru_generators::random::Random;
 use dapohiru_second::job::Job;
-use dapohiru_second::reading::{LONGEST, WORK};
+use dapohiru_second::reading::WORK;
 use dapohiru_second::serving::{serve, Call, Given, Service};
 use dapohiru_second::slip::Slip;
 
@@ -36,13 +37,10 @@ impl Case {
         let least = self.service.least();
         match number {
             1 => {
-                let len = LONGEST + random.pick(&[1, 1, 2, 20_000]);
-                self.file.resize(len, b'\n');
+                lengthen(random, &mut self.file);
                 self.unread = self.unread.or(Some(9));
             }
-            2 if random.once_in(2) => {
-                self.work_len = random.pick(&[0, 1, 32_768, WORK - 1, WORK - 1]);
-            }
+            2 if random.once_in(2) => self.work_len = short_work(random),
             2 => {
                 // enough for the plan or the text, too
                 let some = random.pick(&[0, 1, job.nodes.len(), 500, 511]);
@@ -91,14 +89,13 @@ impl Case {
 
     /// The call in words; of a long file only its start.
     fn words(&self) -> String {
-        let start = &self.file[..self.file.len().min(2_000)];
         format!(
             "{:?}, buffers of {} and {} bytes, file of {} bytes:\n{}",
             self.service,
             self.lent_len,
             self.work_len,
             self.file.len(),
-            start.escape_ascii().to_string().replace("\\n", "\\n\n")
+            start_of(&self.file)
         )
     }
 }
@@ -139,8 +136,7 @@ fn faulty_case(random: &mut Random, job: &Job, mut case: Case) -> Case {
     let of_file = random.once_in(2);
     if of_file {
         let number = random.pick(&NUMBERS);
-        let possible = number != 8 || !job.edges.is_empty();
-        case = case.with_fault(random, job, if possible { number } else { 10 });
+        case = case.with_fault(random, job, possible(job, number));
     }
     if !of_file || random.once_in(2) {
         for _ in 0..random.pick(&[1, 1, 2]) {

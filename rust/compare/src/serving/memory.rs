@@ -1,9 +1,8 @@
 //! One call on memory whose every byte is looked at afterwards.
 use crate::library::Library;
-use crate::memory::{Lent, PAST_FILE};
+use crate::memory::{Buffers, Lent, PAST_FILE};
 use dapohiru::numbers::ACCEPTED;
 use dapohiru_generators::random::Random;
-use dapohiru_second::reading::WORK;
 use dapohiru_second::serving::{Answer, Outcome, Service};
 
 /// What a call answers.
@@ -59,37 +58,31 @@ impl Seen {
     }
 }
 
-/// The longest work buffer that is lent.
-pub const MOST_WORK: usize = 70_000;
 /// The longest plan or listing buffer that is lent.
 pub const MOST_LENT: usize = 40_000;
 
 /// The memory that calls are made on.
 pub struct Memory {
     library: Library,
-    random: Random,
-    work: Lent,
-    file: Lent,
+    buffers: Buffers,
     lent: Lent,
 }
 
 impl Memory {
     /// Memory for calls of this library.
     pub fn new(library: Library) -> Self {
-        let mut random = Random(1);
+        let mut buffers = Buffers::new(1);
         Memory {
             library,
-            work: Lent::new(&mut random, MOST_WORK, 1),
-            file: Lent::new(&mut random, 0, 1),
             // neither a plan nor a listing has a byte above 127, so that every byte written is seen
-            lent: Lent::new(&mut random, MOST_LENT, 128),
-            random,
+            lent: Lent::new(&mut buffers.random, MOST_LENT, 128),
+            buffers,
         }
     }
 
     /// Places the next buffers by this seed.
     pub fn begin(&mut self, seed: u64) {
-        self.random = Random(seed);
+        self.buffers.random = Random(seed);
     }
 
     /// Calls the library, and looks at every byte that it could reach.
@@ -100,32 +93,18 @@ impl Memory {
         work_len: usize,
         lent_len: usize,
     ) -> Result<Seen, String> {
-        self.work.fresh(&mut self.random, work_len);
-        self.lent.fresh(&mut self.random, lent_len);
-        self.file.holding(file, PAST_FILE);
-        let number = self.library.serve(
-            service,
-            self.file.bytes(),
-            self.work.bytes(),
-            self.lent.bytes(),
-        );
-        if !self.file.is_unchanged() {
-            return Err(format!("{number} changes the file or bytes beside it"));
-        }
+        self.buffers.fresh(work_len, file, PAST_FILE);
+        self.lent.fresh(&mut self.buffers.random, lent_len);
+        let Buffers { file, work, .. } = &mut self.buffers;
+        let (file, work, lent) = (file.bytes(), work.bytes(), self.lent.bytes());
+        let number = self.library.serve(service, file, work, lent);
+        self.buffers.keeps_file(&number)?;
         let Some(written) = self.lent.written() else {
             return Err(format!(
                 "{number} changes bytes beside a plan or listing buffer of {lent_len} bytes"
             ));
         };
-        let cleared = if self.work.is_unchanged() {
-            0
-        } else if self.work.is_cleared(WORK) {
-            WORK
-        } else {
-            return Err(format!(
-                "after {number} a work buffer of {work_len} bytes is neither as it was nor zero in its first {WORK} bytes alone"
-            ));
-        };
+        let cleared = self.buffers.cleared(&number)?;
         Ok(Seen {
             number,
             written,

@@ -13,10 +13,8 @@ fn random_files_agree_with_the_second_reader() {
     let mut memory = Memory::new();
     let mut counts = Counts::default();
     for number in 0..FILES {
-        match memory.compare(&cases.any()) {
-            Ok(refused) => counts.add(refused),
-            Err(why) => panic!("file {number}: {why}"),
-        }
+        let answer = memory.compare(&cases.any());
+        counts.agree(format_args!("file {number}"), answer);
     }
     counts.print("random damage");
     for (refused, in_thousand) in [

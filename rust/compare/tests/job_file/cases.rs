@@ -1,6 +1,7 @@
 //! Random calls: jobs, files with random faults of all kinds, and random bytes.
 use crate::damage::{columns, misspelled, numbers_near, sizes, BYTES};
 use dapohiru_compare::memory::PAST_FILE;
+use dapohiru_generators::faults::short_work;
 use dapohiru_generators::random::Random;
 use dapohiru_generators::sized::{self, Sizes, FULL};
 use dapohiru_second::job::{spell, Line};
@@ -57,7 +58,7 @@ impl Cases {
         let any = self.random.place(70_001);
         case.work_len = match self.random.below(32) {
             0 => any,
-            1 => self.random.pick(&[0, 1, 32_768, 65_535, 65_535]),
+            1 => short_work(&mut self.random),
             2..=4 => self.random.pick(&[65_537, 65_600, 70_000]),
             _ => 65_536,
         };

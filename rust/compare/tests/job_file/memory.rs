@@ -1,10 +1,9 @@
 //! Calls of the library with every byte that they could reach looked at, and counts of their answers.
 use crate::cases::Case;
 use dapohiru::Refusal;
-use dapohiru_compare::memory::{Counts, Lent};
+use dapohiru_compare::memory::{start_of, Buffers, Counts};
 use dapohiru_compare::wrapper::check;
-use dapohiru_generators::random::{self, Random};
-use dapohiru_second::reading::WORK;
+use dapohiru_generators::random;
 use dapohiru_second::reading::{Answer, Outcome, Reader};
 
 /// Whether a file is a job, or its refusal: the check of a plan of no bytes, on guarded buffers too. Every
@@ -16,9 +15,6 @@ pub fn read(file: &[u8], work: &mut [u8]) -> Result<(), Refusal> {
         answer => panic!("{answer:?} for a plan of no bytes"),
     }
 }
-
-/// The greatest length of a work buffer in these tests.
-const MOST_WORK: usize = 70_000;
 
 /// What a call of the library is seen to leave: its number, if it is a refusal, and how many bytes
 /// of the work buffer are zero from its start on; the others are as they were.
@@ -42,47 +38,22 @@ impl Seen {
 }
 
 /// The memory that calls are made on.
-pub struct Memory {
-    random: Random,
-    work: Lent,
-    file: Lent,
-}
+pub struct Memory(Buffers);
 
 impl Memory {
     pub fn new() -> Self {
-        let mut random = Random(random::seed());
-        Memory {
-            work: Lent::new(&mut random, MOST_WORK, 1),
-            file: Lent::new(&mut random, 0, 1),
-            random,
-        }
+        Memory(Buffers::new(random::seed()))
     }
 
     /// Calls the library, and looks at every byte that it could reach.
     pub fn call(&mut self, case: &Case) -> Result<Seen, String> {
-        self.work.fresh(&mut self.random, case.work_len);
-        self.file.holding(&case.file, &case.past);
-        let answer = read(self.file.bytes(), self.work.bytes());
+        let Memory(buffers) = self;
+        buffers.fresh(case.work_len, &case.file, &case.past);
+        let answer = read(buffers.file.bytes(), buffers.work.bytes());
         let refused = answer.err().map(|Refusal(number)| number);
-        if !self.file.is_unchanged() {
-            return Err(format!("{refused:?} changes the file or bytes beside it"));
-        }
-        if self.work.is_unchanged() {
-            return Ok(Seen {
-                refused,
-                cleared: 0,
-            });
-        }
-        if !self.work.is_cleared(WORK) {
-            return Err(format!(
-                "after {refused:?} a work buffer of {} bytes is neither as it was nor zero in its first {WORK} bytes alone",
-                case.work_len
-            ));
-        }
-        Ok(Seen {
-            refused,
-            cleared: WORK,
-        })
+        buffers.keeps_file(&refused)?;
+        let cleared = buffers.cleared(&refused)?;
+        Ok(Seen { refused, cleared })
     }
 
     /// What a comparison of one call finds: the library's answer, or in words how the two differ.
@@ -102,12 +73,11 @@ impl Memory {
 
 /// A call in words; of a long file only its start.
 pub fn words(case: &Case) -> String {
-    let len = case.file.len();
-    let start = &case.file[..len.min(2_000)];
     format!(
-        "work buffer of {} bytes, file of {len} bytes:\n{}",
+        "work buffer of {} bytes, file of {} bytes:\n{}",
         case.work_len,
-        start.escape_ascii().to_string().replace("\\n", "\\n\n")
+        case.file.len(),
+        start_of(&case.file)
     )
 }
 
@@ -116,10 +86,8 @@ pub fn compare_all(what: &str, files: impl IntoIterator<Item = Vec<u8>>) -> Coun
     let mut memory = Memory::new();
     let mut counts = Counts::default();
     for (number, file) in files.into_iter().enumerate() {
-        match memory.compare(&Case::of(file)) {
-            Ok(refused) => counts.add(refused),
-            Err(why) => panic!("{what}, file {number}: {why}"),
-        }
+        let answer = memory.compare(&Case::of(file));
+        counts.agree(format_args!("{what}, file {number}"), answer);
     }
     counts.print(what);
     counts
