@@ -1,6 +1,9 @@
 //! Files with random damage.
 use crate::random::Random;
+use crate::samples::pair;
+use crate::small;
 use dapohiru_second::job::{spell, Job};
+use dapohiru_second::reading;
 
 /// The file of a job in which some line has another number in some field.
 pub fn misnumbered(random: &mut Random, job: &Job) -> Vec<u8> {
@@ -37,4 +40,27 @@ pub fn damaged(random: &mut Random, job: &Job) -> Vec<u8> {
         damage(random, &mut file);
     }
     file
+}
+
+/// A damaged file of a small job, and what the second reader says of it.
+pub struct Damaged {
+    pub file: Vec<u8>,
+    /// The refusal, 3 to 10, that it deserves.
+    pub unread: Option<u64>,
+    /// The job that it spells. One that is refused spells none, and PAIR stands for it.
+    pub job: Job,
+}
+
+impl Damaged {
+    /// A random one.
+    pub fn random(random: &mut Random) -> Self {
+        let whole = small::job(random);
+        let file = damaged(random, &whole);
+        let read = reading::job(&file);
+        Damaged {
+            file,
+            unread: read.as_ref().err().copied(),
+            job: read.unwrap_or_else(|_| pair()),
+        }
+    }
 }

@@ -39,6 +39,42 @@ impl Features {
     }
 }
 
+/// How many jobs have each feature, in the order of [`Features`].
+#[derive(Debug, Default)]
+pub struct FeatureCounts {
+    jobs: usize,
+    counts: [usize; 5],
+}
+
+impl FeatureCounts {
+    /// Adds a job with these features.
+    pub fn add(&mut self, of: Features) {
+        let has = [
+            of.several_entries,
+            of.call,
+            of.exit_with_word_and_edge,
+            of.node_in_loop,
+            of.node_unreached,
+        ];
+        self.jobs += 1;
+        for (count, has) in self.counts.iter_mut().zip(has) {
+            *count += usize::from(has);
+        }
+    }
+
+    /// Says the counts.
+    pub fn print(&self) {
+        let counts = self.counts;
+        println!("several entries, calls, exits with a word and an edge, loops, unreached nodes: {counts:?}");
+    }
+
+    /// Asks that a tenth of the jobs or more has each feature.
+    pub fn are_common(&self) {
+        let FeatureCounts { jobs, counts } = self;
+        assert!(counts.iter().all(|count| count * 10 >= *jobs), "{counts:?}");
+    }
+}
+
 /// The places to which walks lead from these.
 fn places_from(walks: &Walks, mut places: Vec<Place>) -> Vec<Place> {
     let mut looked_at = 0;

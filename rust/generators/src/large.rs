@@ -16,6 +16,13 @@ pub enum Order {
     Parts,
 }
 
+impl Order {
+    /// One and the other in turn, the first for 0.
+    pub fn in_turn(number: usize) -> Self {
+        [Order::Flow, Order::Parts][number % 2]
+    }
+}
+
 /// A random large job: 8 to 16 states and symbols, 1,000 to 2,048 edges, loops of 3 to 40 nodes.
 pub fn job(random: &mut Random, order: Order) -> Job {
     job_of(random, order, NODES)

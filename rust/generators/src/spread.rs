@@ -13,6 +13,12 @@ pub struct Spread {
 }
 
 impl Spread {
+    /// Spreads a small job over 16 to 512 nodes, often over 512.
+    pub fn any(random: &mut Random, small: &Job) -> Self {
+        let nodes = random.pick(&[16, 64, 65, 255, 256, 257, 511, 512, 512, 512]);
+        Spread::random(random, small, nodes)
+    }
+
     /// Spreads a small job over so many nodes, in any order; mostly the last of them is one of its own.
     pub fn random(random: &mut Random, small: &Job, nodes: usize) -> Self {
         let mut numbers: Vec<_> = (0..nodes).collect();

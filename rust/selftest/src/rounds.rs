@@ -7,18 +7,16 @@ use dapohiru_compare::library::GUARDED;
 use dapohiru_compare::promise;
 use dapohiru_compare::serving;
 use dapohiru_compare::step::compare;
-use dapohiru_generators::damage::damaged;
+use dapohiru_generators::damage::Damaged;
 use dapohiru_generators::events::Call;
 use dapohiru_generators::large::{self, Order};
 use dapohiru_generators::mixed;
 use dapohiru_generators::random::Random;
 use dapohiru_generators::rings;
-use dapohiru_generators::samples::pair;
 use dapohiru_generators::sized::{self, FULL};
 use dapohiru_generators::small;
 use dapohiru_generators::spread::Spread;
 use dapohiru_second::job::Job;
-use dapohiru_second::reading;
 use dapohiru_second::serving::{Given, Service};
 use dapohiru_second::step::Second;
 use dapohiru_second::walk::Walks;
@@ -106,17 +104,9 @@ impl Rounds {
     /// A damaged file in all three calls; the second reader says what it deserves.
     fn damaged(&mut self, random: &mut Random) -> Result<(), String> {
         for _ in 0..8 {
-            let whole = small::job(random);
-            let file = damaged(random, &whole);
-            let read = reading::job(&file);
-            let unread = read.as_ref().err().copied();
-            // a file that is refused spells no job, and any will do for what is given
-            let job = read.unwrap_or_else(|_| pair());
-            let cases = Service::BOTH.map(|service| serving::Case {
-                file: file.clone(),
-                unread,
-                ..serving::Case::of(service, &job)
-            });
+            let damaged = Damaged::random(random);
+            let cases = Service::BOTH.map(|service| serving::Case::of_damaged(service, &damaged));
+            let Damaged { file, unread, job } = damaged;
             self.serve_cases(&job, &cases)?;
             let plan = match random.below(2) {
                 0 => job.all_watched(),

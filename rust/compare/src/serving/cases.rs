@@ -1,6 +1,7 @@
 //! Random calls of planning and listing: jobs with buffers that are long enough, and calls with faults.
 use super::memory::{Memory, Said, Seen, MOST_LENT};
 use crate::memory::{start_of, MOST_WORK};
+use dapohiru_generators::damage::Damaged;
 use dapohiru_generators::faults::{lengthen, possible, refused, short_work, NUMBERS};
 use dapohiru_generators::random::Random;
 use dapohiru_second::job::Job;
@@ -28,6 +29,15 @@ impl Case {
             unread: None,
             work_len: WORK,
             lent_len: service.least(),
+        }
+    }
+
+    /// A damaged file, with buffers that are just long enough.
+    pub fn of_damaged(service: Service, damaged: &Damaged) -> Self {
+        Case {
+            file: damaged.file.clone(),
+            unread: damaged.unread,
+            ..Case::of(service, &damaged.job)
         }
     }
 

@@ -2,10 +2,9 @@
 use dapohiru_compare::checking::{cases, Case, Memory, Said};
 use dapohiru_compare::memory::Counts;
 use dapohiru_compare::wrapper::WRAPPER;
-use dapohiru_generators::features::Features;
-use dapohiru_generators::large::{self, Order};
+use dapohiru_generators::features::{FeatureCounts, Features};
+use dapohiru_generators::mixed;
 use dapohiru_generators::random::Random;
-use dapohiru_generators::sized::{self, FULL};
 use dapohiru_generators::small;
 use dapohiru_plain::check::Checker;
 use dapohiru_second::job::Job;
@@ -29,40 +28,25 @@ fn small_jobs_with_all_their_plans_agree_with_the_walks() {
     let mut random = Random::of_this_run();
     let mut memory = Memory::new(WRAPPER);
     let mut counts = Counts::default();
-    let mut features = [0; 5];
+    let mut features = FeatureCounts::default();
     let mut long_words = 0;
     for number in 0..JOBS {
         let job = small::job(&mut random);
         let walks = Walks::new(&job, None);
         for case in cases(&mut random, &job) {
-            match case.compare(&mut memory, &walks) {
-                Ok(seen) => counts.add(seen.said),
-                Err(why) => panic!("job {number}: {why}"),
-            }
+            let seen = case.compare(&mut memory, &walks);
+            counts.agree(format_args!("job {number}"), seen.map(|seen| seen.said));
         }
         let of = Features::of(&job);
         long_words += usize::from(of.call && needs_a_long_call_word(&job));
-        let has = [
-            of.several_entries,
-            of.call,
-            of.exit_with_word_and_edge,
-            of.node_in_loop,
-            of.node_unreached,
-        ];
-        features
-            .iter_mut()
-            .zip(has)
-            .for_each(|(count, has)| *count += usize::from(has));
+        features.add(of);
     }
     counts.print(&format!("{JOBS} jobs"));
-    println!("several entries, calls, exits with a word and an edge, loops, unreached nodes: {features:?}");
+    features.print();
     println!("a difference that needs a call word of two events or more: {long_words}");
     counts.came(Said::all());
     assert!(long_words >= 5);
-    assert!(
-        features.iter().all(|&count| count * 10 >= JOBS),
-        "{features:?}"
-    );
+    features.are_common();
     for said in [Said::Faithful, Said::Different] {
         assert!(counts.of(said) > 10_000, "{said:?} is too rare");
     }
@@ -70,17 +54,13 @@ fn small_jobs_with_all_their_plans_agree_with_the_walks() {
 
 #[test]
 fn jobs_of_512_nodes_agree_with_the_walks() {
-    const JOBS: u64 = 40;
+    const JOBS: usize = 40;
     let mut random = Random::of_this_run();
     let mut memory = Memory::new(WRAPPER);
     let mut checker = Checker::default();
     let mut counts = Counts::default();
     for number in 0..JOBS {
-        let job = match number % 8 {
-            0 => sized::job(&mut random, FULL),
-            number if number % 2 == 0 => large::job(&mut random, Order::Flow),
-            _ => large::job(&mut random, Order::Parts),
-        };
+        let job = mixed::full_job(&mut random, number, 8);
         let walks = Walks::new(&job, None);
         let found = dapohiru_plain::plan::plan(&mut checker, &job.file()).expect("the job is read");
         let mut plans = vec![job.all_watched(), job.plan_of(&[]), found.bytes.clone()];
@@ -93,15 +73,13 @@ fn jobs_of_512_nodes_agree_with_the_walks() {
             }
         }
         for plan in plans {
-            match Case::of(&job, plan).compare(&mut memory, &walks) {
-                Ok(seen) => counts.add(seen.said),
-                Err(why) => panic!("job {number}: {why}"),
-            }
+            let seen = Case::of(&job, plan).compare(&mut memory, &walks);
+            counts.agree(format_args!("job {number}"), seen.map(|seen| seen.said));
         }
     }
     counts.print(&format!("{JOBS} jobs"));
-    assert!(counts.of(Said::Faithful) >= 2 * JOBS);
-    assert!(counts.of(Said::Different) >= JOBS);
+    assert!(counts.of(Said::Faithful) >= 2 * JOBS as u64);
+    assert!(counts.of(Said::Different) >= JOBS as u64);
 }
 
 #[test]

@@ -22,8 +22,7 @@ fn small_jobs_spread_over_many_nodes_keep_their_verdicts() {
     for number in 0..JOBS {
         let job = small::job(&mut random);
         let walks = Walks::new(&job, None);
-        let nodes = random.pick(&[16, 64, 65, 255, 256, 257, 511, 512, 512, 512]);
-        let spread = Spread::random(&mut random, &job, nodes);
+        let spread = Spread::any(&mut random, &job);
         let file = spread.job.file();
         let mut plans = small::plans(&mut random, &job);
         plans.truncate(16);

@@ -1,8 +1,9 @@
 //! The library and the second implementation on the same calls.
+use crate::monitors::plan_of;
 use dapohiru_compare::memory::Counts;
-use dapohiru_compare::serving::{cases, Case, Memory, Said};
-use dapohiru_compare::wrapper::{self, WRAPPER};
-use dapohiru_generators::features::Features;
+use dapohiru_compare::serving::{cases, Case, Memory, Said, Seen};
+use dapohiru_compare::wrapper::WRAPPER;
+use dapohiru_generators::features::{FeatureCounts, Features};
 use dapohiru_generators::random::Random;
 use dapohiru_generators::rings;
 use dapohiru_generators::small;
@@ -14,20 +15,40 @@ use dapohiru_second::serving::Given;
 use dapohiru_second::slip::Slip;
 use dapohiru_second::walk::{Place, Walks};
 use std::collections::BTreeMap;
+use std::fmt::Display;
 
-/// Makes the calls of a job, and asks that they agree.
-pub fn agree(
-    memory: &mut Memory,
-    counts: &mut Counts<Said>,
-    given: &Given,
-    cases: &[Case],
-    name: &str,
-) {
-    for case in cases {
-        match case.compare(memory, given) {
-            Ok(seen) => counts.add(case.said(&seen)),
-            Err(why) => panic!("{name}: {why}"),
+/// Calls that the two are compared on, with counts of the answers.
+pub struct Calls {
+    memory: Memory,
+    pub counts: Counts<Said>,
+}
+
+impl Calls {
+    /// No call so far.
+    pub fn new() -> Self {
+        Calls {
+            memory: Memory::new(WRAPPER),
+            counts: Counts::default(),
         }
+    }
+
+    /// Makes a call, asks that the two agree on it, and gives what is seen of it.
+    #[track_caller]
+    pub fn agree(&mut self, name: impl Display, given: &Given, case: &Case) -> Seen {
+        let seen = case.compare(&mut self.memory, given);
+        let seen = seen.unwrap_or_else(|why| panic!("{name}: {why}"));
+        self.counts.add(case.said(&seen));
+        seen
+    }
+
+    /// Makes the calls of a job, some of them with faults, asks that the two agree on each, and gives
+    /// what the walks give.
+    pub fn agree_on(&mut self, random: &mut Random, number: usize, job: &Job) -> Given {
+        let given = Given::of(&Walks::new(job, None));
+        for case in cases(random, job) {
+            self.agree(format_args!("job {number}"), &given, &case);
+        }
+        given
     }
 }
 
@@ -41,9 +62,8 @@ fn needs_a_long_call_word(job: &Job, given: &Given) -> bool {
 fn small_jobs_agree_with_the_walks() {
     const JOBS: usize = 8_000;
     let mut random = Random::fixed(2);
-    let mut memory = Memory::new(WRAPPER);
-    let mut counts = Counts::default();
-    let mut features = [0; 5];
+    let mut calls = Calls::new();
+    let mut features = FeatureCounts::default();
     let (mut long_words, mut nop_stays, mut other_goes) = (0, 0, 0);
     let mut passes = BTreeMap::<_, u64>::new();
     for number in 0..JOBS {
@@ -51,27 +71,9 @@ fn small_jobs_agree_with_the_walks() {
             3 => rings::job(&mut random),
             _ => small::job(&mut random),
         };
-        let given = Given::of(&Walks::new(&job, None));
-        let of_job = cases(&mut random, &job);
-        agree(
-            &mut memory,
-            &mut counts,
-            &given,
-            &of_job,
-            &format!("job {number}"),
-        );
+        let given = calls.agree_on(&mut random, number, &job);
         let of = Features::of(&job);
-        let has = [
-            of.several_entries,
-            of.call,
-            of.exit_with_word_and_edge,
-            of.node_in_loop,
-            of.node_unreached,
-        ];
-        features
-            .iter_mut()
-            .zip(has)
-            .for_each(|(count, has)| *count += usize::from(has));
+        features.add(of);
         long_words += usize::from(of.call && needs_a_long_call_word(&job, &given));
         *passes.entry(given.planned.passes).or_default() += 1;
         for line in given.listing.split(|&byte| byte == b'\n') {
@@ -79,15 +81,15 @@ fn small_jobs_agree_with_the_walks() {
             other_goes += usize::from(line.starts_with(b"W") && line.ends_with(b"0     0"));
         }
     }
-    counts.print(&format!("{JOBS} jobs"));
-    println!("several entries, calls, exits with a word and an edge, loops, unreached nodes: {features:?}");
+    calls.counts.print(&format!("{JOBS} jobs"));
+    features.print();
     println!("plans that need call words of two events or more: {long_words}; jobs by passes: {passes:?}");
     println!(
         "points that stay with nop mark 1: {nop_stays}, that go with nop mark 0: {other_goes}"
     );
-    counts.came(Said::all());
+    calls.counts.came(Said::all());
     assert!(long_words >= 20 && nop_stays >= 20 && other_goes >= 20);
-    assert!(features.iter().all(|&count| count * 10 >= JOBS));
+    features.are_common();
     for (least, count) in [(1_000, 1), (1_000, 2), (20, 3)] {
         assert!(passes[&count] >= least, "{passes:?}");
     }
@@ -100,9 +102,7 @@ fn plan_is_faithful_and_loses_that_with_any_watched_point() {
     for number in 0..2_000 {
         let job = small::job(&mut random);
         let walks = Walks::new(&job, None);
-        let mut plan = vec![7; 512];
-        wrapper::plan(&job.file(), &mut [0; 65_536], &mut plan).expect("the job is planned");
-        plan.truncate(job.nodes.len());
+        let plan = plan_of(&job);
         assert_eq!(difference(&walks, &plan), None, "job {number}");
         plans += 1;
         for point in (0..plan.len()).filter(|&node| plan[node] == 1) {

@@ -1,12 +1,8 @@
 //! Files of jobs with random damage: the second reader says what each of them deserves.
-use dapohiru_compare::memory::Counts;
-use dapohiru_compare::serving::{Case, Memory, Said};
-use dapohiru_compare::wrapper::WRAPPER;
-use dapohiru_generators::damage::damaged;
+use crate::agreement::Calls;
+use dapohiru_compare::serving::{Case, Said};
+use dapohiru_generators::damage::Damaged;
 use dapohiru_generators::random::Random;
-use dapohiru_generators::samples::pair;
-use dapohiru_generators::small;
-use dapohiru_second::reading;
 use dapohiru_second::serving::{Given, Service};
 use dapohiru_second::walk::Walks;
 
@@ -14,28 +10,15 @@ use dapohiru_second::walk::Walks;
 fn damaged_files_are_refused_or_planned_for_what_they_spell() {
     const FILES: usize = 12_000;
     let mut random = Random::fixed(12);
-    let mut memory = Memory::new(WRAPPER);
-    let mut counts = Counts::default();
+    let mut calls = Calls::new();
     for number in 0..FILES {
-        let job = small::job(&mut random);
-        let file = damaged(&mut random, &job);
-        let read = reading::job(&file);
-        let unread = read.as_ref().err().copied();
-        // a file that is refused spells no job, and any will do for what is given
-        let spelled = read.unwrap_or_else(|_| pair());
-        let given = Given::of(&Walks::new(&spelled, None));
-        for service in Service::BOTH {
-            let case = Case {
-                file: file.clone(),
-                unread,
-                ..Case::of(service, &spelled)
-            };
-            match case.compare(&mut memory, &given) {
-                Ok(seen) => counts.add(case.said(&seen)),
-                Err(why) => panic!("file {number}: {why}"),
-            }
+        let damaged = Damaged::random(&mut random);
+        let given = Given::of(&Walks::new(&damaged.job, None));
+        for case in Service::BOTH.map(|service| Case::of_damaged(service, &damaged)) {
+            calls.agree(format_args!("file {number}"), &given, &case);
         }
     }
+    let counts = calls.counts;
     counts.print(&format!("{FILES} files"));
     counts.came((3..=10).map(Said::Refused));
     assert!(counts.of(Said::Planned) as usize * 20 > FILES);

@@ -128,8 +128,7 @@ fn two_records_alarm_alike_on_walks_of_512_nodes() {
     let mut random = Random::fixed(15);
     let mut totals = Totals::default();
     for number in 0..8 {
-        let order = [Order::Flow, Order::Parts][number % 2];
-        let job = large::job(&mut random, order);
+        let job = large::job(&mut random, Order::in_turn(number));
         totals.walk(&mut random, &job, &plan_of(&job), 4, 50_000);
     }
     totals.print("large jobs");

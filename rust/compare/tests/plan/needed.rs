@@ -16,35 +16,39 @@ fn needed(random: &mut Random, job: &Job, plan: &[u8], one_in: u64) -> Result<Ne
     promise::needed(WRAPPER, random, &Walks::new(job, None), plan, one_in)
 }
 
-#[test]
-fn every_watched_point_of_a_small_job_has_a_walk_that_needs_it() {
-    let mut random = Random::fixed(17);
+/// Takes walks that need one in so many of the points that the plans of the library watch, and gives
+/// how many points there are and the events of the longest walk.
+fn all_needed(
+    mut random: Random,
+    jobs: usize,
+    one_in: u64,
+    job: impl Fn(&mut Random, usize) -> Job,
+) -> (usize, usize) {
     let (mut points, mut longest) = (0, 0);
-    for number in 0..3_000 {
-        let job = match number % 4 {
-            0 => rings::job(&mut random),
-            _ => small::job(&mut random),
-        };
-        let found = needed(&mut random, &job, &plan_of(&job), 1).unwrap();
+    for number in 0..jobs {
+        let job = job(&mut random, number);
+        let found = needed(&mut random, &job, &plan_of(&job), one_in).unwrap();
         points += found.points;
         longest = longest.max(found.longest);
     }
     println!("{points} watched points, the longest walk has {longest} events");
+    (points, longest)
+}
+
+#[test]
+fn every_watched_point_of_a_small_job_has_a_walk_that_needs_it() {
+    let job = |random: &mut Random, number: usize| match number % 4 {
+        0 => rings::job(random),
+        _ => small::job(random),
+    };
+    let (points, longest) = all_needed(Random::fixed(17), 3_000, 1, job);
     assert!(points > 2_000 && longest >= 6);
 }
 
 #[test]
 fn watched_points_of_512_nodes_have_walks_that_need_them() {
-    let mut random = Random::fixed(18);
-    let (mut points, mut longest) = (0, 0);
-    for number in 0..8 {
-        let order = [Order::Flow, Order::Parts][number % 2];
-        let job = large::job(&mut random, order);
-        let found = needed(&mut random, &job, &plan_of(&job), 4).unwrap();
-        points += found.points;
-        longest = longest.max(found.longest);
-    }
-    println!("{points} watched points, the longest walk has {longest} events");
+    let job = |random: &mut Random, number| large::job(random, Order::in_turn(number));
+    let (points, longest) = all_needed(Random::fixed(18), 8, 4, job);
     assert!(points > 100 && longest >= 10);
 }
 

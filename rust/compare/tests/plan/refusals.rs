@@ -1,7 +1,6 @@
 //! Every refusal, alone and beside another fault.
-use dapohiru_compare::memory::Counts;
-use dapohiru_compare::serving::{Case, Memory, Said};
-use dapohiru_compare::wrapper::WRAPPER;
+use crate::agreement::Calls;
+use dapohiru_compare::serving::{Case, Said};
 use dapohiru_generators::faults::NUMBERS;
 use dapohiru_generators::random::Random;
 use dapohiru_generators::samples::pair;
@@ -12,8 +11,7 @@ use dapohiru_second::walk::Walks;
 #[test]
 fn lower_of_two_faults_decides() {
     let mut random = Random::fixed(9);
-    let mut memory = Memory::new(WRAPPER);
-    let mut counts = Counts::default();
+    let mut calls = Calls::new();
     let job = pair();
     let given = Given::of(&Walks::new(&job, None));
     for service in Service::BOTH {
@@ -28,25 +26,19 @@ fn lower_of_two_faults_decides() {
                     } {
                         case = case.with_fault(&mut random, &job, number);
                     }
-                    match case.compare(&mut memory, &given) {
-                        Ok(seen) => {
-                            assert_eq!(seen.number, other);
-                            counts.add(case.said(&seen));
-                        }
-                        Err(why) => panic!("{one} and {other}: {why}"),
-                    }
+                    let seen = calls.agree(format_args!("{one} and {other}"), &given, &case);
+                    assert_eq!(seen.number, other);
                 }
             }
         }
     }
-    counts.print("two faults");
+    calls.counts.print("two faults");
 }
 
 #[test]
 fn every_refusal_leaves_plan_and_listing_buffer() {
     let mut random = Random::fixed(10);
-    let mut memory = Memory::new(WRAPPER);
-    let mut counts = Counts::default();
+    let mut calls = Calls::new();
     for number in 0..400 {
         let job = small::job(&mut random);
         let given = Given::of(&Walks::new(&job, None));
@@ -56,17 +48,12 @@ fn every_refusal_leaves_plan_and_listing_buffer() {
                     continue;
                 }
                 let case = Case::of(service, &job).with_fault(&mut random, &job, fault);
-                match case.compare(&mut memory, &given) {
-                    Ok(seen) => {
-                        assert_eq!(seen.number, fault, "job {number}");
-                        assert_eq!(seen.written, vec![], "job {number}");
-                        counts.add(case.said(&seen));
-                    }
-                    Err(why) => panic!("job {number}: {why}"),
-                }
+                let seen = calls.agree(format_args!("job {number}"), &given, &case);
+                assert_eq!(seen.number, fault, "job {number}");
+                assert_eq!(seen.written, vec![], "job {number}");
             }
         }
     }
-    counts.print("400 jobs");
-    counts.came((1..=10).map(Said::Refused));
+    calls.counts.print("400 jobs");
+    calls.counts.came((1..=10).map(Said::Refused));
 }

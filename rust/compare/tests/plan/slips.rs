@@ -1,6 +1,6 @@
 //! Wrong readings of document 01, which a comparison must notice.
-use dapohiru_compare::serving::{cases, Case, Memory};
-use dapohiru_compare::wrapper::WRAPPER;
+use crate::agreement::Calls;
+use dapohiru_compare::serving::{cases, Case};
 use dapohiru_generators::random::Random;
 use dapohiru_generators::small;
 use dapohiru_second::serving::Given;
@@ -13,29 +13,26 @@ fn every_slip_of_the_second_implementation_is_noticed() {
     // a slip that has been noticed so often is not tried again
     const ENOUGH: usize = 5;
     let mut random = Random::fixed(1);
-    let mut memory = Memory::new(WRAPPER);
+    let mut calls = Calls::new();
     let slips = Slip::of_planning();
     // for each slip how often it was noticed, and at which job for the first time
     let mut noticed = vec![(0, 0); slips.len()];
-    let (mut jobs, mut calls) = (0, 0);
+    let (mut jobs, mut made) = (0, 0);
     while jobs < MOST_JOBS && noticed.iter().any(|&(times, _)| times < ENOUGH) {
         jobs += 1;
         let job = small::job(&mut random);
         let given = Given::of(&Walks::new(&job, None));
         let seen: Vec<_> = cases(&mut random, &job)
             .into_iter()
-            .map(|case| match case.compare(&mut memory, &given) {
-                Ok(seen) => (case, seen),
-                Err(why) => panic!("job {jobs}: {why}"),
-            })
+            .map(|case| (calls.agree(format_args!("job {jobs}"), &given, &case), case))
             .collect();
-        calls += seen.len();
+        made += seen.len();
         for (&slip, (times, first)) in slips.iter().zip(&mut noticed) {
             if *times >= ENOUGH {
                 continue;
             }
             let given = Given::of(&Walks::new(&job, Some(slip)));
-            let differs = |(case, seen): &(Case, _)| case.wanted(&given, Some(slip)) != *seen;
+            let differs = |(seen, case): &(_, Case)| case.wanted(&given, Some(slip)) != *seen;
             if seen.iter().any(differs) {
                 *times += 1;
                 *first = if *first == 0 { jobs } else { *first };
@@ -43,7 +40,7 @@ fn every_slip_of_the_second_implementation_is_noticed() {
         }
     }
     println!(
-        "{} slips on {calls} calls of {jobs} jobs; the first job that shows each:",
+        "{} slips on {made} calls of {jobs} jobs; the first job that shows each:",
         slips.len()
     );
     for (slip, (_, first)) in slips.iter().zip(&noticed) {

@@ -57,10 +57,7 @@ impl Loads {
             sweeps: Histogram::new("sweeps of the plain check", 1),
         };
         while loads.all.len() < count {
-            let order = match loads.all.len() % 2 {
-                0 => Order::Flow,
-                _ => Order::Parts,
-            };
+            let order = Order::in_turn(loads.all.len());
             let job = large::job(random, order);
             if !loads.add(random, checker, order, &job) {
                 loads.passed_over += 1;
