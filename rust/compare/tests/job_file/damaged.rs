@@ -5,8 +5,17 @@ use crate::memory::{compare_all, Memory};
 use crate::samples::{answer, least, small};
 use dapohiru::Refusal;
 use dapohiru_compare::memory::Counts;
-use dapohiru_second::job::spell;
+use dapohiru_second::job::{spell, Line};
 use dapohiru_second::reading::WORK;
+
+/// Asks that the small files agree under every damage of a kind, and that each of these refusals comes
+/// with each of them.
+fn agree_with(damage: fn(&[Line]) -> Vec<Vec<u8>>, refusals: &[u64]) {
+    for (what, lines) in small() {
+        let counts = compare_all(what, damage(&lines));
+        counts.came(refusals.iter().copied().map(Some));
+    }
+}
 
 #[test]
 fn cut_at_every_byte_is_refused_as_3_or_4() {
@@ -36,7 +45,7 @@ fn every_byte_replaced_by_any_other_agrees() {
     for (what, lines) in small() {
         let with = if what == "PAIR" { &all } else { damage::BYTES };
         let counts = compare_all(what, damage::bytes_replaced(&spell(&lines), with));
-        assert!(counts.of(Some(4)) > 0 && counts.of(Some(5)) > 0);
+        counts.came([Some(4), Some(5)]);
     }
 }
 
@@ -45,25 +54,20 @@ fn bytes_put_in_or_taken_out_agree() {
     for (what, lines) in small() {
         let counts = compare_all(what, damage::bytes_moved(&spell(&lines), damage::BYTES));
         assert_eq!(counts.of(None), 0);
-        assert!(counts.of(Some(4)) > 0 && counts.of(Some(9)) > 0);
+        counts.came([Some(4), Some(9)]);
     }
 }
 
 #[test]
 fn lines_swapped_doubled_or_missing_agree() {
-    for (what, lines) in small() {
-        let counts = compare_all(what, damage::lines_moved(&lines));
-        assert!(counts.of(Some(4)) > 0);
-    }
+    agree_with(damage::lines_moved, &[4]);
 }
 
 #[test]
 fn numbers_at_and_past_every_limit_agree() {
     for (what, lines) in small() {
         let counts = compare_all(what, damage::numbers_replaced(&lines));
-        for number in [4, 5, 6, 7] {
-            assert!(counts.of(Some(number)) > 0, "no {number}");
-        }
+        counts.came([4, 5, 6, 7].map(Some));
         assert!(what == "the least job" || counts.of(Some(8)) > 0);
     }
 }
@@ -100,18 +104,12 @@ fn well_formed_number_is_never_taken_modulo_a_power_of_two() {
 
 #[test]
 fn fields_spelled_otherwise_agree() {
-    for (what, lines) in small() {
-        let counts = compare_all(what, damage::fields_misspelled(&lines));
-        assert!(counts.of(Some(4)) > 0);
-    }
+    agree_with(damage::fields_misspelled, &[4]);
 }
 
 #[test]
 fn line_ends_letters_and_more_bytes_agree() {
-    for (what, lines) in small() {
-        let counts = compare_all(what, damage::shape_changed(&lines));
-        assert!(counts.of(Some(4)) > 0 && counts.of(Some(9)) > 0);
-    }
+    agree_with(damage::shape_changed, &[4, 9]);
 }
 
 #[test]
@@ -134,7 +132,5 @@ fn every_field_over_six_bytes_agrees() {
         file
     });
     let counts = compare_all("fields", files);
-    for refused in [None, Some(4), Some(7)] {
-        assert!(counts.of(refused) > 0);
-    }
+    counts.came([None, Some(4), Some(7)]);
 }

@@ -69,14 +69,10 @@ impl Totals {
     /// Asks that reports and totals were the same at every event, and that a tenth of the jobs had both
     /// alarms and skipped events.
     fn same_alarms(&self) {
+        let Totals { both, jobs, .. } = self;
         assert_eq!(self.different, 0, "the reports differ");
         assert!(self.tally.refused.iter().all(|&count| count > 0));
-        assert!(
-            self.both * 10 >= self.jobs,
-            "{} of {}",
-            self.both,
-            self.jobs
-        );
+        assert!(both * 10 >= *jobs, "{both} of {jobs}");
     }
 }
 
@@ -154,14 +150,12 @@ fn with_one_needed_byte_cleared_the_two_records_differ() {
         totals.walk(&mut random, &job, &plan, 40, 300);
     }
     totals.print("one needed byte cleared");
-    assert_eq!(totals.jobs, 400, "too few plans have a watched point");
+    let Totals {
+        jobs, different, ..
+    } = totals;
+    assert_eq!(jobs, 400, "too few plans have a watched point");
     // the walks are random, and some differences need one that is rare
-    assert!(
-        totals.different * 2 >= totals.jobs,
-        "{} of {}",
-        totals.different,
-        totals.jobs
-    );
+    assert!(different * 2 >= jobs, "{different} of {jobs}");
 }
 
 #[test]
