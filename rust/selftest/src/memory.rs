@@ -50,14 +50,7 @@ pub fn run(seed: u64, files: u64, out: &mut impl Write) -> io::Result<Found> {
         found = answer.map_err(|why| format!("file {number}: {why}"));
         progress.show(number, files, "files");
     }
-    let seconds = progress.seconds();
-    drop(progress);
-    let all = calls.tally.calls();
-    writeln!(
-        out,
-        "seed {seed}: {files} files, {all} calls, {seconds:.1} s"
-    )?;
-    write!(out, "{}", calls.tally)?;
+    progress.end(out, &format!("seed {seed}: {files} files"), &calls.tally)?;
     match found {
         Ok(()) => {
             writeln!(out, "no difference")?;

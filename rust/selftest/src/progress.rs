@@ -1,4 +1,5 @@
 //! A line on a terminal that says how far it is.
+use crate::tally::Tally;
 use std::io::{self, IsTerminal, Write};
 use std::time::{Duration, Instant};
 
@@ -26,8 +27,17 @@ impl Progress {
     }
 
     /// The seconds since the beginning.
-    pub fn seconds(&self) -> f64 {
+    fn seconds(&self) -> f64 {
         self.begun.elapsed().as_secs_f64()
+    }
+
+    /// Takes the line away, and says what is made, how many calls that took in which time, and what they
+    /// came to.
+    pub fn end(self, out: &mut impl Write, made: &str, tally: &Tally) -> io::Result<()> {
+        let (calls, seconds) = (tally.calls(), self.seconds());
+        drop(self);
+        writeln!(out, "{made}, {calls} calls, {seconds:.1} s")?;
+        write!(out, "{tally}")
     }
 
     /// Shows the line, if it is time to.

@@ -36,14 +36,7 @@ pub fn run(asked: &arguments::Rounds, out: &mut impl Write) -> io::Result<Found>
         }
         progress.show(made, numbers.end - numbers.start, "rounds");
     }
-    let seconds = progress.seconds();
-    drop(progress);
-    let calls = rounds.tally.calls();
-    writeln!(
-        out,
-        "seed {seed}: {made} rounds, {calls} calls, {seconds:.1} s"
-    )?;
-    write!(out, "{}", rounds.tally)?;
+    progress.end(out, &format!("seed {seed}: {made} rounds"), &rounds.tally)?;
     let Some((number, why)) = difference else {
         writeln!(out, "no difference")?;
         return Ok(Found::Nothing);

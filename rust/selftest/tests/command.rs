@@ -15,6 +15,14 @@ fn said(arguments: &[&str]) -> (Option<i32>, String) {
     (output.status.code(), text)
 }
 
+/// What is printed by a run that ends with status 0.
+fn printed(arguments: &[&str]) -> String {
+    let (status, text) = said(arguments);
+    print!("{text}");
+    assert_eq!(status, Some(0), "{arguments:?}");
+    text
+}
+
 /// The count that stands before these words.
 fn count(text: &str, words: &str) -> u64 {
     let line = text.lines().find(|line| line.contains(words));
@@ -22,18 +30,19 @@ fn count(text: &str, words: &str) -> u64 {
     line.split_whitespace().next().unwrap().parse().unwrap()
 }
 
+/// Asks that every refusal came.
+fn every_refusal_comes(text: &str) {
+    for number in 1..=15 {
+        let refused = format!("refused {number:>2}:");
+        assert!(count(text, &refused) > 0, "{number}");
+    }
+}
+
 #[test]
 fn rounds_find_no_difference_and_every_answer_comes() {
-    let (status, text) = said(&["3", "1600"]);
-    print!("{text}");
-    assert_eq!(status, Some(0));
+    let text = printed(&["3", "1600"]);
     assert!(text.starts_with("seed 3: 1600 rounds, ") && text.ends_with("\nno difference\n"));
-    for number in 1..=15 {
-        assert!(
-            count(&text, &format!("refused {number:>2}:")) > 0,
-            "{number}"
-        );
-    }
+    every_refusal_comes(&text);
     for words in [
         "jobs planned",
         "jobs listed",
@@ -81,27 +90,16 @@ fn every_slip_of_the_second_implementation_is_a_difference_that_can_be_seen_agai
 
 #[test]
 fn soak_takes_every_event_and_finds_no_difference() {
-    let (status, text) = said(&["soak", "1000001"]);
-    print!("{text}");
-    assert_eq!(status, Some(0));
+    let text = printed(&["soak", "1000001"]);
     assert!(text.starts_with("1000001 events, ") && text.contains(" 245 batches compared"));
     assert!(text.contains(" million events per second\n") && text.ends_with("no difference\n"));
-    let (status, text) = said(&["soak", "1"]);
-    assert_eq!(status, Some(0));
+    let text = printed(&["soak", "1"]);
     assert!(text.starts_with("1 events, "), "{text}");
 }
 
 #[test]
 fn calls_on_exact_allocations_find_no_difference() {
-    let (status, text) = said(&["memory", "4", "3000"]);
-    print!("{text}");
-    assert_eq!(status, Some(0));
-    for number in 1..=15 {
-        assert!(
-            count(&text, &format!("refused {number:>2}:")) > 0,
-            "{number}"
-        );
-    }
+    every_refusal_comes(&printed(&["memory", "4", "3000"]));
 }
 
 #[test]
@@ -153,8 +151,7 @@ fn wrong_arguments_are_status_2_with_the_usage() {
         let begins = format!("dapohiru-selftest: {why}\n");
         assert!(text.starts_with(&begins), "{text}");
     }
-    let (status, text) = said(&["--help"]);
-    assert_eq!(status, Some(0));
+    let text = printed(&["--help"]);
     assert!(text.starts_with("usage: dapohiru-selftest"));
 }
 
