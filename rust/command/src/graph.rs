@@ -1,7 +1,7 @@
 //! The command `graph`: the flow graph of a job, with its plan.
 use crate::args::{Command, Given};
 use crate::job::{self, set};
-use crate::{dot, input, output, refusal};
+use crate::{dot, input, output};
 use dapohiru_second::job::{Job, Node, CALL, EVENT};
 use std::io::{self, IsTerminal};
 
@@ -49,9 +49,7 @@ fn run(given: &Given) -> Result<u8, String> {
     let file = input::job(given.name(0))?;
     let job = job::accepted(&file)?;
     let plan = match given.further(1) {
-        None => job::planned(&file.bytes)
-            .map(|(plan, _)| plan)
-            .map_err(|refusal| refusal::of_job(&file, refusal))?,
+        None => job::planned(&file)?.0,
         Some(plan) => job::given_plan(&file, input::plan(plan)?)?,
     };
     let text = drawn(&job, &plan);

@@ -5,12 +5,13 @@ use dapohiru::{Counts, Refusal, Rule, Verdict};
 use dapohiru_second::job::{members, Job};
 use dapohiru_second::reading;
 
-/// The plan that the proved call makes, with its counts.
-pub fn planned(file: &[u8]) -> Result<(Vec<u8>, Counts), Refusal> {
+/// The plan that the proved call makes, with its counts, or what is said of its refusal.
+pub fn planned(job: &Input) -> Result<(Vec<u8>, Counts), String> {
     // planning writes a byte, 0 or 1, for each node and no others
     const UNWRITTEN: u8 = 255;
     let mut plan = vec![UNWRITTEN; dapohiru::PLAN_LEN];
-    let counts = dapohiru::plan(file, &mut vec![0; dapohiru::WORK_LEN], &mut plan)?;
+    let counts = dapohiru::plan(&job.bytes, &mut vec![0; dapohiru::WORK_LEN], &mut plan)
+        .map_err(|refusal| refusal::of_job(job, refusal))?;
     plan.retain(|&byte| byte != UNWRITTEN);
     Ok((plan, counts))
 }

@@ -1,6 +1,6 @@
 //! The command `plan`: the plan of a job.
 use crate::args::{Command, Given};
-use crate::{input, job, output, refusal};
+use crate::{input, job, output};
 use dapohiru::Counts;
 
 pub const COMMAND: Command = Command {
@@ -26,8 +26,7 @@ fn run(given: &Given) -> Result<u8, String> {
     let to = output::named(given.value("-o"));
     output::loses_nothing(to, &[given.name(0)])?;
     let file = input::job(given.name(0))?;
-    let (plan, counts) =
-        job::planned(&file.bytes).map_err(|refusal| refusal::of_job(&file, refusal))?;
+    let (plan, counts) = job::planned(&file)?;
     let Counts {
         points,
         watched,

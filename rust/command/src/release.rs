@@ -2,7 +2,7 @@
 use crate::args::{Command, Given};
 use crate::progress::Progress;
 use crate::summary::{complaints, shown, summary, Outcome};
-use crate::{input, job, output, refusal, stop};
+use crate::{input, job, output, stop};
 use std::ffi::OsStr;
 use std::fs;
 use std::path::{Path, PathBuf};
@@ -107,10 +107,9 @@ fn plan_one(path: &Path, out: &Path) -> Outcome {
     let plan_file = out
         .join(path.file_name().unwrap_or_default())
         .with_extension("plan");
-    let (plan, counts) = match job::planned(&file.bytes) {
+    let (plan, counts) = match job::planned(&file) {
         Ok(planned) => planned,
-        Err(refusal) => {
-            let mut said = refusal::of_job(&file, refusal);
+        Err(mut said) => {
             if plan_file.exists() {
                 let plan_file = plan_file.display();
                 said += &format!("\n  {plan_file} is of an earlier run, and stays as it is");

@@ -1,5 +1,5 @@
 //! The command `check`.
-use crate::program::{example, file, folder, run, PAIR};
+use crate::program::{example, file, folder, pair_with, run, PAIR};
 use dapohiru_generators::random::Random;
 use dapohiru_second::search::difference;
 use dapohiru_second::walk::Walks;
@@ -47,9 +47,10 @@ fn verdicts_are_those_of_the_walks() {
 #[test]
 fn refused_plan_is_told_with_its_column() {
     let folder = folder("check-plans");
-    let job = PAIR
-        .replace("P     1     1     0", "P     1     0     0")
-        .replace("P     0     1     0     1", "P     0     2     5     1");
+    let job = pair_with(&[
+        ("P     1     1     0", "P     1     0     0"),
+        ("P     0     1     0     1", "P     0     2     5     1"),
+    ]);
     let job = file(&folder, "other.job", job.as_bytes());
     let length = "refused 11: the plan has not one digit for each node";
     let digit = "refused 12: the plan has a digit above 1, or a 1 at a node that is no event node";

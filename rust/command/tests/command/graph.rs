@@ -1,5 +1,7 @@
 //! The command `graph`.
-use crate::program::{example, file, folder, names, program, run, shell, terminal, PAIR};
+use crate::program::{
+    example, file, folder, names, pair_with, program, run, shell, terminal, PAIR,
+};
 use dapohiru_generators::samples::one_seal;
 use std::fs;
 use std::process::Command;
@@ -35,9 +37,10 @@ fn graph_marks_the_watched_points_entries_and_exits() {
 
 #[test]
 fn calls_plain_nodes_and_after_sets_are_shown() {
-    let job = PAIR
-        .replace("P     0     1     0     1", "P     0     2     5     3")
-        .replace("P     1     1     0", "P     1     0     0");
+    let job = pair_with(&[
+        ("P     0     1     0     1", "P     0     2     5     3"),
+        ("P     1     1     0", "P     1     0     0"),
+    ]);
     let (status, printed, _) = run(&["graph", "-"], &job);
     assert_eq!(status, 0);
     for line in [

@@ -1,5 +1,5 @@
 //! The place of a refusal: every fault that a file can have, beside the second implementation.
-use crate::program::{run, PAIR};
+use crate::program::{pair_with, run};
 use dapohiru_generators::faults::{faulty, Fault, Form};
 use dapohiru_generators::random::Random;
 use dapohiru_generators::samples::{one_seal, pair};
@@ -56,10 +56,7 @@ fn every_fault_is_told_with_its_number_line_and_columns() {
 
 #[test]
 fn what_was_expected_is_told() {
-    let with = |old: &str, new: &str| {
-        assert_eq!(PAIR.matches(old).count(), 1, "{old}");
-        PAIR.replace(old, new)
-    };
+    let with = |old: &str, new: &str| pair_with(&[(old, new)]);
     let j = "J     3     3     3     2\n";
     let r = "R     2     1     1     0     2\n";
     let p = "P     2     1     2     0     1     0\n";

@@ -18,6 +18,14 @@ pub fn example(name: &str) -> String {
     folder.join(name).display().to_string()
 }
 
+/// PAIR with other texts for these, each of which stands in it once.
+pub fn pair_with(changes: &[(&str, &str)]) -> String {
+    changes.iter().fold(PAIR.to_string(), |job, (old, new)| {
+        assert_eq!(job.matches(old).count(), 1, "{old}");
+        job.replace(old, new)
+    })
+}
+
 /// An empty folder for one test.
 pub fn folder(name: &str) -> PathBuf {
     let folder = Path::new(env!("CARGO_TARGET_TMPDIR")).join(name);

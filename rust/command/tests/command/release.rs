@@ -13,6 +13,14 @@ fn release(folder: &Path, more: &[&str]) -> Done {
     run(&words, "")
 }
 
+/// Asks that these files of a folder hold the plan of PAIR, and that it has so many files in all.
+fn plans_are_written(folder: &Path, plans: [&str; 2], files: usize) {
+    for name in plans {
+        assert_eq!(fs::read_to_string(folder.join(name)).unwrap(), "011\n");
+    }
+    assert_eq!(names(folder).len(), files);
+}
+
 #[test]
 fn every_job_gets_its_plan_file_and_its_row() {
     let mut random = Random::of_this_run();
@@ -108,10 +116,7 @@ fn job_that_cannot_be_read_or_written_is_listed_and_the_others_planned() {
         format!("{shown}/folder.job: it is no regular file")
     );
     assert!(lines[3].starts_with(&format!("{shown}/link.job: No such file")));
-    for name in ["a.plan", "c.plan"] {
-        assert_eq!(fs::read_to_string(jobs.join(name)).unwrap(), "011\n");
-    }
-    assert_eq!(names(&jobs).len(), 8);
+    plans_are_written(&jobs, ["a.plan", "c.plan"], 8);
 }
 
 #[test]
@@ -134,10 +139,7 @@ fn job_that_is_no_regular_file_is_not_opened() {
              {shown}/pipe.job: it is no regular file\n"
         )
     );
-    for name in ["a.plan", "b.plan"] {
-        assert_eq!(fs::read_to_string(jobs.join(name)).unwrap(), "011\n");
-    }
-    assert_eq!(names(&jobs).len(), 6);
+    plans_are_written(&jobs, ["a.plan", "b.plan"], 6);
 }
 
 #[test]

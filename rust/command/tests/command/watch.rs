@@ -1,5 +1,5 @@
 //! The command `watch`.
-use crate::program::{ended, example, file, folder, program, run, shell, PAIR};
+use crate::program::{ended, example, file, folder, pair_with, program, run, shell, PAIR};
 use dapohiru_generators::random::Random;
 use dapohiru_generators::walker::Walker;
 use dapohiru_second::walk::{Event, Walks};
@@ -70,7 +70,7 @@ fn different_plan_is_noted_and_used() {
 
 #[test]
 fn line_that_is_no_event_is_named_and_the_rest_is_taken() {
-    let job = PAIR.replace("P     1     1     0", "P     1     0     0");
+    let job = pair_with(&[("P     1     1     0", "P     1     0     0")]);
     let folder = folder("watch-wrong");
     let job = file(&folder, "plain.job", job.as_bytes());
     let long = "0".repeat(100_000);
@@ -117,9 +117,10 @@ fn line_that_is_no_event_is_named_and_the_rest_is_taken() {
 #[test]
 fn walk_begins_in_the_lowest_state_of_the_lowest_entry_or_the_one_asked_for() {
     let folder = folder("watch-state");
-    let job = PAIR
-        .replace("P     0     1     0     1", "P     0     1     0     0")
-        .replace("P     1     1     0     0", "P     1     1     0     6");
+    let job = pair_with(&[
+        ("P     0     1     0     1", "P     0     1     0     0"),
+        ("P     1     1     0     0", "P     1     1     0     6"),
+    ]);
     let job = file(&folder, "second.job", job.as_bytes());
     assert_eq!(
         run(&["watch", &job], ""),
