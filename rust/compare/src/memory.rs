@@ -169,13 +169,17 @@ impl<T: Ord + Copy + Debug> Counts<T> {
         *self.0.entry(answer).or_default() += 1;
     }
 
-    /// Adds the answer that both agree on, or fails with how they differ at what is named.
+    /// Asks that a comparison found the two to agree, adds the answer, and gives what was seen.
     #[track_caller]
-    pub fn agree(&mut self, name: impl Display, answer: Result<T, String>) {
-        match answer {
-            Ok(answer) => self.add(answer),
-            Err(why) => panic!("{name}: {why}"),
-        }
+    pub fn agree<S>(
+        &mut self,
+        name: impl Display,
+        compared: Result<S, String>,
+        answer: impl FnOnce(&S) -> T,
+    ) -> S {
+        let seen = compared.unwrap_or_else(|why| panic!("{name}: {why}"));
+        self.add(answer(&seen));
+        seen
     }
 
     pub fn of(&self, answer: T) -> u64 {

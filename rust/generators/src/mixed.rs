@@ -5,6 +5,15 @@ use crate::sized::{self, FULL};
 use crate::{rings, small};
 use dapohiru_second::job::Job;
 
+/// A job of a few nodes, one in four with its points in rings.
+pub fn small_job(random: &mut Random) -> Job {
+    if random.once_in(4) {
+        rings::job(random)
+    } else {
+        small::job(random)
+    }
+}
+
 /// A job of 512 nodes: one in so many has the longest file, the others have long loops.
 pub fn full_job(random: &mut Random, number: usize, one_in: usize) -> Job {
     if number.is_multiple_of(one_in) {

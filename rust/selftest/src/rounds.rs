@@ -12,7 +12,6 @@ use dapohiru_generators::events::Call;
 use dapohiru_generators::large::{self, Order};
 use dapohiru_generators::mixed;
 use dapohiru_generators::random::Random;
-use dapohiru_generators::rings;
 use dapohiru_generators::sized::{self, FULL};
 use dapohiru_generators::small;
 use dapohiru_generators::spread::Spread;
@@ -50,11 +49,7 @@ impl Rounds {
         let random = &mut random;
         match number % 8 {
             0 | 4 => {
-                let job = if random.once_in(4) {
-                    rings::job(random)
-                } else {
-                    small::job(random)
-                };
+                let job = mixed::small_job(random);
                 self.serve(random, &job)
             }
             1 | 5 => {

@@ -34,8 +34,8 @@ fn small_jobs_with_all_their_plans_agree_with_the_walks() {
         let job = small::job(&mut random);
         let walks = Walks::new(&job, None);
         for case in cases(&mut random, &job) {
-            let seen = case.compare(&mut memory, &walks);
-            counts.agree(format_args!("job {number}"), seen.map(|seen| seen.said));
+            let compared = case.compare(&mut memory, &walks);
+            counts.agree(format_args!("job {number}"), compared, |seen| seen.said);
         }
         let of = Features::of(&job);
         long_words += usize::from(of.call && needs_a_long_call_word(&job));
@@ -73,8 +73,8 @@ fn jobs_of_512_nodes_agree_with_the_walks() {
             }
         }
         for plan in plans {
-            let seen = Case::of(&job, plan).compare(&mut memory, &walks);
-            counts.agree(format_args!("job {number}"), seen.map(|seen| seen.said));
+            let compared = Case::of(&job, plan).compare(&mut memory, &walks);
+            counts.agree(format_args!("job {number}"), compared, |seen| seen.said);
         }
     }
     counts.print(&format!("{JOBS} jobs"));

@@ -50,13 +50,10 @@ fn lower_of_two_faults_decides() {
                     case = with_fault(case, &mut random, number);
                 }
                 let wanted = Said::Refused(one);
-                match case.compare(&mut memory, &walks) {
-                    Ok(seen) => {
-                        assert_eq!(seen.said, wanted, "{one} and {other}: {}", case.words())
-                    }
-                    Err(why) => panic!("{one} and {other}: {why}"),
-                }
-                counts.add(wanted);
+                let name = format!("{one} and {other}");
+                let compared = case.compare(&mut memory, &walks);
+                let seen = counts.agree(&name, compared, |seen| seen.said);
+                assert_eq!(seen.said, wanted, "{name}: {}", case.words());
             }
         }
     }

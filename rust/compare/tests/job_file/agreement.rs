@@ -13,8 +13,8 @@ fn random_files_agree_with_the_second_reader() {
     let mut memory = Memory::new();
     let mut counts = Counts::default();
     for number in 0..FILES {
-        let answer = memory.compare(&cases.any());
-        counts.agree(format_args!("file {number}"), answer);
+        let compared = memory.compare(&cases.any());
+        counts.agree(format_args!("file {number}"), compared, |&refused| refused);
     }
     counts.print("random damage");
     for (refused, in_thousand) in [

@@ -86,8 +86,8 @@ pub fn compare_all(what: &str, files: impl IntoIterator<Item = Vec<u8>>) -> Coun
     let mut memory = Memory::new();
     let mut counts = Counts::default();
     for (number, file) in files.into_iter().enumerate() {
-        let answer = memory.compare(&Case::of(file));
-        counts.agree(format_args!("{what}, file {number}"), answer);
+        let name = format_args!("{what}, file {number}");
+        counts.agree(name, memory.compare(&Case::of(file)), |&refused| refused);
     }
     counts.print(what);
     counts

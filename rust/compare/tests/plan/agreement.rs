@@ -4,8 +4,8 @@ use dapohiru_compare::memory::Counts;
 use dapohiru_compare::serving::{cases, Case, Memory, Said, Seen};
 use dapohiru_compare::wrapper::WRAPPER;
 use dapohiru_generators::features::{FeatureCounts, Features};
+use dapohiru_generators::mixed;
 use dapohiru_generators::random::Random;
-use dapohiru_generators::rings;
 use dapohiru_generators::small;
 use dapohiru_second::apart::Apart;
 use dapohiru_second::found::alike;
@@ -35,10 +35,8 @@ impl Calls {
     /// Makes a call, asks that the two agree on it, and gives what is seen of it.
     #[track_caller]
     pub fn agree(&mut self, name: impl Display, given: &Given, case: &Case) -> Seen {
-        let seen = case.compare(&mut self.memory, given);
-        let seen = seen.unwrap_or_else(|why| panic!("{name}: {why}"));
-        self.counts.add(case.said(&seen));
-        seen
+        let compared = case.compare(&mut self.memory, given);
+        self.counts.agree(name, compared, |seen| case.said(seen))
     }
 
     /// Makes the calls of a job, some of them with faults, asks that the two agree on each, and gives
@@ -67,10 +65,7 @@ fn small_jobs_agree_with_the_walks() {
     let (mut long_words, mut nop_stays, mut other_goes) = (0, 0, 0);
     let mut passes = BTreeMap::<_, u64>::new();
     for number in 0..JOBS {
-        let job = match number % 4 {
-            3 => rings::job(&mut random),
-            _ => small::job(&mut random),
-        };
+        let job = mixed::small_job(&mut random);
         let given = calls.agree_on(&mut random, number, &job);
         let of = Features::of(&job);
         features.add(of);

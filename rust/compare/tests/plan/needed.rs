@@ -4,9 +4,9 @@ use crate::monitors::plan_of;
 use dapohiru_compare::promise::{self, Needed};
 use dapohiru_compare::wrapper::WRAPPER;
 use dapohiru_generators::large::{self, Order};
+use dapohiru_generators::mixed;
 use dapohiru_generators::random::Random;
 use dapohiru_generators::rings;
-use dapohiru_generators::small;
 use dapohiru_second::job::Job;
 use dapohiru_second::slip::Slip;
 use dapohiru_second::walk::Walks;
@@ -37,10 +37,7 @@ fn all_needed(
 
 #[test]
 fn every_watched_point_of_a_small_job_has_a_walk_that_needs_it() {
-    let job = |random: &mut Random, number: usize| match number % 4 {
-        0 => rings::job(random),
-        _ => small::job(random),
-    };
+    let job = |random: &mut Random, _| mixed::small_job(random);
     let (points, longest) = all_needed(Random::fixed(17), 3_000, 1, job);
     assert!(points > 2_000 && longest >= 6);
 }
