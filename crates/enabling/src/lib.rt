@@ -1,7 +1,7 @@
 // The plan with every shadow enabled, and the enabled nodes counted.
 ghost use mathlib.Core.Path.{_≡_};
 ghost use Prim.Native.Nat.{_<_, _≤_};
-ghost use Rattle.job.specs.Planning.{shadowByte};
+ghost use Rattle.planning.specs.Planning.{shadowByte};
 ghost use Rattle.buffer.specs.Layout.{Lent};
 ghost use Rattle.buffer.specs.Views.{nodeIn};
 ghost use Rattle.passes.specs.Passes.{enabledTotal, AllEnabled};

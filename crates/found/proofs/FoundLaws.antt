@@ -13,7 +13,7 @@ use lib.ListN.{getD}
 use Rattle.laws.specs.Bytes.{putNumber}
 use Rattle.laws.proofs.Bytes.{number-cong, number-put, number-put-other}
 use Rattle.job.specs.Job.{Job}
-use Rattle.job.specs.Planning.{allEnabled}
+use Rattle.planning.specs.Planning.{allEnabled}
 use Rattle.buffer.specs.Buffer.{workSize}
 use Rattle.buffer.specs.Layout.{pairPart, classPart, foundPart, planPart, Lent}
 use Rattle.buffer.specs.Views.{pairRowIn}

@@ -8,7 +8,7 @@ use Prim.Native.Nat.{ℕ, _+_, _*_, _≤_, _<_}
 use Rattle.laws.specs.Bytes.{numberAt}
 use Rattle.job.specs.Job.{isEvent, Job, nodeAt}
 use Rattle.job.specs.Found.{statesBefore}
-use Rattle.job.specs.Listing.{planOf}
+use Rattle.planning.specs.Listing.{planOf}
 use Rattle.buffer.specs.Buffer.{workSize}
 use Rattle.buffer.specs.Layout.{pairPart, classPart, foundPart, planPart}
 use Rattle.buffer.specs.Kept.{SameOutside, Kept, Outside}

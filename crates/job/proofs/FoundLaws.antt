@@ -3,19 +3,20 @@
 use mathlib.Core.Path.{_≡_, refl, sym, ap, _∙_}
 use mathlib.Core.Logic.{_↔_, ⊎-elim}
 use mathlib.Core.Bool.{Bool, true, false, cond, not, _&&_, true≢false, and-eq-true-iff}
-use Prim.Native.Nat.{ℕ, zero, suc, _<_}
+use Prim.Native.Nat.{ℕ, zero, suc, _≤_, _<_}
 use native.Mathlib.Nat.{le-step, le-of-suc-le-suc, not-suc-le-zero, eq-or-lt-of-le}
 use native.Mathlib.Omega.{arith}
 use lib.Dec.{eqb}
 use borrow.Author.Tests.{eq-eqb, eqb-true, not-true}
 use Rattle.laws.specs.Bits.{has, with}
 use Rattle.laws.proofs.Tests.{passes-or-fails, or-passes, or-left, or-right}
-use Rattle.laws.proofs.Bounded.{all-at, all-of}
+use Rattle.laws.specs.Bounded.{sumBelow}
+use Rattle.laws.proofs.Bounded.{all-none, all-at, all-of, sum-front}
 use Rattle.laws.proofs.Bits.{has-empty, has-with}
 use Rattle.automaton.specs.Automaton.{next, final}
 use Rattle.job.specs.Job.{Job, WellFormedJob}
-use Rattle.job.specs.Found.{Arrives, setOf}
-use Rattle.job.specs.FoundSays.{BeforeSays, LowestSays, NopSays}
+use Rattle.job.specs.Found.{Arrives, setOf, lowest}
+use Rattle.job.specs.FoundSays.{BeforeSays, LowestSays, SomeClass, NopSays}
 use Rattle.job.specs.Search.{arrives, apart}
 use Rattle.job.proofs.Decide.{arrives-says, arrives-pair, apart-says, apart-not-says, equivalent-says}
 use Rattle.job.proofs.Bounds.{pair-within}
@@ -66,6 +67,16 @@ lowest-says j wf n q l s = (
       (λ (e : apart j n p q ≡ false). absurd (h p k (apart-not-says wf n p q l (omega arith) s .0 e)))
       (passes-or-fails (apart j n p q))),
 )
+
+-- a sum whose first term is one
+sum-some : (s : ℕ) (f : ℕ → ℕ) → 1 ≤ s → f 0 ≡ 1 → 1 ≤ sumBelow s f
+sum-some zero f h e = absurd (omega arith)
+sum-some (suc s) f h e = omega (arith, sum-front s f, e)
+
+-- the class count: state 0 is lowest
+pub some-class : SomeClass
+some-class j wf n =
+    sum-some (j .rule .states) (λ q. cond (lowest j n q) 1 0) (wf .rule .some-state) (ap (λ (b : Bool). cond b 1 0) (all-none (λ p. apart j n p 0)))
 
 -- the nop mark
 pub nop-says : NopSays

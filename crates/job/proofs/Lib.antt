@@ -2,6 +2,7 @@
 -- Assumes nothing.
 pub mod KindLaws
 pub mod SearchLaws
+pub mod PlanSays
 pub mod Pairs
 pub mod Bounds
 pub mod ConfigLaws
@@ -9,11 +10,4 @@ pub mod Decide
 pub mod FoundLaws
 pub mod Rules
 pub mod Nodes
-pub mod PlanBytes
-pub mod PassLaws
-pub mod PlanningLaws
-pub mod PlanningResult
-pub mod PlanningSays
 pub mod WellFormedTest
-pub mod TrialsPass
-pub mod Slips

@@ -1,14 +1,14 @@
--- What the before set, the lowest states and the nop mark say in walks: statements, with a theorem for each in `proofs/`.
+-- What the before set, the lowest states, the class count and the nop mark say in walks: statements, with a theorem for each in `proofs/`.
 -- Assumes nothing.
 use mathlib.Core.Path.{_≡_}
 use mathlib.Core.Logic.{_↔_}
 use mathlib.Core.Bool.{true, false}
-use Prim.Native.Nat.{ℕ, _<_}
+use Prim.Native.Nat.{ℕ, _≤_, _<_}
 use lib.ListN.{length}
 use Rattle.laws.specs.Bits.{has}
 use Rattle.automaton.specs.Automaton.{next, final}
 use Rattle.job.specs.Job.{Job, WellFormedJob}
-use Rattle.job.specs.Found.{Arrives, Equivalent, statesBefore, lowest, nopShadow}
+use Rattle.job.specs.Found.{Arrives, Equivalent, statesBefore, lowest, classCount, nopShadow}
 
 -- "the before set of a point holds the states in which some walk arrives there"
 abbrev pub BeforeSays : Type 0
@@ -19,6 +19,10 @@ abbrev pub LowestSays : Type 0
 LowestSays =
     (j : Job) → WellFormedJob j → (n q : ℕ) → n < length (j .nodes) → q < j .rule .states
     → (lowest j n q ≡ true) ↔ ((p : ℕ) → p < q → Equivalent j n p q → ⊥)
+
+-- "out of all S": some state is lowest in its class, also after a point that no walk reaches
+abbrev pub SomeClass : Type 0
+SomeClass = (j : Job) → WellFormedJob j → (n : ℕ) → 1 ≤ classCount j n
 
 -- "for every state of its before set, the next state is not final and is of the same class after the point as the state itself"
 abbrev pub NopSays : Type 0

@@ -3,11 +3,11 @@
 use mathlib.Core.Path.{_≡_}
 use mathlib.Core.Bool.{Bool, true, false, cond, not, _&&_}
 use mathlib.Core.List.{List, [], _∷_}
-use Prim.Native.Nat.{ℕ, _≤_, _<_}
+use Prim.Native.Nat.{ℕ, _<_}
 use lib.Dec.{eqb}
 use lib.ListN.{getD, length}
 use Rattle.automaton.specs.Automaton.{Automaton, next, final}
-use Rattle.job.specs.Job.{isEvent, Job, nodeAt}
+use Rattle.job.specs.Job.{Job}
 use Rattle.job.specs.Walk.{Event, shadow, word, symbolOf, Place, before, Walk, WalkOn, Start}
 
 -- which nodes are enabled ("watched")
@@ -21,12 +21,6 @@ full n = true
 -- "a plan marks each event node watched or unwatched": plan bytes, 1 watched, 0 all else
 abbrev pub enables : List ℕ → Enabling
 enables plan n = eqb (getD plan n 0) 1
-
--- bytes that are a plan of a job: one for each node, 0 or 1, and 1 at event nodes only
-pub record IsPlan (j : Job) (plan : List ℕ) : Type 0 where
-  pub long : length plan ≡ length (j .nodes)
-  pub bytes : (n : ℕ) → getD plan n 0 ≤ 1
-  pub shadows : (n : ℕ) → enables plan n ≡ true → isEvent (nodeAt j n .kind) ≡ true
 
 -- "events at unwatched points are skipped; events of call words and after words are always taken"
 abbrev pub takes : Enabling → Event → Bool

@@ -3,7 +3,7 @@
 use mathlib.Core.Path.{_≡_, refl}
 use Rattle.laws.specs.Bounded.{allBelow}
 use Rattle.laws.specs.Bits.{has}
-use Rattle.job.specs.Trials.{pair}
+use Rattle.planning.specs.Trials.{pair}
 use Rattle.lines.specs.Line.{decimal, field, fields, digitsOf, fieldOf, fieldsOf, lineOf}
 use Rattle.lines.specs.Lines.{linesOf}
 use Rattle.jobfile.specs.File.{finalsOf, someEntry, readRest, readJob, writeJob}

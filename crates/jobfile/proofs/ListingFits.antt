@@ -13,9 +13,9 @@ use Rattle.laws.proofs.Bits.{members-below}
 use Rattle.job.specs.Job.{Point, no-point, point, pointOf, Node, Job, noNode, KindBelow}
 use Rattle.job.specs.Found.{statesBefore, lowest, classCount, nopShadow}
 use Rattle.job.specs.Search.{faithful, arrives}
-use Rattle.job.specs.Listing.{ShadowLine, Listing, planOf, shadowLine, lineOf as lineAt, linesFrom, listingOf}
+use Rattle.planning.specs.Listing.{ShadowLine, Listing, planOf, shadowLine, lineOf as lineAt, linesFrom, listingOf}
 use Rattle.job.proofs.FoundLaws.{has-set-of}
-use Rattle.job.proofs.PlanningResult.{planned-plan, planned-fits}
+use Rattle.planning.proofs.PlanningResult.{planned-plan, planned-fits}
 use Rattle.lines.specs.Line.{line, writeLines, found, lineOf}
 use Rattle.lines.specs.Lines.{lines, linesOf}
 use Rattle.lines.specs.Written.{Fits, GoodLines, good-none, good-more}

@@ -8,9 +8,9 @@ use mathlib.Core.List.{List, [], _∷_, map}
 use native.Mathlib.Omega.{arith}
 use lib.ListN.{length, length-append}
 use Rattle.job.specs.Job.{Point, no-point, point, pointOf, isPoint, Node, Job}
-use Rattle.job.specs.Planning.{shadowByte, allEnabled, enabledCount}
-use Rattle.job.specs.Listing.{ShadowLine, TotalLine, planOf, lineOf, linesFrom, listingOf}
-use Rattle.job.proofs.PlanBytes.{count-le, all-enabled-plan}
+use Rattle.planning.specs.Planning.{shadowByte, allEnabled, enabledCount}
+use Rattle.planning.specs.Listing.{ShadowLine, TotalLine, planOf, lineOf, linesFrom, listingOf}
+use Rattle.planning.proofs.PlanBytes.{count-le, all-enabled-plan}
 use Rattle.lines.proofs.SpelledLine.{line-length}
 use Rattle.jobfile.specs.ListingLines.{shadowBytes, shadowsBytes, totalBytes, listingBytes, refusedBytes}
 

@@ -7,7 +7,7 @@ use Prim.Native.Nat.{ℕ}
 use Prim.Native.Char.{code}
 use Prim.Native.String.{String, [] as no-text, _∷_ as _then_}
 use lib.ListN.{replicate}
-use Rattle.job.specs.Trials.{pair}
+use Rattle.planning.specs.Trials.{pair}
 use Rattle.jobfile.specs.File.{Answer, accepted, turned, readJob}
 
 -- ---- how a file is written here

@@ -7,7 +7,7 @@ use mathlib.Core.List.{List, [], _∷_, map}
 use Prim.Native.Nat.{ℕ, _≤_}
 use lib.ListN.{length, getD}
 use Rattle.job.specs.Job.{Job}
-use Rattle.job.specs.Listing.{listingOf}
+use Rattle.planning.specs.Listing.{listingOf}
 use Rattle.lines.specs.Line.{found, lineOf}
 use Rattle.lines.specs.Lines.{Kind, lines, linesOf}
 use Rattle.lines.specs.Written.{Fits}

@@ -2,7 +2,7 @@
 -- Assumes nothing.
 use mathlib.Core.List.{List, [], _∷_, _++_}
 use Prim.Native.Nat.{ℕ}
-use Rattle.job.specs.Listing.{ShadowLine, TotalLine, Listing, listingOf}
+use Rattle.planning.specs.Listing.{ShadowLine, TotalLine, Listing, listingOf}
 use Rattle.lines.specs.Line.{line}
 use Rattle.jobfile.specs.File.{Answer, accepted, turned}
 

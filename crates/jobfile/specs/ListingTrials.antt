@@ -4,7 +4,7 @@
 use mathlib.Core.Path.{_≡_}
 use mathlib.Core.List.{List, [], _∷_}
 use Prim.Native.String.{String}
-use Rattle.job.specs.Trials.{loop, noPoint, aroundTheRing}
+use Rattle.planning.specs.Trials.{loop, noPoint, aroundTheRing}
 use Rattle.jobfile.specs.File.{Answer, accepted, turned, readJob}
 use Rattle.jobfile.specs.FileTrials.{linesIn, pairFile}
 use Rattle.jobfile.specs.ListingLines.{printedFor}

@@ -17,9 +17,9 @@ use Rattle.job.specs.Job.{Point, no-point, point, pointOf, isPoint, isEvent, No
 use Rattle.job.specs.Plan.{enables}
 use Rattle.job.specs.Search.{faithful}
 use Rattle.job.specs.Found.{statesBefore, classCount, nopShadow}
-use Rattle.job.specs.Listing.{ShadowLine, planOf, shadowLine, lineOf, linesFrom, listingOf}
-use Rattle.job.proofs.PlanBytes.{enabled-mark}
-use Rattle.job.proofs.PlanningResult.{planned-plan}
+use Rattle.planning.specs.Listing.{ShadowLine, planOf, shadowLine, lineOf, linesFrom, listingOf}
+use Rattle.planning.proofs.PlanBytes.{enabled-mark}
+use Rattle.planning.proofs.PlanningResult.{planned-plan}
 use Rattle.lines.specs.Line.{line}
 use Rattle.jobfile.specs.ListingLines.{shadowNumbers, shadowBytes, shadowsBytes, totalBytes, listingBytes}
 use Rattle.jobfile.proofs.ListingLength.{shadows-length, total-length}

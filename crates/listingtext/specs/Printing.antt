@@ -8,7 +8,7 @@ use Prim.Native.Nat.{ℕ, _+_, _*_, _≤_, _<_}
 use lib.ListN.{length}
 use lib.Seq.{sets}
 use Rattle.job.specs.Job.{pointOf, Job, nodeAt}
-use Rattle.job.specs.Listing.{planOf, lineOf, listingOf}
+use Rattle.planning.specs.Listing.{planOf, lineOf, listingOf}
 use Rattle.jobfile.specs.ListingLines.{shadowsBytes, listingBytes}
 use Rattle.passes.specs.declared.passes.Counts.{Counts}
 use Rattle.passes.specs.Counts.{countsOf}

@@ -9,7 +9,7 @@ use lib.ListN.{length}
 use lib.Seq.{sets}
 use Rattle.callnumber.specs.CallNumber.{acceptedFrom}
 use Rattle.job.specs.Job.{Job}
-use Rattle.job.specs.Listing.{listingOf}
+use Rattle.planning.specs.Listing.{listingOf}
 use Rattle.jobfile.specs.File.{Answer, accepted, turned}
 use Rattle.jobfile.specs.ListingLines.{listingBytes}
 use Rattle.buffer.specs.Buffer.{workSize}

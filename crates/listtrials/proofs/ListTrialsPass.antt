@@ -11,8 +11,8 @@ use borrow.Author.Tests.{ltb-false}
 use Rattle.laws.specs.Bounded.{allBelow, sumBelow}
 use Rattle.laws.specs.Bits.{has}
 use Rattle.automaton.specs.Automaton.{cell}
-use Rattle.job.specs.Planning.{passed, samePlan, passesFrom, enabledCount}
-use Rattle.job.specs.Listing.{linesFrom, listingOf}
+use Rattle.planning.specs.Planning.{passed, samePlan, passesFrom, enabledCount}
+use Rattle.planning.specs.Listing.{linesFrom, listingOf}
 use Rattle.job.specs.Found.{setOf}
 use Rattle.job.specs.Search.{pushAll, explore, reached, anyOf, numbersOf, targets, silentMoves, toldMoves, afterConfig, splits, startsBelow, faithful, arrives, apart}
 use Rattle.lines.specs.Line.{decimal, field, fields, digitsOf, fieldOf, fieldsOf, lineOf}

@@ -8,7 +8,7 @@ use Prim.Native.Nat.{ℕ, _≤_}
 use Prim.Native.String.{String}
 use lib.ListN.{length}
 use lib.Seq.{sets}
-use Rattle.job.specs.Trials.{turn, lastSeal, writeTwice, aroundTheRing}
+use Rattle.planning.specs.Trials.{turn, lastSeal, writeTwice, aroundTheRing}
 use Rattle.jobfile.specs.File.{Answer, writeJob}
 use Rattle.jobfile.specs.FileTrials.{linesIn, pairFile, smallHead, smallRule, smallNode, withNode}
 use Rattle.buffer.specs.Buffer.{workSize, cleared}

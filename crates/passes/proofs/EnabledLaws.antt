@@ -14,12 +14,12 @@ use Rattle.buffer.proofs.KeptLaws.{kept-same, kept-then}
 use Rattle.laws.specs.Bounded.{sumBelow}
 use Rattle.laws.proofs.Bounded.{sum-none, sum-more, sum-cong}
 use Rattle.job.specs.Job.{Kind, isEvent, Node, Job, nodeAt}
-use Rattle.job.specs.Plan.{enables, IsPlan}
-use Rattle.job.specs.Planning.{shadowByte, allEnabled, enabledCount}
-use Rattle.job.specs.Listing.{planOf}
+use Rattle.job.specs.Plan.{enables}
+use Rattle.planning.specs.Planning.{IsPlan, shadowByte, allEnabled, enabledCount}
+use Rattle.planning.specs.Listing.{planOf}
 use Rattle.job.specs.Search.{faithful}
-use Rattle.job.proofs.PlanBytes.{count-says, all-enabled-byte, all-enabled-length, all-enabled-count}
-use Rattle.job.proofs.PlanningResult.{planned-plan}
+use Rattle.planning.proofs.PlanBytes.{count-says, all-enabled-byte, all-enabled-length, all-enabled-count}
+use Rattle.planning.proofs.PlanningResult.{planned-plan}
 use Rattle.buffer.specs.Layout.{planPart, rulePart, Lent}
 use Rattle.buffer.specs.Views.{nodeIn, enabledIn}
 use Rattle.buffer.specs.Kept.{SameOutside}

@@ -7,9 +7,9 @@ use Prim.Native.Nat.{ℕ, zero, suc, _+_, _-_, _*_, _≤_, _<_, zero-le}
 use native.Mathlib.Nat.{le-refl}
 use native.Mathlib.Omega.{arith}
 use Rattle.job.specs.Job.{Job}
-use Rattle.job.specs.Planning.{tried, passed, enabledCount}
+use Rattle.planning.specs.Planning.{tried, passed, enabledCount}
 use Rattle.job.specs.Search.{faithful}
-use Rattle.job.proofs.PassLaws.{Kept, passed-more, passed-says, kept-none, kept-more}
+use Rattle.planning.proofs.PassLaws.{Kept, passed-more, passed-says, kept-none, kept-more}
 use Rattle.tables.specs.Held.{Usable, JobHeld, AfterHeld}
 use Rattle.passes.specs.Passes.{planIn, PlanningKept, TriedAt, FirstGone, LastGone}
 use Rattle.passes.proofs.PlanInLaws.{planning-none, planning-both, job-kept, after-kept}

@@ -9,12 +9,12 @@ use lib.ListN.{length, getD}
 use Rattle.laws.specs.Bytes.{AreBytes}
 use Rattle.laws.proofs.Bounded.{sum-bound}
 use Rattle.job.specs.Job.{Job}
-use Rattle.job.specs.Planning.{passed, Planned, enabledCount, allEnabled}
-use Rattle.job.specs.Listing.{planOf}
+use Rattle.planning.specs.Planning.{passed, Planned, enabledCount, allEnabled}
+use Rattle.planning.specs.Listing.{planOf}
 use Rattle.job.specs.Search.{faithful}
-use Rattle.job.proofs.PlanBytes.{count-sum}
-use Rattle.job.proofs.PassLaws.{Kept, passed-says, kept-none, kept-passed}
-use Rattle.job.proofs.PlanningLaws.{settled, Underway, underway-start, underway-more, underway-last}
+use Rattle.planning.proofs.PlanBytes.{count-sum}
+use Rattle.planning.proofs.PassLaws.{Kept, passed-says, kept-none, kept-passed}
+use Rattle.planning.proofs.PlanningLaws.{settled, Underway, underway-start, underway-more, underway-last}
 use Rattle.buffer.specs.Layout.{planPart, Lent}
 use Rattle.tables.specs.Held.{Usable, JobHeld, AfterHeld}
 use Rattle.passes.specs.Passes.{planIn, PlanningKept, TriedFrom, FirstGone, LastGone, PassMade, PassesMade}

@@ -10,10 +10,10 @@ use native.Mathlib.Nat.{lt-of-lt-of-le}
 use lib.ListN.{set}
 use Rattle.job.specs.Job.{Job}
 use Rattle.job.specs.Plan.{enables}
-use Rattle.job.specs.Planning.{enabledCount}
+use Rattle.planning.specs.Planning.{enabledCount}
 use Rattle.job.specs.Search.{faithful}
-use Rattle.job.proofs.PlanBytes.{set-back, count-set}
-use Rattle.job.proofs.PassLaws.{tried-disabled, tried-needed, tried-removed}
+use Rattle.planning.proofs.PlanBytes.{set-back, count-set}
+use Rattle.planning.proofs.PassLaws.{tried-disabled, tried-needed, tried-removed}
 use Rattle.buffer.specs.Layout.{planPart}
 use Rattle.buffer.specs.Views.{enabledIn}
 use Rattle.tables.specs.Held.{Usable, JobHeld, AfterHeld}

@@ -1,8 +1,8 @@
 -- The counts that planning returns (document 01, "Planning").
 -- Assumes nothing.
 use Rattle.job.specs.Job.{Job}
-use Rattle.job.specs.Planning.{allEnabled, enabledCount}
-use Rattle.job.specs.Listing.{planOf}
+use Rattle.planning.specs.Planning.{allEnabled, enabledCount}
+use Rattle.planning.specs.Listing.{planOf}
 use Rattle.passes.specs.declared.passes.Counts.{Counts}
 
 -- "the counts of event nodes, watched points and passes"

@@ -8,8 +8,8 @@ use mathlib.Core.List.{List}
 use Prim.Native.Nat.{ℕ, _≤_, _<_}
 use lib.ListN.{take, drop}
 use Rattle.job.specs.Job.{Job}
-use Rattle.job.specs.Planning.{allEnabled, tried, passed, enabledCount}
-use Rattle.job.specs.Listing.{planOf}
+use Rattle.planning.specs.Planning.{allEnabled, tried, passed, enabledCount}
+use Rattle.planning.specs.Listing.{planOf}
 use Rattle.job.specs.Search.{faithful}
 use Rattle.buffer.specs.Layout.{pairPart, classPart, planPart, rulePart, marksEnd}
 use Rattle.buffer.specs.Views.{enabledIn}

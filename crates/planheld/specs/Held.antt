@@ -6,7 +6,7 @@ use mathlib.Core.List.{List}
 use Prim.Native.Nat.{ℕ}
 use lib.Seq.{sets}
 use Rattle.job.specs.Job.{Job}
-use Rattle.job.specs.Listing.{planOf}
+use Rattle.planning.specs.Listing.{planOf}
 use Rattle.buffer.specs.Buffer.{workSize}
 use Rattle.buffer.specs.Layout.{nodesPart}
 use Rattle.buffer.specs.Kept.{SameOutside}

@@ -7,8 +7,8 @@ use Prim.Native.Nat.{ℕ, _≤_}
 use native.Mathlib.Omega.{arith}
 use Rattle.job.specs.Job.{Job}
 use Rattle.job.specs.Search.{faithful}
-use Rattle.job.specs.Listing.{planOf}
-use Rattle.job.proofs.PlanningResult.{PlannedFits, planned-fits}
+use Rattle.planning.specs.Listing.{planOf}
+use Rattle.planning.proofs.PlanningResult.{PlannedFits, planned-fits}
 use Rattle.jobfile.specs.File.{accepted}
 use Rattle.jobfile.proofs.SpellableLaws.{read-written}
 use Rattle.tables.specs.Held.{JobHeld}

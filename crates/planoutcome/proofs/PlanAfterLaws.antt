@@ -12,10 +12,10 @@ use borrow.Author.Tests.{ltb-false, lt-ltb, le-ltb}
 use Rattle.laws.proofs.Tests.{fails-of, or-right}
 use Rattle.callnumber.specs.CallNumber.{acceptedFrom}
 use Rattle.job.specs.Job.{Job}
-use Rattle.job.specs.Plan.{IsPlan}
-use Rattle.job.specs.Listing.{planOf}
+use Rattle.planning.specs.Planning.{IsPlan}
+use Rattle.planning.specs.Listing.{planOf}
 use Rattle.job.specs.Search.{faithful}
-use Rattle.job.proofs.PlanningResult.{planned-plan, planned-counts}
+use Rattle.planning.proofs.PlanningResult.{planned-plan, planned-counts}
 use Rattle.jobfile.specs.File.{Answer, accepted, turned, readJob}
 use Rattle.jobfile.proofs.SpellableLaws.{read-written}
 use Rattle.buffer.specs.Buffer.{workSize}

@@ -6,7 +6,7 @@ use Prim.Native.Nat.{ℕ, _+_, _*_, _^_}
 use lib.Dec.{ltb}
 use lib.Seq.{sets}
 use Rattle.callnumber.specs.CallNumber.{acceptedFrom}
-use Rattle.job.specs.Listing.{planOf}
+use Rattle.planning.specs.Listing.{planOf}
 use Rattle.jobfile.specs.File.{Answer, accepted, turned}
 use Rattle.buffer.specs.Buffer.{workSize}
 use Rattle.passes.specs.Counts.{countsOf}

@@ -10,8 +10,8 @@ use lib.Dec.{ltb}
 use lib.ListN.{length, take}
 use Rattle.callnumber.specs.CallNumber.{acceptedFrom}
 use Rattle.job.specs.Job.{Job}
-use Rattle.job.specs.Plan.{IsPlan}
-use Rattle.job.specs.Listing.{planOf}
+use Rattle.planning.specs.Planning.{IsPlan}
+use Rattle.planning.specs.Listing.{planOf}
 use Rattle.jobfile.specs.File.{Answer, accepted, turned}
 use Rattle.passes.specs.declared.passes.Counts.{Counts}
 use Rattle.passes.specs.Counts.{countsOf}

@@ -8,10 +8,10 @@ use lib.Dec.{eqb}
 use borrow.Author.Tests.{eqb-true, eqb-false}
 use Rattle.laws.proofs.Tests.{passes-or-fails, fails-of}
 use Rattle.job.specs.Plan.{enables, stateAfter}
-use Rattle.job.specs.Planning.{allEnabled}
+use Rattle.planning.specs.Planning.{allEnabled}
 use Rattle.job.specs.Search.{arrives}
 use Rattle.job.proofs.Decide.{faithful-says, arrives-says}
-use Rattle.job.proofs.PlanningResult.{all-enabled-faithful}
+use Rattle.planning.proofs.PlanningResult.{all-enabled-faithful}
 use Rattle.buffer.specs.Views.{pairRowIn}
 use Rattle.tables.proofs.RowLaws.{any-member, has-nothing}
 use Rattle.search.specs.Searched.{Searched, SearchFinds, AllEnabledFinds}

@@ -9,7 +9,7 @@ use lib.Dec.{eqb}
 use Rattle.job.specs.Job.{isEvent, Job, nodeAt, WellFormedJob}
 use Rattle.job.specs.Walk.{before}
 use Rattle.job.specs.Plan.{full, enables, ArrivesAt}
-use Rattle.job.specs.Planning.{allEnabled}
+use Rattle.planning.specs.Planning.{allEnabled}
 use Rattle.job.specs.Search.{faithful, arrives}
 use Rattle.buffer.specs.Views.{pairRowIn, Held}
 use Rattle.tables.specs.Tables.{SearchKept}

@@ -9,10 +9,10 @@ use Rattle.events.specs.Form.{EventForm, FormMoves}
 use Rattle.job.specs.Job.{Job, WellFormedJob}
 use Rattle.job.specs.Plan.{enables, Different}
 use Rattle.job.specs.Search.{faithful}
-use Rattle.job.specs.Listing.{planOf}
+use Rattle.planning.specs.Listing.{planOf}
 use Rattle.twomonitors.specs.Monitors.{CallsExist, TwoMonitors}
 use Rattle.job.proofs.Decide.{faithful-says, different-says}
-use Rattle.job.proofs.PlanningResult.{plan-faithful, planned-needs}
+use Rattle.planning.proofs.PlanningResult.{plan-faithful, planned-needs}
 use Rattle.twomonitors.proofs.MonitorsLaws.{faithful-kept, different-told}
 
 -- each point that planning leaves watched is needed, with the walk that shows it

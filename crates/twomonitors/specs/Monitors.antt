@@ -13,7 +13,7 @@ use Rattle.events.specs.Run.{Seen, seen, consIf}
 use Rattle.job.specs.Job.{Job, WellFormedJob}
 use Rattle.job.specs.Walk.{Event, symbolOf, Start, WalkFrom}
 use Rattle.job.specs.Plan.{Enabling, takes, enables}
-use Rattle.job.specs.Listing.{planOf}
+use Rattle.planning.specs.Listing.{planOf}
 
 -- ---- a list of calls
 

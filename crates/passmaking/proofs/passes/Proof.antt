@@ -3,7 +3,7 @@
 -- Measure: the watched points that are left, and one pass more; nothing once a pass changed nothing.
 -- Assumes nothing.
 use native.Mathlib.Omega.{arith}
-use Rattle.job.specs.Planning.{enabledCount}
+use Rattle.planning.specs.Planning.{enabledCount}
 use Rattle.passes.specs.Passes.{planIn}
 use Rattle.passes.proofs.PlanInLaws.{usable-kept}
 use Rattle.passes.proofs.PassMadeLaws.{count-bounded, Passing, passing-start, passing-more, passesLeft, passes-left-falls, passing-end}

@@ -6,9 +6,9 @@ use mathlib.Core.Bool.{Bool, true, false}
 use mathlib.Core.List.{List, [], _∷_}
 use Prim.Native.Nat.{ℕ}
 use Rattle.automaton.specs.Automaton.{Automaton, automatonOf}
 use Rattle.job.specs.Job.{Kind, plain, event, call, Node, Edge, Job, WellFormedJob}
 use Rattle.job.specs.Plan.{enables, Faithful, Different}
-use Rattle.job.specs.Listing.{ShadowLine, TotalLine, planOf, listingOf}
+use Rattle.planning.specs.Listing.{ShadowLine, TotalLine, planOf, listingOf}
 
 -- ---- how a trial is written
 

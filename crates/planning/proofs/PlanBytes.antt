@@ -16,9 +16,9 @@ use borrow.Author.Tests.{eqb-true, eqb-false, eq-eqb, ne-eqb}
 use Rattle.laws.specs.Bounded.{sumBelow}
 use Rattle.laws.proofs.Bounded.{sum-front, sum-cong, sum-bound}
 use Rattle.laws.proofs.Tests.{fails-of, passes-or-fails}
 use Rattle.job.specs.Job.{isEvent, Node, Job, noNode, nodeAt}
-use Rattle.job.specs.Plan.{enables, IsPlan}
-use Rattle.job.specs.Planning.{shadowByte, allEnabled, samePlan, enabledCount}
+use Rattle.job.specs.Plan.{enables}
+use Rattle.planning.specs.Planning.{IsPlan, shadowByte, allEnabled, samePlan, enabledCount}
 
 -- ---- bytes
 

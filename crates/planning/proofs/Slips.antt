@@ -5,14 +5,14 @@ use mathlib.Core.List.{[], _∷_}
 use Rattle.laws.specs.Bounded.{allBelow}
 use Rattle.laws.specs.Bits.{has}
 use Rattle.automaton.specs.Automaton.{cell, cellsBelow, wellFormed}
 use Rattle.job.specs.Plan.{alarms}
-use Rattle.job.specs.Planning.{allEnabled, passed, samePlan, passesFrom, enabledCount}
+use Rattle.planning.specs.Planning.{allEnabled, passed, samePlan, passesFrom, enabledCount}
 use Rattle.job.specs.Search.{pushAll, explore, reached, anyOf, numbersOf, targets, silentMoves, toldMoves, afterConfig, splits, startsBelow, faithful, arrives, apart}
-use Rattle.job.specs.Trials.{pair, loop, turn, reopened}
-use Rattle.job.specs.Slips.{Slips}
+use Rattle.planning.specs.Trials.{pair, loop, turn, reopened}
+use Rattle.planning.specs.Slips.{Slips}
 use Rattle.job.proofs.Decide.{faithful-says, different-says}
-use Rattle.job.proofs.PlanningResult.{passed-relation}
+use Rattle.planning.proofs.PlanningResult.{passed-relation}
 use Rattle.job.proofs.WellFormedTest.{nodesBelow, edgesBelow, wellFormedJob, well-formed-job}
 
 -- the slips and the worthless versions are wrong
 pub slips : Slips

@@ -6,14 +6,14 @@ use mathlib.Core.Bool.{true, false}
 use Rattle.laws.specs.Bounded.{allBelow, sumBelow}
 use Rattle.laws.specs.Bits.{has}
 use Rattle.automaton.specs.Automaton.{cell, cellsBelow, wellFormed}
 use Rattle.job.specs.Job.{Job, WellFormedJob}
-use Rattle.job.specs.Planning.{passed, samePlan, passesFrom, enabledCount}
-use Rattle.job.specs.Listing.{planOf, linesFrom, listingOf}
+use Rattle.planning.specs.Planning.{passed, samePlan, passesFrom, enabledCount}
+use Rattle.planning.specs.Listing.{planOf, linesFrom, listingOf}
 use Rattle.job.specs.Found.{setOf}
 use Rattle.job.specs.Search.{pushAll, explore, reached, anyOf, numbersOf, targets, silentMoves, toldMoves, afterConfig, splits, startsBelow, faithful, arrives, apart}
-use Rattle.job.specs.Trials.{Asked, lists, plans, checks, Trial, Answers, TrialPasses, AllPass, done, _and_, trials}
+use Rattle.planning.specs.Trials.{Asked, lists, plans, checks, Trial, Answers, TrialPasses, AllPass, done, _and_, trials}
 use Rattle.job.proofs.Decide.{faithful-says, different-says}
 use Rattle.job.proofs.WellFormedTest.{nodesBelow, edgesBelow, wellFormedJob, well-formed-job}
 
 -- what is computed for an answer: a listing, a plan, or the test of a plan
 abbrev Computes : Job → Asked → Type 0

@@ -9,16 +9,16 @@ use Prim.Native.Nat.{ℕ, zero, suc, _+_, _≤_}
 use native.Mathlib.Omega.{arith}
 use lib.ListN.{length, set}
 use Rattle.laws.specs.Bounded.{sumBelow}
 use Rattle.job.specs.Job.{isPoint, isEvent, Job, nodeAt}
 use Rattle.job.proofs.KindLaws.{ToldBy, by-point, by-words, by-after, told-by}
 use Rattle.job.specs.Walk.{Event, Place, Told, Walk, stop, move, tell}
-use Rattle.job.specs.Plan.{Enabling, full, enables, takes, stateAt, alarmAt, alarms, IsPlan, Faithful}
-use Rattle.job.specs.Planning.{allEnabled, tried, passed, Planned, enabledCount, planned}
-use Rattle.job.specs.Planning.{Tried, removed, needed, disabled, Passed, none, next-node, PassesTo, last, again}
-use Rattle.job.proofs.PlanBytes.{Lowered, lowered-plan, lowered-count, enabled-within, count-says, count-le}
-use Rattle.job.proofs.PlanBytes.{all-enabled-plan, all-enabled-event}
-use Rattle.job.proofs.PassLaws.{TriedBy, goes, stays, passed-by, tried-by, passed-needs}
-use Rattle.job.proofs.PlanningLaws.{PassesBy, last-by, again-by, settled-by, passes-lowered, passes-settled, passes-passes, passes-some, passes-few}
+use Rattle.job.specs.Plan.{Enabling, full, enables, takes, stateAt, alarmAt, alarms, Faithful}
+use Rattle.planning.specs.Planning.{IsPlan, allEnabled, tried, passed, Planned, enabledCount, planned}
+use Rattle.planning.specs.Planning.{Tried, removed, needed, disabled, Passed, none, next-node, PassesTo, last, again}
+use Rattle.planning.proofs.PlanBytes.{Lowered, lowered-plan, lowered-count, enabled-within, count-says, count-le}
+use Rattle.planning.proofs.PlanBytes.{all-enabled-plan, all-enabled-event}
+use Rattle.planning.proofs.PassLaws.{TriedBy, goes, stays, passed-by, tried-by, passed-needs}
+use Rattle.planning.proofs.PlanningLaws.{PassesBy, last-by, again-by, settled-by, passes-lowered, passes-settled, passes-passes, passes-some, passes-few}
 
 -- ---- the relations allow one result
 

@@ -12,11 +12,11 @@ use native.Mathlib.Numerals.{add-one}
 use native.Mathlib.Omega.{arith}
 use lib.ListN.{set}
 use Rattle.laws.proofs.Tests.{fails-of}
 use Rattle.job.specs.Job.{Job}
-use Rattle.job.specs.Plan.{enables, IsPlan}
-use Rattle.job.specs.Planning.{tried, passed, enabledCount}
-use Rattle.job.proofs.PlanBytes.{set-differs, count-set, lowered-plan}
-use Rattle.job.proofs.PlanBytes.{Lowered, lowered-refl, lowered-trans, lowered-set, lowered-count, lowered-same, lowered-falls}
+use Rattle.job.specs.Plan.{enables}
+use Rattle.planning.specs.Planning.{IsPlan, tried, passed, enabledCount}
+use Rattle.planning.proofs.PlanBytes.{set-differs, count-set, lowered-plan}
+use Rattle.planning.proofs.PlanBytes.{Lowered, lowered-refl, lowered-trans, lowered-set, lowered-count, lowered-same, lowered-falls}
 
 -- ---- tries
 

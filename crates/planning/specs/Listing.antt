@@ -4,10 +4,10 @@ use mathlib.Core.Bool.{cond}
 use mathlib.Core.List.{List, [], _∷_}
 use Prim.Native.Nat.{ℕ, suc}
 use lib.ListN.{getD}
 use Rattle.job.specs.Job.{Point, no-point, point, pointOf, Node, Job}
 use Rattle.job.specs.Found.{statesBefore, classCount, nopShadow}
-use Rattle.job.specs.Planning.{Planned, planned, allEnabled, enabledCount}
+use Rattle.planning.specs.Planning.{Planned, planned, allEnabled, enabledCount}
 use Rattle.job.specs.Search.{faithful}
 
 -- "W: node, symbol, before set, class count, nop mark, watched"
 pub record ShadowLine : Type 0 where

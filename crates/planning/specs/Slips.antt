@@ -5,12 +5,12 @@ use mathlib.Core.Path.{_≡_}
 use mathlib.Core.Bool.{true, false}
 use mathlib.Core.List.{List, [], _∷_}
 use lib.ListN.{length}
 use Rattle.job.specs.Walk.{Event, shadow}
 use Rattle.job.specs.Plan.{full, enables, alarms, Faithful, Different}
-use Rattle.job.specs.Planning.{allEnabled, Passed}
-use Rattle.job.specs.Listing.{planOf}
+use Rattle.planning.specs.Planning.{allEnabled, Passed}
+use Rattle.planning.specs.Listing.{planOf}
 use Rattle.job.specs.Found.{nopShadow}
-use Rattle.job.specs.Trials.{pairRule, pair, loop, turn, reopened}
+use Rattle.planning.specs.Trials.{pairRule, pair, loop, turn, reopened}
 
 -- the walk of `reopened` through both its points
 abbrev pub reopenAndWrite : List Event

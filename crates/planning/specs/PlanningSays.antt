@@ -3,9 +3,9 @@
 use mathlib.Core.Path.{_≡_}
 use mathlib.Core.List.{List}
 use Prim.Native.Nat.{ℕ}
 use Rattle.job.specs.Job.{Job, WellFormedJob}
-use Rattle.job.specs.Planning.{allEnabled, PassesTo}
-use Rattle.job.specs.Listing.{planOf}
+use Rattle.planning.specs.Planning.{allEnabled, PassesTo}
+use Rattle.planning.specs.Listing.{planOf}
 
 -- for every well-formed job: the plan and its number of passes are those that the sentences of document 01 come to, and the only ones
 pub record PlanningSays : Type 0 where

@@ -7,9 +7,9 @@ use mathlib.Core.Bool.{Bool, true, false, cond, true≢false}
 use mathlib.Core.List.{List}
 use Prim.Native.Nat.{ℕ, zero, suc, _+_, _≤_, _<_}
 use native.Mathlib.Omega.{arith}
-use Rattle.job.specs.Planning.{passed, samePlan, Planned, onePassMore, passesFrom, enabledCount}
-use Rattle.job.proofs.PlanBytes.{same-says, Lowered, lowered-refl, lowered-trans}
-use Rattle.job.proofs.PassLaws.{passed-lowered, passed-falls, passed-passes}
+use Rattle.planning.specs.Planning.{passed, samePlan, Planned, onePassMore, passesFrom, enabledCount}
+use Rattle.planning.proofs.PlanBytes.{same-says, Lowered, lowered-refl, lowered-trans}
+use Rattle.planning.proofs.PassLaws.{passed-lowered, passed-falls, passed-passes}
 
 -- passes with a test until one changes nothing, which is counted too, with no bound: from a plan, to a plan, in so many
 pub data PassesBy (test : List ℕ → Bool) (n : ℕ) : List ℕ → List ℕ → ℕ → Type 0 where

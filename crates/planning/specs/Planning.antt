@@ -1,13 +1,19 @@
--- Planning (document 01, "Planning"), as a function of a test of plans and as a relation.
+-- Plan bytes, and planning (document 01, "Planning"), as a function of a test of plans and as a relation.
 -- Assumes nothing.
 use mathlib.Core.Path.{_≡_}
 use mathlib.Core.Bool.{Bool, true, false, cond, _&&_}
 use mathlib.Core.List.{List, [], _∷_, map}
-use Prim.Native.Nat.{ℕ, zero, suc, _+_}
+use Prim.Native.Nat.{ℕ, zero, suc, _+_, _≤_}
 use lib.Dec.{eqb}
-use lib.ListN.{length, set}
-use Rattle.job.specs.Job.{Kind, isEvent, Node, Job}
+use lib.ListN.{length, getD, set}
+use Rattle.job.specs.Job.{Kind, isEvent, Node, Job, nodeAt}
 use Rattle.job.specs.Plan.{enables, Faithful}
+
+-- bytes that are a plan of a job: one for each node, 0 or 1, and 1 at event nodes only
+pub record IsPlan (j : Job) (plan : List ℕ) : Type 0 where
+  pub long : length plan ≡ length (j .nodes)
+  pub bytes : (n : ℕ) → getD plan n 0 ≤ 1
+  pub shadows : (n : ℕ) → enables plan n ≡ true → isEvent (nodeAt j n .kind) ≡ true
 
 -- 1 at an event node, 0 at any other
 abbrev pub shadowByte : Kind → ℕ

@@ -1,9 +1,9 @@
 -- Planning comes to the one plan and number of passes that the sentences of document 01 allow: its test of plans says `Faithful`.
 -- Assumes nothing.
 use Rattle.job.specs.Search.{faithful}
-use Rattle.job.specs.PlanningSays.{PlanningSays}
+use Rattle.planning.specs.PlanningSays.{PlanningSays}
 use Rattle.job.proofs.Decide.{faithful-says}
-use Rattle.job.proofs.PlanningResult.{planned-relation, planned-unique}
+use Rattle.planning.proofs.PlanningResult.{planned-relation, planned-unique}
 
 -- the result, and that it is the only one
 pub planning-says : PlanningSays
