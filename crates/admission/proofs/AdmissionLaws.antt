@@ -26,7 +26,7 @@ use Rattle.buffer.specs.Kept.{SameOutside}
 use Rattle.jobhead.specs.declared.head.Head.{Head}
 use Rattle.jobhead.specs.ReadLines.{refusedHead}
 use Rattle.jobhead.specs.Reading.{headOfAnswer, JobRead, SameRest}
-use Rattle.jobreader.proofs.ClearLaws.{cleared-same}
+use Rattle.buffer.proofs.ClearedLaws.{cleared-same}
 use Rattle.admission.specs.Admission.{admitted, refusedLeft}
 use Rattle.admission.specs.Admitted.{Admitted}
 use Rattle.admission.proofs.JobHeldLaws.{finals-read, usable-read, job-read}

@@ -13,7 +13,7 @@ use Rattle.buffer.specs.Layout.{nodesPart}
 use Rattle.buffer.specs.Kept.{SameOutside}
 use Rattle.jobhead.specs.declared.head.Head.{Head}
 use Rattle.jobhead.specs.Reading.{headOfAnswer}
-use Rattle.jobreader.specs.Rule.{ruleIn}
+use Rattle.buffer.specs.Views.{ruleRowsIn}
 use Rattle.tables.specs.Held.{JobHeld}
 use Rattle.admission.specs.Admission.{workAfter, WrittenFirst}
 use Rattle.admission.specs.Admitted.{Admitted}
@@ -50,7 +50,7 @@ module _ {X : Type 0} (outcome : Answer → X) (after : Answer → List ℕ → 
   -- the answer for the job that was admitted
   pub ends-accepted
       : r .refusal ≡ 0 → (k : List ℕ) (x : X) (other′ : List ℕ) → SameOutside m k nodesPart workSize
-      → ((j : Job) → JobHeld j m (ruleIn m) (r .finals) (r .states) (r .nodes)
+      → ((j : Job) → JobHeld j m (ruleRowsIn m) (r .finals) (r .states) (r .nodes)
       → (x ≡ outcome (accepted j)) × (other′ ≡ after (accepted j) other))
       → Ends outcome after answer work other x (cleared k) other′
   ends-accepted h k x other′ kept exact =

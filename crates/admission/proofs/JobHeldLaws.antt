@@ -19,11 +19,11 @@ use Rattle.jobfile.specs.Spellable.{Spellable}
 use Rattle.jobfile.proofs.SpellableLaws.{read-written}
 use Rattle.jobhead.specs.declared.head.Head.{Head}
 use Rattle.buffer.specs.Layout.{Lent}
-use Rattle.buffer.specs.Views.{nodeIn, startIn, targetIn, cellIn, tableIn, EdgeIn}
+use Rattle.buffer.specs.Views.{nodeIn, startIn, targetIn, cellIn, tableIn, EdgeIn, ruleRowsIn}
 use Rattle.jobhead.specs.Stored.{jobIn}
-use Rattle.jobreader.specs.Rule.{ruleIn}
+use Rattle.buffer.specs.Views.{ruleRowsIn}
 use Rattle.jobhead.specs.Reading.{headOfAnswer, JobRead}
-use Rattle.jobreader.proofs.TableLaws.{rule-cell}
+use Rattle.buffer.proofs.ViewLaws.{rule-cell}
 use Rattle.tables.specs.Rows.{CellsBelow}
 use Rattle.tables.specs.Held.{EdgesWithin, Usable, JobHeld}
 use Rattle.admission.proofs.EdgeIndexLaws.{edges-says}
@@ -119,7 +119,7 @@ module _ (file l m : List ℕ) (r : Head) (read : JobRead (readJob file) l m r) 
       o
 
   -- a cell of the table handed over
-  cell-read : (q c : ℕ) → q < 16 → c < 16 → cell (ruleIn m) q c ≡ next (j .rule) q c
+  cell-read : (q c : ℕ) → q < 16 → c < 16 → cell (ruleRowsIn m) q c ≡ next (j .rule) q c
   cell-read q c h k =
       rule-cell m q c h k ∙ inside ∙ ap (λ (x : Job). cell (x .rule .table) q c) holds-job
     where
@@ -135,7 +135,7 @@ module _ (file l m : List ℕ) (r : Head) (read : JobRead (readJob file) l m r) 
           (lt-or-ge q (r .states))
 
   -- every cell is below 16
-  cells-read : CellsBelow (ruleIn m)
+  cells-read : CellsBelow (ruleRowsIn m)
   cells-read q c h k =
       rw (rule-cell m q c h k)
       (⊎-elim
@@ -171,11 +171,11 @@ module _ (file l m : List ℕ) (r : Head) (read : JobRead (readJob file) l m r) 
       }
 
   -- buffer and table are as the searches need them
-  pub usable-read : Lent m → Usable m (ruleIn m) (r .states) (r .nodes)
+  pub usable-read : Lent m → Usable m (ruleRowsIn m) (r .states) (r .nodes)
   usable-read long = record { long = long; few-states = few-states; few-nodes = few-nodes; cells = cells-read; edges = edges-read }
 
   -- and hold the job
-  pub job-read : JobHeld j m (ruleIn m) (r .finals) (r .states) (r .nodes)
+  pub job-read : JobHeld j m (ruleRowsIn m) (r .finals) (r .states) (r .nodes)
   job-read = record {
     formed = spelled .well-formed;
     states-are = states-read;

@@ -9,7 +9,7 @@ use Rattle.jobfile.specs.File.{Answer, accepted}
 use Rattle.buffer.specs.Buffer.{cleared}
 use Rattle.jobhead.specs.declared.head.Head.{Head}
 use Rattle.jobhead.specs.Reading.{headOfAnswer}
-use Rattle.jobreader.specs.Rule.{ruleIn}
+use Rattle.buffer.specs.Views.{ruleRowsIn}
 use Rattle.tables.specs.Held.{Usable, JobHeld}
 use Rattle.admission.specs.Admission.{workAfter}
 
@@ -17,8 +17,8 @@ use Rattle.admission.specs.Admission.{workAfter}
 pub record JobAdmitted (answer : Answer) (l m : List ℕ) (r : Head) : Type 0 where
   pub job : Job
   pub is : answer ≡ accepted job
-  pub held : JobHeld job m (ruleIn m) (r .finals) (r .states) (r .nodes)
-  pub usable : Usable m (ruleIn m) (r .states) (r .nodes)
+  pub held : JobHeld job m (ruleRowsIn m) (r .finals) (r .states) (r .nodes)
+  pub usable : Usable m (ruleRowsIn m) (r .states) (r .nodes)
   pub some-node : 1 ≤ r .nodes
   pub final-set : r .finals < 2 ^ 16
   pub clears : cleared m ≡ cleared l

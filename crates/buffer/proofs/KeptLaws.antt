@@ -1,16 +1,18 @@
 -- Laws of what stores leave: parts of the buffer apart from them are as before.
 -- Assumes nothing.
 use mathlib.Core.Path.{_≡_, refl, _∙_}
-use mathlib.Core.Logic.{_⊎_, inl, inr}
+use mathlib.Core.Logic.{_⊎_, inl, inr, by-cases}
 use mathlib.Core.List.{List}
 use Prim.Native.Nat.{ℕ, _+_, _*_, _≤_, _<_}
+use native.Mathlib.Nat.{le-refl}
+use native.Mathlib.Decide.{ℕ-discrete}
 use native.Mathlib.Omega.{arith}
-use lib.ListN.{set, length-set}
-use lib.Seq.{getD-set-other}
+use lib.ListN.{length, set, length-set}
+use lib.Seq.{getD-set-same, getD-set-other}
 use Rattle.laws.specs.Bytes.{numberAt, putNumber}
 use Rattle.laws.proofs.Bytes.{number-cong, length-put, getD-put-outside}
 use Rattle.buffer.specs.Views.{nodeIn}
-use Rattle.buffer.specs.Kept.{Outside, Kept, SameOutside}
+use Rattle.buffer.specs.Kept.{Outside, Kept, SameOutside, Zeroed}
 
 -- nothing is stored
 pub kept-same : {Place : ℕ → Type 0} (l : List ℕ) → Kept Place l l
@@ -86,3 +88,19 @@ module _ (l m : List ℕ) (i j : ℕ) (p : SameOutside l m i j) where
       near : (a : ℕ) → (n * 8 + 8 ≤ i) ⊎ (j ≤ n * 8) → a < 8 → (n * 8 + a < i) ⊎ (j ≤ n * 8 + a)
       near a (inl q) h = inl (omega arith)
       near a (inr q) h = inr (omega arith)
+
+-- ---- zeros
+
+-- nothing is zero yet
+pub zeroed-none : (l : List ℕ) (i : ℕ) → Zeroed l l i i
+zeroed-none l i = record { kept = kept-none l i i; zeros = λ k x y. absurd (omega arith) }
+
+-- one more byte
+pub zeroed-more : (l m : List ℕ) (i j : ℕ) → i ≤ j → j < length l → Zeroed l m i j → Zeroed l (set m j 0) i (j + 1)
+zeroed-more l m i j h g z = record {
+  kept = kept-then (λ k o. (outside-part (le-refl i) (omega arith) k o, outside-part h (le-refl (j + 1)) k o)) (z .kept) (kept-set m j 0);
+  zeros = λ k x y.
+      by-cases (ℕ-discrete k j)
+      (λ (e : k ≡ j). rw e (getD-set-same m j 0 0 (omega (arith, z .kept .long))))
+      (λ (e : k ≡ j → ⊥). getD-set-other m j k 0 0 e ∙ z .zeros k x (omega arith));
+}

@@ -19,3 +19,8 @@ pub record Kept (Place : ℕ → Type 0) (l m : List ℕ) : Type 0 where
 -- the bytes from i up to j alone may differ
 abbrev pub SameOutside : List ℕ → List ℕ → ℕ → ℕ → Type 0
 SameOutside l m i j = Kept (Outside i j) l m
+
+-- the bytes from i up to j are zero, and the others as they were
+pub record Zeroed (l m : List ℕ) (i j : ℕ) : Type 0 where
+  pub kept : SameOutside l m i j
+  pub zeros : (k : ℕ) → i ≤ k → k < j → getD m k 0 ≡ 0

@@ -6,13 +6,17 @@ use Prim.Native.Nat.{ℕ, _+_, _*_, _≤_}
 use lib.ListN.{length}
 use Rattle.buffer.specs.Buffer.{workSize}
 
--- the nodes: 512 of eight bytes
+-- the nodes, from the buffer's start on: 512 of eight bytes
 abbrev pub nodesPart : ℕ
 nodesPart = 0
 
+-- where node n begins
+abbrev pub nodePlace : ℕ → ℕ
+nodePlace n = n * 8
+
 -- the index of each node's first edge, and after the last node the number of edges: 513 numbers of two bytes
 abbrev pub startsPart : ℕ
-startsPart = nodesPart + 512 * 8
+startsPart = nodePlace 512
 
 -- the ends of the edges, by source: 2,048 numbers of two bytes
 abbrev pub targetsPart : ℕ
@@ -26,9 +30,17 @@ pairPart = targetsPart + 2048 * 2
 abbrev pub classPart : ℕ
 classPart = pairPart + 512 * 32
 
+-- the bytes of the class rows of one node
+abbrev pub classSize : ℕ
+classSize = 32
+
+-- where the class rows of node n begin
+abbrev pub classPlace : ℕ → ℕ
+classPlace n = classPart + n * classSize
+
 -- what was found at each point, four bytes a node
 abbrev pub foundPart : ℕ
-foundPart = classPart + 512 * 32
+foundPart = classPlace 512
 
 -- the plan, a byte a node
 abbrev pub planPart : ℕ

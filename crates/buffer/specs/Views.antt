@@ -6,22 +6,23 @@ use mathlib.Core.Bool.{Bool, true}
 use mathlib.Core.List.{List, [], _++_, map}
 use Prim.Native.Nat.{ℕ, zero, suc, _+_, _-_, _*_, _≤_, _<_}
 use lib.Dec.{eqb}
-use lib.ListN.{getD}
+use lib.ListN.{getD, take, drop}
 use Rattle.laws.specs.Bounded.{tabFrom, tab}
 use Rattle.laws.specs.Bits.{has}
 use Rattle.laws.specs.Bytes.{numberAt}
+use Rattle.automaton.specs.Table.{tableOf}
 use Rattle.job.specs.Job.{Node, Edge, kindOf}
-use Rattle.buffer.specs.Layout.{startsPart, targetsPart, pairPart, classPart, planPart, rulePart, marksPart}
+use Rattle.buffer.specs.Layout.{nodePlace, startsPart, targetsPart, pairPart, classPart, foundPart, planPart, rulePart, marksPart}
 
 -- ---- the job
 
 -- node n, in eight bytes: value, entry set and after set of two bytes each, kind and exit mark of one
 unfoldable pub nodeIn : List ℕ → ℕ → Node
 nodeIn work n = record {
-  kind = kindOf (getD work (n * 8 + 6) 0) (numberAt 2 work (n * 8));
-  entry = numberAt 2 work (n * 8 + 2);
-  exit = eqb (getD work (n * 8 + 7) 0) 1;
-  after = numberAt 2 work (n * 8 + 4);
+  kind = kindOf (getD work (nodePlace n + 6) 0) (numberAt 2 work (nodePlace n));
+  entry = numberAt 2 work (nodePlace n + 2);
+  exit = eqb (getD work (nodePlace n + 7) 0) 1;
+  after = numberAt 2 work (nodePlace n + 4);
 }
 
 -- the index of the first edge of node n
@@ -62,6 +63,10 @@ unfoldable pub tableIn : List ℕ → ℕ → ℕ → List (List ℕ)
 unfolding cellIn
 tableIn work s a = tab s (λ q. tab a (cellIn work q))
 
+-- the whole table: sixteen rows of sixteen
+unfoldable pub ruleRowsIn : List ℕ → List (List ℕ)
+ruleRowsIn work = tableOf (take 256 (drop rulePart work))
+
 -- ---- the tables of the searches
 
 -- row p of the pairs of node n: the states of the residual monitor beside state p of the full one
@@ -80,10 +85,6 @@ classRowIn work n p = numberAt 2 work (classPart + (n * 16 + p) * 2)
 abbrev pub HeldApart : List ℕ → ℕ → ℕ → ℕ → Type 0
 HeldApart work n p q = has (classRowIn work n p) q ≡ true
 
--- node n is enabled in the plan
-unfoldable pub enabledIn : List ℕ → ℕ → Bool
-enabledIn work n = eqb (getD work (planPart + n) 0) 1
-
 -- the marks of node n, a bit a row
 unfoldable pub marksIn : List ℕ → ℕ → ℕ
 marksIn work n = numberAt 2 work (marksPart + n * 2)
@@ -91,3 +92,17 @@ marksIn work n = numberAt 2 work (marksPart + n * 2)
 -- row p of node n is marked: it may have grown since it was last looked at
 abbrev pub markedIn : List ℕ → ℕ → ℕ → Bool
 markedIn work n p = has (marksIn work n) p
+
+-- ---- the plan, and what was found
+
+-- the before set that was found at node n
+unfoldable pub beforeIn : List ℕ → ℕ → ℕ
+beforeIn work n = numberAt 2 work (foundPart + n * 4)
+
+-- the plan of so many nodes
+unfoldable pub planIn : List ℕ → ℕ → List ℕ
+planIn work nodes = take nodes (drop planPart work)
+
+-- node n is enabled in the plan
+unfoldable pub enabledIn : List ℕ → ℕ → Bool
+enabledIn work n = eqb (getD work (planPart + n) 0) 1

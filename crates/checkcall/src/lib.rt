@@ -4,8 +4,8 @@ ghost use lib.ListN.{length};
 ghost use Rattle.checking.specs.Checking.{checked, workLeft};
 use checkheld::judge;
 use checking::check::Verdict;
+use clearing::clear;
 use door::admit;
-use jobreader::clear::clear;
 
 // Checks a plan. The work buffer is cleared unless the answer is refusal 1 or 2.
 pub fn check_plan(file: &[u8], plan: &[u8], work: &mut [u8]) -> Verdict

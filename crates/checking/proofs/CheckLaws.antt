@@ -16,11 +16,11 @@ use Rattle.job.specs.Search.{faithful}
 use Rattle.jobfile.specs.File.{Answer, maxFile, readJob}
 use Rattle.buffer.specs.Buffer.{workSize, cleared}
 use Rattle.buffer.specs.Layout.{nodesPart, classPart, foundPart, planPart, rulePart}
-use Rattle.buffer.specs.Views.{nodeIn}
+use Rattle.buffer.specs.Views.{nodeIn, ruleRowsIn}
 use Rattle.buffer.specs.Kept.{SameOutside}
 use Rattle.buffer.proofs.KeptLaws.{kept-fewer, outside-part, kept-none, kept-both}
 use Rattle.jobhead.specs.declared.head.Head.{Head}
-use Rattle.jobreader.specs.Rule.{ruleIn}
+use Rattle.buffer.specs.Views.{ruleRowsIn}
 use Rattle.tables.specs.Tables.{SearchKept}
 use Rattle.tables.specs.Held.{Usable, JobHeld, PlanHeld}
 use Rattle.tables.proofs.JobKeptLaws.{FrontKept, front-kept, front-usable, front-job, table-usable}
@@ -185,7 +185,7 @@ check-refused {answer} {l} plan a h =
 -- the answer for the job that was admitted, and the buffer is cleared
 pub check-judged
     : {answer : Answer} {l m : List ℕ} {r : Head} (plan k : List ℕ) (v : Verdict) → Admitted answer l m r → r .refusal ≡ 0
-    → Judged (ruleIn m) (r .finals) (r .states) (r .nodes) plan m k v → (v ≡ answered answer plan) × (cleared k ≡ workLeft v l)
+    → Judged (ruleRowsIn m) (r .finals) (r .states) (r .nodes) plan m k v → (v ≡ answered answer plan) × (cleared k ≡ workLeft v l)
 check-judged {answer} {l} {m} plan k v a h g =
     let j = a .job h in
     let same : v ≡ judged (j .job) plan = g .exact (j .job) (j .held) in (

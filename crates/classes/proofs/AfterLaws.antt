@@ -4,25 +4,24 @@ use mathlib.Core.Path.{_≡_, refl, sym, ap, subst, _∙_}
 use mathlib.Core.Logic.{inl, by-cases, _≢_}
 use mathlib.Core.Bool.{Bool, true, false, cond, true≢false}
 use mathlib.Core.List.{List}
-use Prim.Native.Nat.{ℕ, suc, _+_, _*_, _≤_, _<_}
+use Prim.Native.Nat.{ℕ, _+_, _≤_, _<_}
 use native.Mathlib.Decide.{ℕ-discrete}
 use native.Mathlib.Omega.{arith}
 use Rattle.laws.specs.Bits.{has}
-use Rattle.laws.specs.Bytes.{numberAt}
 use Rattle.laws.proofs.Bits.{has-empty}
 use Rattle.automaton.specs.Automaton.{Automaton}
 use Rattle.job.specs.Job.{Node, Job, nodeAt}
 use Rattle.job.specs.Words.{WordApart, apart-here, apart-later, apart-after, NothingMore}
 use Rattle.job.proofs.Nodes.{word-map}
-use Rattle.buffer.specs.Layout.{classPart, foundPart}
+use Rattle.buffer.specs.Layout.{classPart, foundPart, classSize, classPlace}
 use Rattle.buffer.specs.Views.{nodeIn, classRowIn, HeldApart}
-use Rattle.buffer.specs.Kept.{SameOutside}
+use Rattle.buffer.specs.Kept.{Zeroed}
 use Rattle.buffer.proofs.KeptLaws.{kept-none, kept-both, node-kept}
-use Rattle.tables.specs.Tables.{Zeroed}
+use Rattle.buffer.specs.ClassRows.{OnlyClasses}
+use Rattle.buffer.proofs.ClassRowLaws.{class-kept, zeroed-empty}
 use Rattle.tables.specs.Held.{Usable, JobHeld}
 use Rattle.tables.proofs.JobKeptLaws.{FrontKept, front-kept, front-usable}
 use Rattle.classes.specs.Backwards.{RuleHeld, RowPairs, WordsClosed, AfterWords}
-use Rattle.classes.proofs.GrownLaws.{class-kept}
 
 -- the symbols of the word after a node; none where it is no exit
 abbrev pub afterSet : Node → ℕ
@@ -37,15 +36,9 @@ pub record WordsHeld (table : List (List ℕ)) (finals states : ℕ) (m : List �
 
 -- the nodes below n are done, and the rows of the others are empty
 pub record AfterSoFar (table : List (List ℕ)) (finals states : ℕ) (l m : List ℕ) (n : ℕ) : Type 0 where
-  pub kept : SameOutside l m classPart foundPart
+  pub kept : OnlyClasses l m
   pub done : (k : ℕ) → k < n → WordsHeld table finals states m k (afterSet (nodeIn l k))
   pub empty : (k p : ℕ) → n ≤ k → k < 512 → p < 16 → classRowIn m k p ≡ 0
-
--- rows of zeros are empty
-pub zeroed-empty : (l m : List ℕ) → Zeroed l m classPart foundPart → (k p : ℕ) → k < 512 → p < 16 → classRowIn m k p ≡ 0
-unfolding classRowIn numberAt
-zeroed-empty l m z k p hk hp =
-    omega (arith, z .zeros (classPart + (k * 16 + p) * 2) (omega arith) (omega arith), z .zeros (suc (classPart + (k * 16 + p) * 2)) (omega arith) (omega arith))
 
 -- no node is done
 pub after-start
@@ -57,7 +50,7 @@ after-start table finals states l m z = record {
 }
 
 -- a node before the class rows is as it was
-pub node-before : (l m : List ℕ) → SameOutside l m classPart foundPart → (n : ℕ) → n < 512 → nodeIn m n ≡ nodeIn l n
+pub node-before : (l m : List ℕ) → OnlyClasses l m → (n : ℕ) → n < 512 → nodeIn m n ≡ nodeIn l n
 node-before l m s n h = node-kept l m classPart foundPart s n (inl (omega arith))
 
 -- one node more
@@ -65,7 +58,7 @@ pub after-more
     : (table : List (List ℕ)) (finals states : ℕ) (l m k : List ℕ) (n set : ℕ) → n < 512 → AfterSoFar table finals states l m n
     → set ≡ afterSet (nodeIn m n) → WordsClosed table finals states m k n set → AfterSoFar table finals states l k (n + 1)
 after-more table finals states l m k n set hn s e g = record {
-  kept = kept-both l m k classPart foundPart (classPart + n * 32) (classPart + n * 32 + 32) (s .kept) (g .kept) (omega arith) (omega arith);
+  kept = kept-both l m k classPart foundPart (classPlace n) (classPlace n + classSize) (s .kept) (g .kept) (omega arith) (omega arith);
   done = λ x h. done x h;
   empty = λ x p h a b. class-kept m k n x p (g .kept) b (λ q. absurd (omega arith)) ∙ s .empty x p (omega arith) a b;
 }
@@ -131,7 +124,7 @@ after-end table finals states nodes o l m n few all z s = record {
   };
 }
   where
-    start : SameOutside o l classPart foundPart
+    start : OnlyClasses o l
     start = z .kept
 
     set-is : (j : Job) → JobHeld j o table finals states nodes → (k : ℕ) → k < nodes → afterSet (nodeIn l k) ≡ afterSet (nodeAt j k)

@@ -25,12 +25,12 @@ use Rattle.job.proofs.Rules.{apart-true, apart-false}
 use Rattle.job.proofs.KindLaws.{point-some, reports-word}
 use Rattle.job.proofs.Nodes.{BeforeNode, before-silent, before-event, event-splits}
 use Rattle.job.proofs.Nodes.{NodeBackwards, node-backwards, before-apart, word-apart}
-use Rattle.buffer.specs.Layout.{startsPart, targetsPart, classPart, foundPart}
+use Rattle.buffer.specs.Layout.{startsPart, targetsPart, classPart, foundPart, classSize, classPlace}
 use Rattle.buffer.specs.Views.{nodeIn, startIn, targetIn, classRowIn, EdgeIn, HeldApart}
-use Rattle.buffer.specs.Kept.{SameOutside}
 use Rattle.buffer.proofs.KeptLaws.{kept-none, kept-both, number-kept}
+use Rattle.buffer.specs.ClassRows.{OnlyClasses, apartLeft, ApartGrown}
+use Rattle.buffer.proofs.ClassRowLaws.{only-classes}
 use Rattle.tables.specs.Rows.{CellsBelow, unlikeStates, preimageOf}
-use Rattle.tables.specs.Tables.{apartLeft, ApartGrown}
 use Rattle.tables.specs.Held.{EdgesWithin, Usable, JobHeld, AfterHeld}
 use Rattle.classes.specs.Backwards.{apartBy, wordRow, ClassesFound}
 use Rattle.classes.specs.Classes.{beforePoint, beforeRow, ApartNext, NextRow, ApartBack, ClosedBack, AllApart, NodeGrown, ClassesGrown}
@@ -41,7 +41,7 @@ use Rattle.classes.proofs.AfterLaws.{node-before}
 
 -- ---- what a store in the class rows leaves as it was
 
-module _ {l m : List ℕ} (s : SameOutside l m classPart foundPart) where
+module _ {l m : List ℕ} (s : OnlyClasses l m) where
   -- where the edges of a node start
   pub start-kept : (n : ℕ) → n ≤ 512 → startIn m n ≡ startIn l n
   unfolding startIn
@@ -303,7 +303,7 @@ module _
   -- what the rows of a buffer tell apart past node n, some continuation does
   pub back-sound
       : (w : List ℕ) (n set : ℕ) → n < nodes → nodes ≤ 512 → states ≤ 16 → EdgesWithin work n → set ≡ callSet (nodeIn work n .kind)
-      → SameOutside work w classPart foundPart → ((k x y : ℕ) → k < nodes → x < 16 → HeldApart w k x y → ApartPast j k x y)
+      → OnlyClasses work w → ((k x y : ℕ) → k < nodes → x < 16 → HeldApart w k x y → ApartPast j k x y)
       → (p q : ℕ) → p < 16 → ApartBack table finals states w n set p q → ApartPast j n p q
   back-sound w n set hn many few within set-is kept all p q hp (inl t) =
       let m = has-word-row table finals states (classRowIn w n) set p q .0 t in
@@ -323,11 +323,6 @@ module _
 -- past the nodes of the job, some continuation tells the pair apart
 abbrev pub ApartIn : Job → ℕ → ℕ → ℕ → Type 0
 ApartIn j n p q = n < length (j .nodes) → ApartPast j n p q
-
--- the part of one node lies in the part of all
-pub kept-part : (l m : List ℕ) (n : ℕ) → n < 512 → SameOutside l m (classPart + n * 32) (classPart + n * 32 + 32) → SameOutside l m classPart foundPart
-kept-part l m n h s =
-    kept-both l l m classPart foundPart (classPart + n * 32) (classPart + n * 32 + 32) (kept-none l classPart foundPart) s (omega arith) (omega arith)
 
 -- the pairs that one turn adds at node n
 abbrev pub BackPairs : List (List ℕ) → ℕ → ℕ → ℕ → ℕ → List ℕ → ℕ → ℕ → Type 0
@@ -369,7 +364,7 @@ node-end table finals states l m n set grown p hn few below within set-is g all 
   sound = λ j nodes h a many old k x y b c d.
       g .sound j
       (λ w s rest r q e f v.
-      back-sound h below w n set a many few within set-is (kept-part l w n hn s)
+      back-sound h below w n set a many few within set-is (only-classes l w n hn s)
       (λ i u z o i-small t. rest i u z (omega arith) i-small t (rw (h .nodes-are) at o)) r q e f)
       (λ i u z o i-small t v. old i u z (rw (h .nodes-are) v) i-small t)
       k x y (omega arith) c d (rw (h .nodes-are) at b);
@@ -383,7 +378,7 @@ node-end table finals states l m n set grown p hn few below within set-is g all 
 -- the nodes from n on were grown once
 pub record RoundSoFar (table : List (List ℕ)) (finals states nodes : ℕ) (l m : List ℕ) (grown n : ℕ) : Type 0 where
   pub within : n ≤ nodes
-  pub kept : SameOutside l m classPart foundPart
+  pub kept : OnlyClasses l m
   pub held : (k p q : ℕ) → k < 512 → p < 16 → HeldApart l k p q → HeldApart m k p q
   pub sound : (j : Job) → JobHeld j l table finals states nodes → AllApart j nodes l → AllApart j nodes m
   pub none : grown ≡ 0 → m ≡ l
@@ -409,7 +404,7 @@ pub round-next
     → RoundSoFar table finals states nodes l k (grown + count) (n - 1)
 round-next table finals states nodes l m k grown n count u some s g = record {
   within = omega (arith, s .within);
-  kept = kept-both l m k classPart foundPart (classPart + (n - 1) * 32) (classPart + (n - 1) * 32 + 32) (s .kept) (g .kept) (omega arith)
+  kept = kept-both l m k classPart foundPart (classPlace (n - 1)) (classPlace (n - 1) + classSize) (s .kept) (g .kept) (omega arith)
       (omega (arith, s .within, u .few-nodes));
   held = λ x p q a b h. g .held x p q a b (s .held x p q a b h);
   sound = λ j h all. g .sound j nodes (job-kept (s .kept) u h) (omega (arith, s .within)) (u .few-nodes) (s .sound j h all);
@@ -439,7 +434,7 @@ round-done table finals states nodes l m grown n s z = record {
 
 -- after some rounds
 pub record GrowingClasses (table : List (List ℕ)) (finals states nodes : ℕ) (l m : List ℕ) (grown : ℕ) : Type 0 where
-  pub kept : SameOutside l m classPart foundPart
+  pub kept : OnlyClasses l m
   pub held : (k p q : ℕ) → k < 512 → p < 16 → HeldApart l k p q → HeldApart m k p q
   pub sound : (j : Job) → JobHeld j l table finals states nodes → AllApart j nodes l → AllApart j nodes m
   pub closed : grown ≡ 0 → (n : ℕ) → n < nodes → ClosedBack table finals states m n
@@ -473,7 +468,7 @@ after-apart j l nodes a n p q h b e =
 
 -- rows that are closed and hold the after words are closed backwards
 pub closed-nodes
-    : (table : List (List ℕ)) (finals states nodes : ℕ) (l m : List ℕ) (j : Job) → Usable l table states nodes → SameOutside l m classPart foundPart
+    : (table : List (List ℕ)) (finals states nodes : ℕ) (l m : List ℕ) (j : Job) → Usable l table states nodes → OnlyClasses l m
     → JobHeld j l table finals states nodes → AfterHeld j l nodes
     → ((k p q : ℕ) → k < 512 → p < 16 → HeldApart l k p q → HeldApart m k p q)
     → ((n : ℕ) → n < nodes → ClosedBack table finals states m n) → NodeBackwards j full full (HeldApart m)

@@ -4,7 +4,7 @@ use mathlib.Core.Path.{_≡_, refl, sym, ap, subst, _∙_}
 use mathlib.Core.Logic.{_⊎_, inl, inr, ⊎-elim, _↔_, by-cases, _≢_}
 use mathlib.Core.Bool.{Bool, true, false, not, _&&_, _||_, true≢false, false≢true, and-eq-true-iff}
 use mathlib.Core.List.{List}
-use Prim.Native.Nat.{ℕ, _+_, _-_, _*_, _≤_, _<_}
+use Prim.Native.Nat.{ℕ, _+_, _-_, _≤_, _<_}
 use native.Mathlib.Decide.{ℕ-discrete, decLt}
 use native.Mathlib.Omega.{arith}
 use lib.Dec.{ltb}
@@ -22,12 +22,11 @@ use Rattle.job.specs.Words.{WordApart, apart-here, apart-later, apart-after}
 use Rattle.job.specs.Search.{unlike}
 use Rattle.job.specs.Found.{setOf}
 use Rattle.job.proofs.FoundLaws.{has-set-of}
-use Rattle.buffer.specs.Layout.{classPart}
+use Rattle.buffer.specs.Layout.{classSize, classPlace}
 use Rattle.buffer.specs.Views.{classRowIn, HeldApart}
-use Rattle.buffer.specs.Kept.{SameOutside}
 use Rattle.buffer.proofs.KeptLaws.{kept-none, kept-both}
+use Rattle.buffer.specs.ClassRows.{OnlyClassesOf, ApartGrown}
 use Rattle.tables.specs.Rows.{CellsBelow, unlikeStates, preimageOf}
-use Rattle.tables.specs.Tables.{ApartGrown}
 use Rattle.classes.specs.Backwards.{RuleHeld, apartBy, wordRow, RowPairs, WordsGrown, WordsClosed}
 use Rattle.tables.proofs.RowLaws.{has-unlike, has-preimage}
 use Rattle.classes.proofs.GrownLaws.{AllHeld, RowsGrown, rows-more}
@@ -253,7 +252,7 @@ round-end table finals states l m n set grown p hn hs below g all = record {
 
 -- after some rounds
 pub record ClosingWords (table : List (List ℕ)) (finals states : ℕ) (l m : List ℕ) (n set grown : ℕ) : Type 0 where
-  pub kept : SameOutside l m (classPart + n * 32) (classPart + n * 32 + 32)
+  pub kept : OnlyClassesOf n l m
   pub sound
       : (a : Automaton) → RuleHeld a table finals states → (p q : ℕ) → p < 16 → HeldApart m n p q
       → WordApart a set (RowPairs (classRowIn l n)) p q
@@ -270,7 +269,7 @@ no-words table finals states n set m p q e w =
 -- before the first: the rows are closed where the set is empty
 pub closing-start : (table : List (List ℕ)) (finals states : ℕ) (l : List ℕ) (n set : ℕ) → ClosingWords table finals states l l n set set
 closing-start table finals states l n set = record {
-  kept = kept-none l (classPart + n * 32) (classPart + n * 32 + 32);
+  kept = kept-none l (classPlace n) (classPlace n + classSize);
   sound = λ a r p q h m. apart-after (h, m);
   held = λ p q h m. m;
   closed = λ e p q h w. absurd (no-words table finals states n set l p q e w);
@@ -281,7 +280,7 @@ pub closing-more
     : (table : List (List ℕ)) (finals states : ℕ) (l m k : List ℕ) (n set grown new : ℕ) → ClosingWords table finals states l m n set grown
     → WordsGrown table finals states m k n set new → ClosingWords table finals states l k n set new
 closing-more table finals states l m k n set grown new s g = record {
-  kept = kept-both l m k (classPart + n * 32) (classPart + n * 32 + 32) (classPart + n * 32) (classPart + n * 32 + 32) (s .kept) (g .kept)
+  kept = kept-both l m k (classPlace n) (classPlace n + classSize) (classPlace n) (classPlace n + classSize) (s .kept) (g .kept)
       (omega arith) (omega arith);
   sound = λ a r p q h m. g .sound a (classRowIn l n) r (s .sound a r) p q h m;
   held = λ p q h m. g .held p q h (s .held p q h m);

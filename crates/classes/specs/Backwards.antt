@@ -4,7 +4,7 @@
 use mathlib.Core.Path.{_≡_}
 use mathlib.Core.Bool.{Bool, true, not, _&&_, _||_}
 use mathlib.Core.List.{List}
-use Prim.Native.Nat.{ℕ, _+_, _*_, _≤_, _<_}
+use Prim.Native.Nat.{ℕ, _+_, _≤_, _<_}
 use lib.Dec.{eqb}
 use lib.Bits.{bitOr}
 use Rattle.laws.specs.Bounded.{anyBelow, allBelow}
@@ -14,11 +14,9 @@ use Rattle.job.specs.Job.{Job}
 use Rattle.job.specs.Words.{WordApart}
 use Rattle.job.specs.Search.{apart}
 use Rattle.job.specs.Found.{setOf}
-use Rattle.buffer.specs.Layout.{classPart, foundPart}
 use Rattle.buffer.specs.Views.{pairRowIn, classRowIn, HeldApart}
-use Rattle.buffer.specs.Kept.{SameOutside}
+use Rattle.buffer.specs.ClassRows.{OnlyClasses, OnlyClassesOf, apartLeft}
 use Rattle.tables.specs.Rows.{unlikeStates}
-use Rattle.tables.specs.Tables.{apartLeft}
 use Rattle.tables.specs.Held.{JobHeld, AfterHeld}
 
 -- the table, S and the final set are this rule
@@ -42,7 +40,7 @@ RowPairs rows p q = (p < 16) × (has (rows p) q ≡ true)
 
 -- one round of words over a set on the rows of node n; grown is the number of rows that grew
 pub record WordsGrown (table : List (List ℕ)) (finals states : ℕ) (l m : List ℕ) (n set grown : ℕ) : Type 0 where
-  pub kept : SameOutside l m (classPart + n * 32) (classPart + n * 32 + 32)
+  pub kept : OnlyClassesOf n l m
   pub held : (p q : ℕ) → p < 16 → HeldApart l n p q → HeldApart m n p q
   pub sound
       : (a : Automaton) (more : ℕ → ℕ) → RuleHeld a table finals states
@@ -53,7 +51,7 @@ pub record WordsGrown (table : List (List ℕ)) (finals states : ℕ) (l m : Lis
 
 -- the rows of node n hold the states told apart by words over the set, followed by what the rows held before
 pub record WordsClosed (table : List (List ℕ)) (finals states : ℕ) (l m : List ℕ) (n set : ℕ) : Type 0 where
-  pub kept : SameOutside l m (classPart + n * 32) (classPart + n * 32 + 32)
+  pub kept : OnlyClassesOf n l m
   pub sound
       : (a : Automaton) → RuleHeld a table finals states → (p q : ℕ) → p < 16 → HeldApart m n p q
       → WordApart a set (RowPairs (classRowIn l n)) p q
@@ -63,7 +61,7 @@ pub record WordsClosed (table : List (List ℕ)) (finals states : ℕ) (l m : Li
 
 -- the class rows of all nodes hold the after words of the exits
 pub record AfterWords (table : List (List ℕ)) (finals states nodes : ℕ) (l m : List ℕ) : Type 0 where
-  pub kept : SameOutside l m classPart foundPart
+  pub kept : OnlyClasses l m
   pub exact : (j : Job) → JobHeld j l table finals states nodes → AfterHeld j m nodes
 
 -- the class rows hold the states told apart past each node
@@ -73,7 +71,7 @@ ClassesHeld j work nodes =
 
 -- the class rows were grown from the after words of the exits
 pub record ClassesFound (table : List (List ℕ)) (finals states nodes : ℕ) (l m : List ℕ) : Type 0 where
-  pub kept : SameOutside l m classPart foundPart
+  pub kept : OnlyClasses l m
   pub exact : (j : Job) → JobHeld j l table finals states nodes → AfterHeld j l nodes → ClassesHeld j m nodes
 
 -- ---- what is found at a point

@@ -5,17 +5,15 @@ use mathlib.Core.Path.{_≡_}
 use mathlib.Core.Logic.{_⊎_, _↔_}
 use mathlib.Core.Bool.{true}
 use mathlib.Core.List.{List}
-use Prim.Native.Nat.{ℕ, _+_, _*_, _%_, _≤_, _<_}
+use Prim.Native.Nat.{ℕ, _+_, _%_, _≤_, _<_}
 use lib.Bits.{bitOr}
 use Rattle.laws.specs.Bits.{has}
 use Rattle.automaton.specs.Automaton.{cell}
 use Rattle.job.specs.Job.{Point, no-point, point, pointOf, callSet, Job}
 use Rattle.job.specs.Found.{Apart}
-use Rattle.buffer.specs.Layout.{classPart, foundPart}
 use Rattle.buffer.specs.Views.{nodeIn, classRowIn, EdgeIn, HeldApart}
-use Rattle.buffer.specs.Kept.{SameOutside}
+use Rattle.buffer.specs.ClassRows.{OnlyClasses, OnlyClassesOf, apartLeft}
 use Rattle.tables.specs.Rows.{unlikeStates, preimageOf}
-use Rattle.tables.specs.Tables.{apartLeft}
 use Rattle.tables.specs.Held.{JobHeld}
 use Rattle.classes.specs.Backwards.{wordRow}
 
@@ -55,7 +53,7 @@ AllApart j nodes work = (n p q : ℕ) → n < nodes → p < 16 → HeldApart wor
 
 -- the rows of node n were grown once; grown is the number of rows that grew
 pub record NodeGrown (table : List (List ℕ)) (finals states : ℕ) (l m : List ℕ) (n grown : ℕ) : Type 0 where
-  pub kept : SameOutside l m (classPart + n * 32) (classPart + n * 32 + 32)
+  pub kept : OnlyClassesOf n l m
   pub held : (k p q : ℕ) → k < 512 → p < 16 → HeldApart l k p q → HeldApart m k p q
   pub sound
       : (j : Job) (nodes : ℕ) → JobHeld j l table finals states nodes → n < nodes → nodes ≤ 512 → AllApart j nodes l → AllApart j nodes m
@@ -65,7 +63,7 @@ pub record NodeGrown (table : List (List ℕ)) (finals states : ℕ) (l m : List
 
 -- the rows of all nodes were grown once
 pub record ClassesGrown (table : List (List ℕ)) (finals states nodes : ℕ) (l m : List ℕ) (grown : ℕ) : Type 0 where
-  pub kept : SameOutside l m classPart foundPart
+  pub kept : OnlyClasses l m
   pub held : (k p q : ℕ) → k < 512 → p < 16 → HeldApart l k p q → HeldApart m k p q
   pub sound : (j : Job) → JobHeld j l table finals states nodes → AllApart j nodes l → AllApart j nodes m
   pub closed : grown ≡ 0 → (n : ℕ) → n < nodes → ClosedBack table finals states m n

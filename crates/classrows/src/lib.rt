@@ -1,9 +1,9 @@
 // The class rows of the work buffer: the states told apart past each node.
 ghost use mathlib.Core.Path.{_≡_};
-ghost use Prim.Native.Nat.{_<_, _≤_};
+ghost use Prim.Native.Nat.{_<_};
 ghost use Rattle.buffer.specs.Layout.{Lent};
 ghost use Rattle.buffer.specs.Views.{classRowIn};
-ghost use Rattle.tables.specs.Tables.{ApartGrown};
+ghost use Rattle.buffer.specs.ClassRows.{ApartGrown};
 use buffer::CLASSES;
 use loads::read16;
 use stores::write16;

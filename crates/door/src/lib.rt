@@ -6,11 +6,11 @@ ghost use Rattle.buffer.specs.Buffer.{workSize};
 ghost use Rattle.admission.specs.Admission.{admitted};
 ghost use Rattle.admission.specs.Admitted.{Admitted};
 use buffer::WORK;
+use clearing::clear;
 use jobhead::head::Head;
 use jobhead::head::turned_back;
-use jobreader::clear::clear;
-use jobreader::read::LONGEST;
-use jobreader::read::read_job;
+use jobreader::LONGEST;
+use jobreader::read_job;
 
 // The refusals of a file that is too long, and of a lent buffer that is too short.
 const LONG: u64 = 1;

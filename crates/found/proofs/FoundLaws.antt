@@ -16,7 +16,7 @@ use Rattle.job.specs.Job.{Job}
 use Rattle.planning.specs.Planning.{allEnabled}
 use Rattle.buffer.specs.Buffer.{workSize}
 use Rattle.buffer.specs.Layout.{pairPart, classPart, foundPart, planPart, Lent}
-use Rattle.buffer.specs.Views.{pairRowIn}
+use Rattle.buffer.specs.Views.{pairRowIn, beforeIn}
 use Rattle.buffer.specs.Kept.{SameOutside}
 use Rattle.buffer.proofs.KeptLaws.{kept-then, kept-fewer, outside-part, kept-none, kept-both, kept-put, number-kept}
 use Rattle.tables.specs.Held.{Usable, JobHeld, PlanHeld, AfterHeld}
@@ -32,7 +32,7 @@ use Rattle.passes.specs.declared.passes.Counts.{Counts}
 use Rattle.passes.specs.Counts.{countsOf}
 use Rattle.passes.specs.Passes.{AllEnabled, PlanMade}
 use Rattle.passes.proofs.PlanInLaws.{plan-in-held, plan-in-same, planning-plan, planning-outside, usable-kept, job-kept, after-kept}
-use Rattle.found.specs.Findings.{beforeIn, BeforeHeld, BeforeStored, BeforeFound, FoundHeld, Found}
+use Rattle.found.specs.Findings.{BeforeHeld, BeforeStored, BeforeFound, FoundHeld, Found}
 
 -- ---- the before sets as they are stored
 

@@ -5,22 +5,17 @@ use mathlib.Core.Path.{_≡_}
 use mathlib.Core.Bool.{true}
 use mathlib.Core.List.{List}
 use Prim.Native.Nat.{ℕ, _+_, _*_, _≤_, _<_}
-use Rattle.laws.specs.Bytes.{numberAt}
 use Rattle.job.specs.Job.{isEvent, Job, nodeAt}
 use Rattle.job.specs.Found.{statesBefore}
 use Rattle.planning.specs.Listing.{planOf}
 use Rattle.buffer.specs.Buffer.{workSize}
 use Rattle.buffer.specs.Layout.{pairPart, classPart, foundPart, planPart}
 use Rattle.buffer.specs.Kept.{SameOutside, Kept, Outside}
+use Rattle.buffer.specs.Views.{planIn, beforeIn}
 use Rattle.tables.specs.Held.{JobHeld, AfterHeld}
 use Rattle.classes.specs.Backwards.{ClassesHeld, heldStates}
 use Rattle.passes.specs.declared.passes.Counts.{Counts}
 use Rattle.passes.specs.Counts.{countsOf}
-use Rattle.passes.specs.Passes.{planIn}
-
--- the before set that the buffer holds for node n
-unfoldable pub beforeIn : List ℕ → ℕ → ℕ
-beforeIn work n = numberAt 2 work (foundPart + n * 4)
 
 -- the before sets of the points are held
 abbrev pub BeforeHeld : Job → List ℕ → Type 0

@@ -1,5 +1,4 @@
 -- The laws that the proofs of the functions cite.
 -- Assumes nothing.
-pub mod ClearLaws
 pub mod ReadLaws
 pub mod TableLaws

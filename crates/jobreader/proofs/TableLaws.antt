@@ -13,23 +13,8 @@ use Rattle.automaton.specs.Automaton.{cell}
 use Rattle.automaton.specs.Table.{rowOf, tableOf}
 use Rattle.buffer.specs.Layout.{rulePart}
 use Rattle.buffer.specs.Views.{cellIn, tableIn}
-use Rattle.jobreader.specs.Rule.{ruleIn, HandsOverRule}
-
--- a cell of a table of bytes
-table-cell : (l : List ℕ) (q a : ℕ) → q < 16 → a < 16 → cell (tableOf l) q a ≡ getD l (q * 16 + a) 0
-unfolding cell tableOf rowOf
-table-cell l q a h k =
-    ap (λ (r : List ℕ). getD r a 0) (getD-tab 16 (λ (p : ℕ). rowOf l (p * 16)) q [] h)
-    ∙ getD-tab 16 (λ (c : ℕ). getD l (q * 16 + c) 0) a 0 k
-
--- a cell of the buffer's table
-pub rule-cell : (work : List ℕ) (q a : ℕ) → q < 16 → a < 16 → cell (ruleIn work) q a ≡ cellIn work q a
-unfolding ruleIn cellIn
-rule-cell work q a h k =
-    table-cell (take 256 (drop rulePart work)) q a h k
-    ∙ getD-take 256 (drop rulePart work) (q * 16 + a) 0 (omega arith)
-    ∙ getD-drop rulePart work (q * 16 + a) 0
-    ∙ ap (λ (i : ℕ). getD work i 0) (sym (add-assoc rulePart (q * 16) a))
+use Rattle.buffer.proofs.ViewLaws.{rule-cell}
+use Rattle.jobreader.specs.Rule.{HandsOverRule}
 
 -- a cell of the job's table
 job-cell : (work : List ℕ) (s a q c : ℕ) → q < s → c < a → cell (tableIn work s a) q c ≡ cellIn work q c

@@ -10,7 +10,7 @@ use borrow.Author.Tests.{ltb-false}
 use Rattle.laws.proofs.Tests.{fails-of, or-right}
 use Rattle.buffer.specs.Buffer.{workSize, cleared}
 use Rattle.jobhead.specs.declared.head.Head.{Head}
-use Rattle.jobreader.specs.Rule.{ruleIn}
+use Rattle.buffer.specs.Views.{ruleRowsIn}
 use Rattle.tables.specs.Held.{Usable}
 use Rattle.admission.specs.Admitted.{Admitted}
 use Rattle.admission.proofs.AdmissionLaws.{admitted-reads}
@@ -41,13 +41,13 @@ module _ (file work listing : List ℕ) where
 
       -- the job that was admitted may be listed
       pub list-ready
-          : (1 ≤ r .nodes) × ((32768 ≤ length listing) × (Usable m (ruleIn m) (r .states) (r .nodes)
-          × SomeJob m (ruleIn m) (r .finals) (r .states) (r .nodes)))
+          : (1 ≤ r .nodes) × ((32768 ≤ length listing) × (Usable m (ruleRowsIn m) (r .states) (r .nodes)
+          × SomeJob m (ruleRowsIn m) (r .finals) (r .states) (r .nodes)))
       list-ready = let j = a .job h in (j .some-node, (room, (j .usable, (j .job, j .held))))
 
       -- its listing
       pub list-accepted
-          : (k after : List ℕ) (long : ℕ) → ListedHeld (ruleIn m) (r .finals) (r .states) (r .nodes) m k listing after long
+          : (k after : List ℕ) (long : ℕ) → ListedHeld (ruleRowsIn m) (r .finals) (r .states) (r .nodes) m k listing after long
           → ListEnds (Length long) (cleared k) after
       list-accepted k after long g =
           ends-accepted listedOf listingAfter listing a h k (Length long) after (g .kept)

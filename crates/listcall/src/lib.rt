@@ -3,8 +3,8 @@ ghost use mathlib.Core.Path.{_≡_};
 ghost use lib.ListN.{length};
 ghost use Rattle.admission.specs.Admission.{workAfter};
 ghost use Rattle.listoutcome.specs.ListCall.{listAnswer, listedOf, listingAfter};
+use clearing::clear;
 use door::admit;
-use jobreader::clear::clear;
 use listheld::list_held;
 use listoutcome::list::Listed;
 

@@ -23,12 +23,12 @@ use Rattle.planning.proofs.PlanningResult.{planned-plan}
 use Rattle.lines.specs.Line.{line}
 use Rattle.jobfile.specs.ListingLines.{shadowNumbers, shadowBytes, shadowsBytes, totalBytes, listingBytes}
 use Rattle.jobfile.proofs.ListingLength.{shadows-length, total-length}
-use Rattle.buffer.specs.Views.{nodeIn, enabledIn}
+use Rattle.buffer.specs.Views.{nodeIn, enabledIn, beforeIn}
 use Rattle.classes.specs.Backwards.{isLowest, isNop}
 use Rattle.classes.proofs.FoundSays.{classes-found, nop-found}
 use Rattle.passes.specs.declared.passes.Counts.{Counts}
 use Rattle.passes.proofs.PlanInLaws.{plan-in-enables}
-use Rattle.found.specs.Findings.{beforeIn, FoundHeld}
+use Rattle.found.specs.Findings.{FoundHeld}
 use Rattle.listingtext.specs.Printing.{byteOf, PointWritten, PointsWritten, LinesWritten}
 
 -- ---- what is read at a point

@@ -1,6 +1,6 @@
 // The listing of standard input, on standard output.
 use buffer::WORK;
-use jobreader::read::LONGEST;
+use jobreader::LONGEST;
 use libc::STDIN_FILENO;
 use libc::STDOUT_FILENO;
 use listcall::ROOM;

@@ -21,12 +21,12 @@ use Rattle.job.specs.Search.{faithful}
 use Rattle.planning.proofs.PlanBytes.{count-says, all-enabled-byte, all-enabled-length, all-enabled-count}
 use Rattle.planning.proofs.PlanningResult.{planned-plan}
 use Rattle.buffer.specs.Layout.{planPart, rulePart, Lent}
-use Rattle.buffer.specs.Views.{nodeIn, enabledIn}
+use Rattle.buffer.specs.Views.{nodeIn, enabledIn, planIn}
 use Rattle.buffer.specs.Kept.{SameOutside}
 use Rattle.tables.specs.Held.{Usable, JobHeld, AfterHeld}
 use Rattle.passes.specs.declared.passes.Counts.{Counts}
 use Rattle.passes.specs.Counts.{countsOf}
-use Rattle.passes.specs.Passes.{planIn, PlanningKept, AllEnabled, PassesMade, enabledTotal, PlanMade}
+use Rattle.passes.specs.Passes.{PlanningKept, AllEnabled, PassesMade, enabledTotal, PlanMade}
 use Rattle.passes.proofs.PlanInLaws.{plan-in-byte, plan-in-length, plan-in-enables, planning-both, planning-plan, plan-stored}
 use Rattle.passes.proofs.PlanInLaws.{node-kept, usable-kept, job-kept, after-kept}
 

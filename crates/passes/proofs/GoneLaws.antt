@@ -11,8 +11,9 @@ use Rattle.planning.specs.Planning.{tried, passed, enabledCount}
 use Rattle.job.specs.Search.{faithful}
 use Rattle.planning.proofs.PassLaws.{Kept, passed-more, passed-says, kept-none, kept-more}
 use Rattle.tables.specs.Held.{Usable, JobHeld, AfterHeld}
-use Rattle.passes.specs.Passes.{planIn, PlanningKept, TriedAt, FirstGone, LastGone}
+use Rattle.passes.specs.Passes.{PlanningKept, TriedAt, FirstGone, LastGone}
 use Rattle.passes.proofs.PlanInLaws.{planning-none, planning-both, job-kept, after-kept}
+use Rattle.buffer.specs.Views.{planIn}
 
 -- ---- until one goes
 

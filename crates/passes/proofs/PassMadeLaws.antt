@@ -16,8 +16,9 @@ use Rattle.planning.proofs.PlanBytes.{count-sum}
 use Rattle.planning.proofs.PassLaws.{Kept, passed-says, kept-none, kept-passed}
 use Rattle.planning.proofs.PlanningLaws.{settled, Underway, underway-start, underway-more, underway-last}
 use Rattle.buffer.specs.Layout.{planPart, Lent}
+use Rattle.buffer.specs.Views.{planIn}
 use Rattle.tables.specs.Held.{Usable, JobHeld, AfterHeld}
-use Rattle.passes.specs.Passes.{planIn, PlanningKept, TriedFrom, FirstGone, LastGone, PassMade, PassesMade}
+use Rattle.passes.specs.Passes.{PlanningKept, TriedFrom, FirstGone, LastGone, PassMade, PassesMade}
 use Rattle.passes.proofs.PlanInLaws.{plan-in-byte, plan-in-length, planning-none, planning-both, job-kept, after-kept}
 
 -- ---- a pass

@@ -15,12 +15,13 @@ use Rattle.job.specs.Job.{Job}
 use Rattle.job.specs.Plan.{enables}
 use Rattle.buffer.specs.Buffer.{workSize}
 use Rattle.buffer.specs.Layout.{pairPart, planPart, rulePart, Lent}
-use Rattle.buffer.specs.Views.{nodeIn, enabledIn}
+use Rattle.buffer.specs.Views.{nodeIn, enabledIn, planIn}
 use Rattle.buffer.specs.Kept.{SameOutside}
+use Rattle.buffer.specs.ClassRows.{ClassesKept}
 use Rattle.tables.specs.Tables.{SearchKept}
 use Rattle.tables.specs.Held.{Usable, JobHeld, PlanHeld, AfterHeld}
-use Rattle.tables.proofs.JobKeptLaws.{FrontKept, ClassesKept, front-node, front-usable, front-job, after-words-kept}
-use Rattle.passes.specs.Passes.{planIn, PlanningKept}
+use Rattle.tables.proofs.JobKeptLaws.{FrontKept, front-node, front-usable, front-job, after-words-kept}
+use Rattle.passes.specs.Passes.{PlanningKept}
 
 -- ---- the plan
 

@@ -15,10 +15,10 @@ use Rattle.job.specs.Search.{faithful}
 use Rattle.planning.proofs.PlanBytes.{set-back, count-set}
 use Rattle.planning.proofs.PassLaws.{tried-disabled, tried-needed, tried-removed}
 use Rattle.buffer.specs.Layout.{planPart}
-use Rattle.buffer.specs.Views.{enabledIn}
+use Rattle.buffer.specs.Views.{enabledIn, planIn}
 use Rattle.tables.specs.Held.{Usable, JobHeld, AfterHeld}
 use Rattle.search.specs.Searched.{SearchedAt}
-use Rattle.passes.specs.Passes.{planIn, PlanningKept, TriedAt}
+use Rattle.passes.specs.Passes.{PlanningKept, TriedAt}
 use Rattle.passes.proofs.PlanInLaws.{plan-in-held, plan-in-set, plan-in-enables, plan-in-same}
 use Rattle.passes.proofs.PlanInLaws.{planning-none, planning-both, planning-search, planning-plan, plan-stored}
 use Rattle.passes.proofs.PlanInLaws.{usable-kept, job-kept, after-kept}

@@ -12,16 +12,12 @@ use Rattle.planning.specs.Planning.{allEnabled, tried, passed, enabledCount}
 use Rattle.planning.specs.Listing.{planOf}
 use Rattle.job.specs.Search.{faithful}
 use Rattle.buffer.specs.Layout.{pairPart, classPart, planPart, rulePart, marksEnd}
-use Rattle.buffer.specs.Views.{enabledIn}
+use Rattle.buffer.specs.Views.{enabledIn, planIn}
 use Rattle.buffer.specs.Kept.{SameOutside, Kept, Outside}
 use Rattle.laws.specs.Bounded.{sumBelow}
 use Rattle.tables.specs.Held.{JobHeld, AfterHeld}
 use Rattle.passes.specs.declared.passes.Counts.{Counts}
 use Rattle.passes.specs.Counts.{countsOf}
-
--- the plan of the first nodes
-unfoldable pub planIn : List ℕ → ℕ → List ℕ
-planIn work nodes = take nodes (drop planPart work)
 
 -- only the rows of pairs and the bytes from the plan up to the end of the marks are touched
 abbrev pub PlanningKept : List ℕ → List ℕ → Type 0

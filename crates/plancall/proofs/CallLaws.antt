@@ -10,7 +10,7 @@ use borrow.Author.Tests.{ltb-false}
 use Rattle.laws.proofs.Tests.{fails-of, or-right}
 use Rattle.buffer.specs.Buffer.{workSize, cleared}
 use Rattle.jobhead.specs.declared.head.Head.{Head}
-use Rattle.jobreader.specs.Rule.{ruleIn}
+use Rattle.buffer.specs.Views.{ruleRowsIn}
 use Rattle.tables.specs.Held.{Usable}
 use Rattle.admission.specs.Admitted.{Admitted}
 use Rattle.admission.proofs.AdmissionLaws.{admitted-reads}
@@ -41,12 +41,12 @@ module _ (file work plan : List ℕ) where
           ltb-false (length plan) planSize (fails-of short (λ t. true≢false (sym (or-right (ltb (length work) workSize) short t) ∙ read .0)))
 
       -- the job that was admitted may be planned
-      pub plan-ready : (1 ≤ r .nodes) × ((512 ≤ length plan) × Usable m (ruleIn m) (r .states) (r .nodes))
+      pub plan-ready : (1 ≤ r .nodes) × ((512 ≤ length plan) × Usable m (ruleRowsIn m) (r .states) (r .nodes))
       plan-ready = let j = a .job h in (j .some-node, (room, j .usable))
 
       -- its plan
       pub plan-accepted
-          : (k after : List ℕ) (counts : Counts) → PlannedHeld (ruleIn m) (r .finals) (r .states) (r .nodes) m k plan after counts
+          : (k after : List ℕ) (counts : Counts) → PlannedHeld (ruleRowsIn m) (r .finals) (r .states) (r .nodes) m k plan after counts
           → PlanEnds (Planned counts) (cleared k) after
       plan-accepted k after counts g =
           ends-accepted outcomeOf planAfter plan a h k (Planned counts) after (g .kept)

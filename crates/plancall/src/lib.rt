@@ -3,8 +3,8 @@ ghost use mathlib.Core.Path.{_≡_};
 ghost use lib.ListN.{length};
 ghost use Rattle.admission.specs.Admission.{workAfter};
 ghost use Rattle.planoutcome.specs.PlanCall.{planAnswer, outcomeOf, planAfter};
+use clearing::clear;
 use door::admit;
-use jobreader::clear::clear;
 use planheld::plan_held;
 use planoutcome::plan::Outcome;
 

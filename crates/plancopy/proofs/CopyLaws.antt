@@ -8,7 +8,7 @@ use lib.ListN.{length, getD, set}
 use lib.Seq.{sets}
 use Rattle.laws.proofs.Sets.{sets-append}
 use Rattle.buffer.specs.Layout.{planPart, Lent}
-use Rattle.passes.specs.Passes.{planIn}
+use Rattle.buffer.specs.Views.{planIn}
 use Rattle.passes.proofs.PlanInLaws.{plan-in-none, plan-in-more, plan-in-length}
 
 -- no byte

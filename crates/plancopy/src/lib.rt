@@ -4,7 +4,7 @@ ghost use Prim.Native.Nat.{_≤_};
 ghost use lib.ListN.{length};
 ghost use lib.Seq.{sets};
 ghost use Rattle.buffer.specs.Layout.{Lent};
-ghost use Rattle.passes.specs.Passes.{planIn};
+ghost use Rattle.buffer.specs.Views.{planIn};
 use buffer::PLAN;
 
 // Copies the plan of the nodes to the plan buffer.

@@ -2,24 +2,26 @@
 -- Assumes nothing.
 use mathlib.Core.Path.{_≡_, ap, _∙_, subst}
 use mathlib.Core.List.{List}
-use Prim.Native.Nat.{ℕ, _+_, _≤_, _<_}
+use Prim.Native.Nat.{ℕ}
 use native.Mathlib.Omega.{arith}
 use lib.Seq.{sets}
 use Rattle.buffer.specs.Buffer.{workSize}
 use Rattle.buffer.specs.Layout.{nodesPart, pairPart, classPart, foundPart}
 use Rattle.buffer.specs.Kept.{SameOutside}
 use Rattle.buffer.proofs.KeptLaws.{kept-none, kept-both}
+use Rattle.buffer.specs.ClassRows.{OnlyClasses}
+use Rattle.buffer.specs.Views.{planIn}
 use Rattle.tables.specs.Held.{Usable}
 use Rattle.tables.proofs.JobKeptLaws.{front-kept, front-job}
 use Rattle.classes.specs.Backwards.{AfterWords}
 use Rattle.tables.proofs.JobKeptLaws.{table-usable}
 use Rattle.passes.specs.declared.passes.Counts.{Counts}
-use Rattle.passes.specs.Passes.{planIn, PlanningKept, PlanMade}
+use Rattle.passes.specs.Passes.{PlanningKept, PlanMade}
 use Rattle.passes.proofs.PlanInLaws.{planning-outside}
 use Rattle.planheld.specs.Held.{PlannedHeld}
 
 -- planning leaves the bytes past the first 65,536
-rest-kept : (l m k : List ℕ) → SameOutside l m classPart foundPart → PlanningKept m k → SameOutside l k nodesPart workSize
+rest-kept : (l m k : List ℕ) → OnlyClasses l m → PlanningKept m k → SameOutside l k nodesPart workSize
 rest-kept l m k a p =
     kept-both l m k nodesPart workSize pairPart workSize
     (kept-both l l m nodesPart workSize classPart foundPart (kept-none l nodesPart workSize) a (omega arith) (omega arith))

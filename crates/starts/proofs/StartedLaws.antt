@@ -19,7 +19,8 @@ use Rattle.laws.proofs.Walk.{Rest, rest-start, rest-from, rest-lt, rest-low, re
 use Rattle.job.specs.Job.{Node}
 use Rattle.buffer.specs.Layout.{pairPart, classPart, marksPart, marksEnd}
 use Rattle.buffer.specs.Views.{nodeIn, pairRowIn, Held}
-use Rattle.tables.specs.Tables.{Zeroed, SearchKept, Grown, PairsJoined}
+use Rattle.buffer.specs.Kept.{Zeroed}
+use Rattle.tables.specs.Tables.{SearchKept, Grown, PairsJoined}
 use Rattle.starts.specs.Started.{StartedNode, Started}
 use Rattle.tables.proofs.RowLaws.{has-nothing}
 use Rattle.tables.proofs.KeptLaws.{search-kept-both, grown-none, grown-both, node-same}

@@ -8,21 +8,19 @@ use Prim.Native.Nat.{ℕ, suc, _+_, _*_, _≤_, _<_}
 use native.Mathlib.Nat.{lt-of-lt-of-le}
 use native.Mathlib.Omega.{arith}
 use Rattle.buffer.proofs.KeptLaws.{kept-fewer}
+use Rattle.buffer.proofs.ClassRowLaws.{class-row-kept}
 use Rattle.laws.specs.Bytes.{numberAt}
 use Rattle.laws.proofs.Bytes.{number-cong}
 use Rattle.job.specs.Job.{Job, WellFormedJob}
-use Rattle.buffer.specs.Layout.{startsPart, targetsPart, pairPart, classPart, foundPart}
-use Rattle.buffer.specs.Views.{nodeIn, startIn, targetIn, classRowIn, EdgeIn}
+use Rattle.buffer.specs.Layout.{startsPart, targetsPart, pairPart}
+use Rattle.buffer.specs.Views.{nodeIn, startIn, targetIn, EdgeIn}
 use Rattle.buffer.specs.Kept.{SameOutside, Kept}
+use Rattle.buffer.specs.ClassRows.{ClassesKept}
 use Rattle.tables.specs.Held.{EdgesWithin, Usable, JobHeld, AfterHeld}
 
 -- the nodes and edges are as they were, and so is the length
 abbrev pub FrontKept : List ℕ → List ℕ → Type 0
 FrontKept = Kept (λ k. k < pairPart)
-
--- the class rows are
-abbrev pub ClassesKept : List ℕ → List ℕ → Type 0
-ClassesKept = Kept (λ k. (classPart ≤ k) × (k < foundPart))
 
 -- a store past them leaves them
 pub front-kept : {l m : List ℕ} {i j : ℕ} → pairPart ≤ i → SameOutside l m i j → FrontKept l m
@@ -114,19 +112,12 @@ module _ {l m : List ℕ} (s : FrontKept l m) where
   }
 
 module _ (l m : List ℕ) (s : ClassesKept l m) where
-  -- a class row
-  pub class-row-kept : (n p : ℕ) → n < 512 → p < 16 → classRowIn m n p ≡ classRowIn l n p
-  unfolding classRowIn
-  class-row-kept n p h k =
-      number-cong 2 m l (classPart + (n * 16 + p) * 2) (classPart + (n * 16 + p) * 2)
-      (λ i g. s .outside (classPart + (n * 16 + p) * 2 + i) (omega arith, omega arith))
-
   -- the after words
   pub after-words-kept : {j : Job} {nodes : ℕ} → WellFormedJob j → nodes ≤ 512 → AfterHeld j l nodes → AfterHeld j m nodes
   after-words-kept f h a = record {
-    sound = λ n p q g b d. a .sound n p q g b (rw (class-row-kept n p (lt-of-lt-of-le g h) b) at d);
+    sound = λ n p q g b d. a .sound n p q g b (rw (class-row-kept l m s n p (lt-of-lt-of-le g h) b) at d);
     whole = λ n p q g b e x w.
-        rw (class-row-kept n p (lt-of-lt-of-le g h) (lt-of-lt-of-le b (f .rule .few-states))) (a .whole n p q g b e x w);
+        rw (class-row-kept l m s n p (lt-of-lt-of-le g h) (lt-of-lt-of-le b (f .rule .few-states))) (a .whole n p q g b e x w);
   }
 
 -- a table that equals another will do

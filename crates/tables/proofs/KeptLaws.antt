@@ -11,9 +11,11 @@ use Rattle.buffer.proofs.KeptLaws.{kept-same, kept-then, kept-fewer}
 use Rattle.job.specs.Job.{Job}
 use Rattle.buffer.specs.Layout.{planPart}
 use Rattle.buffer.specs.Views.{nodeIn, targetIn, classRowIn, enabledIn}
+use Rattle.buffer.specs.ClassRows.{ClassesKept}
+use Rattle.buffer.proofs.ClassRowLaws.{class-row-kept}
 use Rattle.tables.specs.Tables.{SearchKept, Grown}
 use Rattle.tables.specs.Held.{Usable, JobHeld, PlanHeld}
-use Rattle.tables.proofs.JobKeptLaws.{FrontKept, ClassesKept, front-node, front-target, front-usable, front-job, class-row-kept}
+use Rattle.tables.proofs.JobKeptLaws.{FrontKept, front-node, front-target, front-usable, front-job}
 
 -- ---- composition
 

@@ -6,88 +6,26 @@ use mathlib.Core.Bool.{true, false, _||_, true≢false}
 use mathlib.Core.List.{List}
 use Prim.Native.Nat.{ℕ, _+_, _-_, _*_, _^_, _≤_, _<_}
 use native.Mathlib.Nat.{le-refl}
-use native.Mathlib.Decide.{ℕ-discrete, decLt}
+use native.Mathlib.Decide.{ℕ-discrete}
 use native.Mathlib.Omega.{arith}
-use lib.Bits.{bitOr, or-lt, or-add-and, and-le-r}
+use lib.Bits.{bitOr, or-lt}
 use lib.Pow.{pow-lt}
-use lib.ListN.{length, set}
-use lib.Seq.{getD-set-same, getD-set-other}
+use lib.ListN.{length}
 use borrow.Author.Tests.{eq-eqb, ne-eqb}
 use Rattle.buffer.specs.Layout.{pairPart, classPart, marksPart, marksEnd, Lent}
-use Rattle.buffer.specs.Views.{pairRowIn, classRowIn, marksIn, markedIn, Held}
+use Rattle.buffer.specs.Views.{pairRowIn, marksIn, markedIn, Held}
 use Rattle.buffer.specs.Kept.{Outside}
 use Rattle.laws.specs.Bounded.{sumBelow}
 use Rattle.laws.specs.Bits.{has, with}
 use Rattle.laws.specs.Bytes.{AreBytes, numberAt, putNumber}
 use Rattle.laws.proofs.Bounded.{sum-cong, sum-change}
 use Rattle.laws.proofs.Bits.{has-or, has-pow}
-use Rattle.laws.proofs.Bytes.{number-lt, number-put, number-put-other, put-number, length-put, getD-put-outside}
-use Rattle.laws.proofs.Tests.{fails-of, or-left, or-right, or-passes}
-use Rattle.buffer.proofs.KeptLaws.{kept-then, outside-part, kept-none, kept-set, kept-put}
-use Rattle.tables.specs.Tables.{joined, unmarked, apartJoined, Zeroed, pairsLeft, apartLeft, SearchKept, PairsJoined, NextMarked, MarksTaken, ApartGrown}
+use Rattle.laws.proofs.Bytes.{number-lt, number-put, number-put-other, length-put, getD-put-outside}
+use Rattle.laws.proofs.Tests.{fails-of, or-left, or-right}
+use Rattle.buffer.proofs.KeptLaws.{outside-part}
+use Rattle.buffer.proofs.NumberTableLaws.{number-row, NumberJoined, joined-here, joined-held, joined-new, room-falls}
+use Rattle.tables.specs.Tables.{joined, unmarked, pairsLeft, SearchKept, PairsJoined, NextMarked, MarksTaken}
 use Rattle.tables.proofs.KeptLaws.{grown-none}
-
--- ---- a number of two bytes stored in a table
-
--- a set is at most its union with another
-or-above : (a b : ℕ) → a ≤ bitOr a b
-or-above a b = omega (arith, or-add-and a b, and-le-r a b)
-
--- the number at another index
-number-row : (l : List ℕ) (b i j v : ℕ) → (i ≡ j → ⊥) → numberAt 2 (putNumber 2 l (b + j * 2) v) (b + i * 2) ≡ numberAt 2 l (b + i * 2)
-number-row l b i j v h =
-    number-put-other 2 2 l (b + j * 2) (b + i * 2) v
-    (by-cases (decLt i j) (λ (g : i < j). inl (omega arith)) (λ (g : i < j → ⊥). inr (omega arith)))
-
--- the room in a table of 8,192 numbers falls by the growth of one
-room-falls
-    : (l m : List ℕ) (b k d : ℕ) → k < 8192
-    → ((i : ℕ) → i < 8192 → (i ≡ k → ⊥) → numberAt 2 m (b + i * 2) ≡ numberAt 2 l (b + i * 2))
-    → numberAt 2 l (b + k * 2) + d ≤ numberAt 2 m (b + k * 2) → numberAt 2 m (b + k * 2) < 65536
-    → sumBelow 8192 (λ i. 65535 - numberAt 2 m (b + i * 2)) + d ≤ sumBelow 8192 (λ i. 65535 - numberAt 2 l (b + i * 2))
-room-falls l m b k d h same g f =
-    let s = sum-change 8192 (λ i. 65535 - numberAt 2 m (b + i * 2)) (λ i. 65535 - numberAt 2 l (b + i * 2)) k d 0 h
-    (λ i x y. ap (λ (z : ℕ). 65535 - z) (same i x y)) (omega arith) in
-    omega arith
-
--- ---- rows of states told apart
-
-module _ (l : List ℕ) (n p s : ℕ) (long : Lent l) (few : n < 512) (small : p < 16) (bytes : AreBytes l) (fits : s < 65536) where
-  -- a set that the row holds, in the shape of the code
-  pub apart-same : (old : ℕ) → old ≡ numberAt 2 l (classPart + (n * 16 + p) * 2) → bitOr old s ≡ old → ApartGrown l l n p s 0
-  unfolding apartJoined classRowIn apartLeft
-  apart-same old e h =
-      let g : bitOr (numberAt 2 l (classPart + (n * 16 + p) * 2)) s ≡ numberAt 2 l (classPart + (n * 16 + p) * 2) = rw e at h in
-      record {
-        exact = rw g (sym (put-number 2 l (classPart + (n * 16 + p) * 2) bytes));
-        kept = kept-none l (classPart + (n * 16 + p) * 2) (classPart + (n * 16 + p) * 2 + 2);
-        row = sym g;
-        others = λ k r x y z. refl;
-        none = λ z. refl;
-        left = omega arith;
-      }
-
-  -- a set that makes the row grow, in the shape of the code
-  pub apart-grows
-      : (m : List ℕ) (old : ℕ) → old ≡ numberAt 2 l (classPart + (n * 16 + p) * 2) → (bitOr old s ≡ old → ⊥)
-      → m ≡ putNumber 2 l (classPart + (n * 16 + p) * 2) (bitOr old s) → ApartGrown l m n p s 1
-  unfolding apartJoined classRowIn apartLeft
-  apart-grows m old e h d =
-      let o : old < 65536 = rw e (number-lt 2 l (classPart + (n * 16 + p) * 2) bytes) in
-      let a = or-above old s in
-      let b = or-lt 16 old s o fits in
-      let here : numberAt 2 m (classPart + (n * 16 + p) * 2) ≡ bitOr old s =
-      rw d (number-put 2 l (classPart + (n * 16 + p) * 2) (bitOr old s) b (omega arith)) in
-      let other : (i : ℕ) → (i ≡ n * 16 + p → ⊥) → numberAt 2 m (classPart + i * 2) ≡ numberAt 2 l (classPart + i * 2) =
-      λ i g. rw d (number-row l classPart i (n * 16 + p) (bitOr old s) g) in
-      record {
-        exact = rw (← e) d;
-        kept = kept-put l m (classPart + (n * 16 + p) * 2) (bitOr old s) d;
-        row = rw (← e) here;
-        others = λ k r x y z. other (k * 16 + r) (λ q. z (omega arith, omega arith));
-        none = λ z. absurd (omega arith);
-        left = room-falls l m classPart (n * 16 + p) 1 (omega arith) (λ i x. other i) (omega arith) (omega arith);
-      }
 
 -- ---- marks
 
@@ -290,36 +228,30 @@ module _ (l : List ℕ) (n p s : ℕ) (long : Lent l) (few : n < 512) (small : p
     row-other i x y =
         number-front w n (with due p) (pairPart + i * 2) (omega arith) ∙ rw d (number-row l pairPart i (n * 16 + p) (bitOr old s) y)
 
+    -- one row alone is joined
+    row-joined : NumberJoined l m pairPart (n * 16 + p) s
+    row-joined = record { here = rw (← e) row-here; others = row-other }
+
     -- the room falls by one at least, which counts for more than the mark
     less : pairsLeft m ≤ pairsLeft l
     unfolding pairsLeft
     less =
-        let a = or-above old s in
-        let rows = room-falls l m pairPart (n * 16 + p) 1 (omega arith) row-other (omega (arith, row-here)) (omega (arith, row-here, new-fits)) in
+        let rows = room-falls row-joined (omega arith) (λ z. h (sym row-here ∙ z ∙ sym e)) (omega (arith, row-here, new-fits)) in
         omega (arith, joined-marks .rise)
 
     -- a pair that was held
     held : (k r q : ℕ) → k < 512 → r < 16 → Held l k r q → Held m k r q
     unfolding pairRowIn
-    held k r q x y z =
-        by-cases (ℕ-discrete (k * 16 + r) (n * 16 + p))
-        (λ (c : k * 16 + r ≡ n * 16 + p).
-        let z′ : has old q ≡ true = rw (e, ← c) z in
-        rw (c, row-here) (has-or old s q ∙ or-left (has old q) (has s q) z′))
-        (λ (c : k * 16 + r ≡ n * 16 + p → ⊥). rw (row-other (k * 16 + r) (omega arith) c) z)
+    held k r q x y z = joined-held row-joined (k * 16 + r) q (omega arith) z
 
     -- a pair that is held
     fresh : (k r q : ℕ) → k < 512 → r < 16 → Held m k r q → Held l k r q ⊎ ((k ≡ n) × ((r ≡ p) × (has s q ≡ true)))
     unfolding pairRowIn
     fresh k r q x y z =
-        by-cases (ℕ-discrete (k * 16 + r) (n * 16 + p))
-        (λ (c : k * 16 + r ≡ n * 16 + p).
-        let z′ : has (bitOr old s) q ≡ true = rw (← row-here, ← c) z in
         ⊎-elim
-        (λ (a : has old q ≡ true). inl (rw (c, ← e) a))
-        (λ (a : has s q ≡ true). inr (omega arith, (omega arith, a)))
-        (or-passes (has old q) (has s q) (sym (has-or old s q) ∙ z′)))
-        (λ (c : k * 16 + r ≡ n * 16 + p → ⊥). inl (rw (row-other (k * 16 + r) (omega arith) c) at z))
+        (λ (a : has (numberAt 2 l (pairPart + (k * 16 + r) * 2)) q ≡ true). inl a)
+        (λ (a : (k * 16 + r ≡ n * 16 + p) × (has s q ≡ true)). inr (omega (arith, a .0), (omega (arith, a .0), a .1)))
+        (joined-new row-joined (k * 16 + r) q (omega arith) z)
 
     -- a row that is not marked is another, as it was
     quiet
@@ -346,7 +278,7 @@ module _ (l : List ℕ) (n p s : ℕ) (long : Lent l) (few : n < 512) (small : p
             ← d,
           );
       grown = record { kept = joined-marks .kept; held = held; quiet = quiet; left = less };
-      here = λ q x. ap (λ (z : ℕ). has z q) row-here ∙ has-or old s q ∙ or-right (has old q) (has s q) x;
+      here = λ q x. joined-here row-joined q x;
       new = fresh;
     }
 
@@ -354,19 +286,3 @@ module _ (l : List ℕ) (n p s : ℕ) (long : Lent l) (few : n < 512) (small : p
     pub pairs-grow : (o : List ℕ) (v : ℕ) → v ≡ with due p → o ≡ putNumber 2 w (marksPart + n * 2) v → PairsJoined l o n p s
     pairs-grow o v is last =
         subst (λ (x : List ℕ). PairsJoined l x n p s) (sym (last ∙ ap (λ (x : ℕ). putNumber 2 w (marksPart + n * 2) x) is)) grows
-
--- ---- clearing
-
--- nothing is zero yet
-pub zeroed-none : (l : List ℕ) (i : ℕ) → Zeroed l l i i
-zeroed-none l i = record { kept = kept-none l i i; zeros = λ k x y. absurd (omega arith) }
-
--- one more byte
-pub zeroed-more : (l m : List ℕ) (i j : ℕ) → i ≤ j → j < length l → Zeroed l m i j → Zeroed l (set m j 0) i (j + 1)
-zeroed-more l m i j h g z = record {
-  kept = kept-then (λ k o. (outside-part (le-refl i) (omega arith) k o, outside-part h (le-refl (j + 1)) k o)) (z .kept) (kept-set m j 0);
-  zeros = λ k x y.
-      by-cases (ℕ-discrete k j)
-      (λ (e : k ≡ j). rw e (getD-set-same m j 0 0 (omega (arith, z .kept .long))))
-      (λ (e : k ≡ j → ⊥). getD-set-other m j k 0 0 e ∙ z .zeros k x (omega arith));
-}

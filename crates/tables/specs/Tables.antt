@@ -8,13 +8,12 @@ use mathlib.Core.List.{List}
 use Prim.Native.Nat.{ℕ, _+_, _-_, _*_, _≤_, _<_}
 use lib.Dec.{eqb}
 use lib.Bits.{bitOr}
-use lib.ListN.{getD}
 use Rattle.laws.specs.Bounded.{sumBelow}
 use Rattle.laws.specs.Bits.{has, with}
 use Rattle.laws.specs.Bytes.{numberAt, putNumber}
 use Rattle.buffer.specs.Layout.{pairPart, classPart, marksPart, marksEnd}
-use Rattle.buffer.specs.Views.{pairRowIn, classRowIn, marksIn, markedIn, Held}
-use Rattle.buffer.specs.Kept.{SameOutside, Kept, Outside}
+use Rattle.buffer.specs.Views.{pairRowIn, marksIn, markedIn, Held}
+use Rattle.buffer.specs.Kept.{Kept, Outside}
 
 -- ---- what stores leave
 
@@ -29,16 +28,6 @@ joined work n p s =
 unfoldable pub unmarked : List ℕ → ℕ → List ℕ
 unmarked work n = putNumber 2 work (marksPart + n * 2) 0
 
--- a set is joined into row p of the states told apart past node n
-unfoldable pub apartJoined : List ℕ → ℕ → ℕ → ℕ → List ℕ
-unfolding classRowIn
-apartJoined work n p s = putNumber 2 work (classPart + (n * 16 + p) * 2) (bitOr (classRowIn work n p) s)
-
--- the bytes from i up to j are zero, and the others as they were
-pub record Zeroed (l m : List ℕ) (i j : ℕ) : Type 0 where
-  pub kept : SameOutside l m i j
-  pub zeros : (k : ℕ) → i ≤ k → k < j → getD m k 0 ≡ 0
-
 -- ---- measures
 
 -- what is left to a search: the room in the rows of pairs, each step of it more than the marks of a node, and the marks
@@ -46,10 +35,6 @@ unfoldable pub pairsLeft : List ℕ → ℕ
 unfolding marksIn
 pairsLeft work =
     65536 * sumBelow 8192 (λ i. 65535 - numberAt 2 work (pairPart + i * 2)) + sumBelow 512 (λ n. marksIn work n)
-
--- what is left to the growth of the class rows
-unfoldable pub apartLeft : List ℕ → ℕ
-apartLeft work = sumBelow 8192 (λ i. 65535 - numberAt 2 work (classPart + i * 2))
 
 -- ---- one buffer after another
 
@@ -90,12 +75,3 @@ pub record MarksTaken (l m : List ℕ) (n due : ℕ) : Type 0 where
   pub here : marksIn m n ≡ 0
   pub others : (k : ℕ) → (k ≡ n → ⊥) → marksIn m k ≡ marksIn l k
   pub left : pairsLeft m + due ≤ pairsLeft l
-
--- a set was joined into row p of the states told apart past node n; the count is 1 where the row grew
-pub record ApartGrown (l m : List ℕ) (n p s count : ℕ) : Type 0 where
-  pub exact : m ≡ apartJoined l n p s
-  pub kept : SameOutside l m (classPart + (n * 16 + p) * 2) (classPart + (n * 16 + p) * 2 + 2)
-  pub row : classRowIn m n p ≡ bitOr (classRowIn l n p) s
-  pub others : (k r : ℕ) → k < 512 → r < 16 → ((k ≡ n) × (r ≡ p) → ⊥) → classRowIn m k r ≡ classRowIn l k r
-  pub none : count ≡ 0 → m ≡ l
-  pub left : apartLeft m + count ≤ apartLeft l

@@ -7,7 +7,7 @@ use buffer::WORK;
 use checkcall::check_plan;
 use counterjob::HEAD;
 use counterjob::write_counter;
-use jobreader::read::LONGEST;
+use jobreader::LONGEST;
 use jobs::CUT;
 use jobs::EDGE_TWICE;
 use jobs::LOOP;

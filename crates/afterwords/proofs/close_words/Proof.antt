@@ -3,10 +3,10 @@
 -- Measure: the room in the class rows and one more; nothing where the last round grew none.
 -- Assumes nothing.
 use native.Mathlib.Omega.{arith}
-use Rattle.tables.specs.Tables.{apartLeft}
 use Rattle.classes.proofs.GrownLaws.{rank, rank-less}
 use Rattle.classes.proofs.WordLaws.{ClosingWords, closing-start, closing-more, closing-end}
 use Rattle.afterwords.proofs.close_words.Statement.{statement}
+use Rattle.buffer.specs.ClassRows.{apartLeft}
 use Rattle.afterwords.proofs.close_words.Tie as tie
 
 abbrev Inv-loop : tie.InvT-loop

@@ -5,9 +5,10 @@
 use Prim.Native.Nat.{_-_}
 use native.Mathlib.Omega.{arith}
 use borrow.Author.Needs.{needs}
-use Rattle.classes.proofs.GrownLaws.{RowsGrown, rows-none, apart-left-small}
+use Rattle.classes.proofs.GrownLaws.{RowsGrown, rows-none}
 use Rattle.classes.proofs.WordLaws.{WordPairs, WordsAt, round-more, round-end}
 use Rattle.afterwords.proofs.word_round.Statement.{statement}
+use Rattle.buffer.proofs.ClassRowLaws.{apart-left-small}
 use Rattle.afterwords.proofs.word_round.Tie as tie
 
 abbrev Inv-loop : tie.InvT-loop

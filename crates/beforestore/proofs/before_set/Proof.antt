@@ -1,8 +1,8 @@
 -- `beforestore::before_set` meets its contract.
 -- Assumes nothing.
 use borrow.Author.Needs.{needs}
-use Rattle.found.specs.Findings.{beforeIn}
 use Rattle.beforestore.proofs.before_set.Statement.{statement}
+use Rattle.buffer.specs.Views.{beforeIn}
 use Rattle.beforestore.proofs.before_set.Tie as tie
 
 mul-read16 : tie.Need-mul-read16

@@ -4,7 +4,7 @@ use mathlib.Core.Path.{sym, _∙_}
 use mathlib.Core.Bool.{true, false}
 use borrow.Author.Needs.{needs}
 use borrow.Author.Tests.{not-true, not-false}
-use Rattle.jobreader.specs.Rule.{ruleIn}
+use Rattle.buffer.specs.Views.{ruleRowsIn}
 use Rattle.tables.proofs.JobKeptLaws.{table-usable}
 use Rattle.classes.proofs.AfterLaws.{after-usable}
 use Rattle.checking.proofs.CheckLaws.{other-length, other-marks, stored-usable, search-judged}
@@ -14,7 +14,7 @@ use Rattle.checkheld.proofs.judge.Tie as tie
 returns : tie.Need-returns
 returns c =
     let x = c .before .before .before .args in
-    other-length (x .plan .now) (x .work .now) (ruleIn (x .work .now)) (x .finals) (x .states) (x .nodes) (c .if1 .taken)
+    other-length (x .plan .now) (x .work .now) (ruleRowsIn (x .work .now)) (x .finals) (x .states) (x .nodes) (c .if1 .taken)
 
 is-plan-requires : tie.Need-is-plan-requires
 is-plan-requires c κs = search needs
@@ -25,7 +25,7 @@ same-length c = search needs
 returns-2 : tie.Need-returns-2
 returns-2 c =
     let x = c .before .before .before .before .before .before .args in
-    other-marks (x .plan .now) (x .work .now) (ruleIn (x .work .now)) (x .finals) (x .states) (x .nodes) (c .before .before .before .if1 .left)
+    other-marks (x .plan .now) (x .work .now) (ruleRowsIn (x .work .now)) (x .finals) (x .states) (x .nodes) (c .before .before .before .if1 .left)
     (sym (c .before .is-plan .ensures) ∙ not-true _ (c .if2 .taken))
 
 table-in-requires : tie.Need-table-in-requires
@@ -59,7 +59,7 @@ returns-3 c =
     let read = stored .before .before in
     let start = read .before .before .before .before .before .before .before .before in
     let x = start .args in
-    search-judged (x .plan .now) (x .work .now) _ _ _ (read .table-in .result) (x .finals) (x .states) (x .nodes) (ruleIn (x .work .now))
+    search-judged (x .plan .now) (x .work .now) _ _ _ (read .table-in .result) (x .finals) (x .states) (x .nodes) (ruleRowsIn (x .work .now))
     (found .result) true (read .table-in .ensures) (start .pre) (read .before .before .before .before .before .if1 .left)
     (sym (read .before .before .before .is-plan .ensures) ∙ not-false _ (read .before .before .if2 .left)) (stored .store-plan .ensures) (after .after-words .ensures)
     (found .ensures) (c .if3 .taken)
@@ -75,7 +75,7 @@ returns-4 c =
     let read = stored .before .before in
     let start = read .before .before .before .before .before .before .before .before in
     let x = start .args in
-    search-judged (x .plan .now) (x .work .now) _ _ _ (read .table-in .result) (x .finals) (x .states) (x .nodes) (ruleIn (x .work .now))
+    search-judged (x .plan .now) (x .work .now) _ _ _ (read .table-in .result) (x .finals) (x .states) (x .nodes) (ruleRowsIn (x .work .now))
     (found .result) false (read .table-in .ensures) (start .pre) (read .before .before .before .before .before .if1 .left)
     (sym (read .before .before .before .is-plan .ensures) ∙ not-false _ (read .before .before .if2 .left)) (stored .store-plan .ensures) (after .after-words .ensures)
     (found .ensures) (c .if3 .left)

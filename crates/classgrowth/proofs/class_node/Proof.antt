@@ -5,9 +5,10 @@
 use Prim.Native.Nat.{_-_}
 use native.Mathlib.Omega.{arith}
 use borrow.Author.Needs.{needs}
-use Rattle.classes.proofs.GrownLaws.{RowsGrown, rows-none, apart-left-small}
-use Rattle.classes.proofs.ClassLaws.{ApartIn, BackPairs, kept-part, edges-within-kept, node-more, node-end}
+use Rattle.classes.proofs.GrownLaws.{RowsGrown, rows-none}
+use Rattle.classes.proofs.ClassLaws.{ApartIn, BackPairs, edges-within-kept, node-more, node-end}
 use Rattle.classgrowth.proofs.class_node.Statement.{statement}
+use Rattle.buffer.proofs.ClassRowLaws.{apart-left-small, only-classes}
 use Rattle.classgrowth.proofs.class_node.Tie as tie
 
 abbrev Inv-loop : tie.InvT-loop
@@ -37,7 +38,7 @@ successor-row-requires c κs =
     let pre = c .before .before .before .before .before .before .before .before .pre in
     let loop = c .before .before .before .before .loop in
     let long = loop .inv .kept .long in
-    let same = kept-part (a .work .now) (loop .work) (a .n) (pre .1 .0) (loop .inv .kept) in (
+    let same = only-classes (a .work .now) (loop .work) (a .n) (pre .1 .0) (loop .inv .kept) in (
       omega (arith, pre .0),
       (
         pre .1 .0,

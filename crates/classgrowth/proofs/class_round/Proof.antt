@@ -5,9 +5,9 @@
 use Prim.Native.Nat.{_-_, _<_}
 use native.Mathlib.Omega.{arith}
 use borrow.Author.Needs.{needs}
-use Rattle.classes.proofs.GrownLaws.{apart-left-small}
 use Rattle.classes.proofs.ClassLaws.{edges-within-kept, RoundSoFar, round-start, round-next, round-done}
 use Rattle.classgrowth.proofs.class_round.Statement.{statement}
+use Rattle.buffer.proofs.ClassRowLaws.{apart-left-small}
 use Rattle.classgrowth.proofs.class_round.Tie as tie
 
 abbrev Inv-loop : tie.InvT-loop

@@ -3,10 +3,10 @@
 -- Measure: the room in the class rows and one more; nothing where the last round grew none.
 -- Assumes nothing.
 use native.Mathlib.Omega.{arith}
-use Rattle.tables.specs.Tables.{apartLeft}
 use Rattle.classes.proofs.GrownLaws.{rank, rank-less}
 use Rattle.classes.proofs.ClassLaws.{usable-kept, GrowingClasses, growing-start, growing-more, growing-end}
 use Rattle.classgrowth.proofs.grow_classes.Statement.{statement}
+use Rattle.buffer.specs.ClassRows.{apartLeft}
 use Rattle.classgrowth.proofs.grow_classes.Tie as tie
 
 abbrev Inv-loop : tie.InvT-loop

@@ -2,8 +2,8 @@
 -- Assumes nothing.
 use native.Mathlib.Omega.{arith}
 use borrow.Author.Needs.{needs}
-use Rattle.tables.proofs.TableLaws.{apart-same, apart-grows}
 use Rattle.classrows.proofs.join_classes.Statement.{statement}
+use Rattle.buffer.proofs.ClassRowLaws.{apart-same, apart-grows}
 use Rattle.classrows.proofs.join_classes.Tie as tie
 
 mul-at : tie.Need-mul-at

@@ -7,9 +7,9 @@ use native.Mathlib.Nat.{le-refl}
 use native.Mathlib.Omega.{arith}
 use lib.ListN.{length}
 use borrow.Author.Needs.{needs}
-use Rattle.tables.specs.Tables.{Zeroed}
-use Rattle.tables.proofs.TableLaws.{zeroed-none, zeroed-more}
 use Rattle.clearing.proofs.clear_part.Statement.{statement}
+use Rattle.buffer.specs.Kept.{Zeroed}
+use Rattle.buffer.proofs.KeptLaws.{zeroed-none, zeroed-more}
 use Rattle.clearing.proofs.clear_part.Tie as tie
 
 abbrev Inv-loop : tie.InvT-loop

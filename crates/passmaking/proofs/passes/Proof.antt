@@ -4,10 +4,10 @@
 -- Assumes nothing.
 use native.Mathlib.Omega.{arith}
 use Rattle.planning.specs.Planning.{enabledCount}
-use Rattle.passes.specs.Passes.{planIn}
 use Rattle.passes.proofs.PlanInLaws.{usable-kept}
 use Rattle.passes.proofs.PassMadeLaws.{count-bounded, Passing, passing-start, passing-more, passesLeft, passes-left-falls, passing-end}
 use Rattle.passmaking.proofs.passes.Statement.{statement}
+use Rattle.buffer.specs.Views.{planIn}
 use Rattle.passmaking.proofs.passes.Tie as tie
 
 abbrev Inv-loop : tie.InvT-loop

@@ -7,9 +7,9 @@ use native.Mathlib.Omega.{arith}
 use lib.ListN.{length}
 use lib.Seq.{sets}
 use borrow.Author.Needs.{needs}
-use Rattle.passes.specs.Passes.{planIn}
 use Rattle.plancopy.proofs.CopyLaws.{copied-none, copied-more}
 use Rattle.plancopy.proofs.copy_plan.Statement.{statement}
+use Rattle.buffer.specs.Views.{planIn}
 use Rattle.plancopy.proofs.copy_plan.Tie as tie
 
 abbrev Inv-loop : tie.InvT-loop

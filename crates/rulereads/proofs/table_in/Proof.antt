@@ -1,9 +1,9 @@
--- `jobreader::table::table_in` meets its contract: the table of the rule's part of the buffer.
+-- `rulereads::table_in` meets its contract: the table of the rule's part of the buffer.
 -- Assumes nothing.
-use Rattle.jobreader.specs.Rule.{ruleIn}
+use Rattle.buffer.specs.Views.{ruleRowsIn}
 use borrow.Author.Needs.{needs}
-use Rattle.jobreader.proofs.table.table_in.Statement.{statement}
-use Rattle.jobreader.proofs.table.table_in.Tie as tie
+use Rattle.rulereads.proofs.table_in.Statement.{statement}
+use Rattle.rulereads.proofs.table_in.Tie as tie
 
 sub-table-of : tie.Need-sub-table-of
 sub-table-of c = search needs
@@ -18,7 +18,7 @@ table-of-requires : tie.Need-table-of-requires
 table-of-requires c κs = search needs
 
 returns : tie.Need-returns
-unfolding ruleIn
+unfolding ruleRowsIn
 returns c = c .table-of .ensures
 
 pub table-in-spec : {M : Type 1} → statement M

@@ -1,10 +1,10 @@
--- `jobreader::read::read_job` meets its contract: a file that is too long, a J line that does not pass, or what the lines past it give.
+-- `jobreader::read_job` meets its contract: a file that is too long, a J line that does not pass, or what the lines past it give.
 -- Assumes nothing.
 use mathlib.Core.Path.{refl}
 use borrow.Author.Needs.{needs}
 use Rattle.jobreader.proofs.ReadLaws.{long-read, head-refused, file-read}
-use Rattle.jobreader.proofs.read.read_job.Statement.{statement}
-use Rattle.jobreader.proofs.read.read_job.Tie as tie
+use Rattle.jobreader.proofs.read_job.Statement.{statement}
+use Rattle.jobreader.proofs.read_job.Tie as tie
 
 turned-back-requires : tie.Need-turned-back-requires
 turned-back-requires c κs = search needs
