@@ -11,8 +11,8 @@ use lib.Dec.{eqb}
 use borrow.Author.Tests.{eq-eqb, eqb-true}
 use Rattle.laws.specs.Bounded.{tabFrom}
 use Rattle.laws.proofs.Tests.{or-passes, or-left, or-right}
-use Rattle.job.specs.Job.{Edge, holds}
-use Rattle.buffer.specs.Views.{startIn, targetIn, successorsIn, edge, edgesFrom, EdgeIn}
+use Rattle.job.specs.Job.{Edge, holds, edge}
+use Rattle.buffer.specs.Views.{startIn, targetIn, successorsIn, edgesFrom, EdgeIn}
 
 -- both of two tests
 both : (a b : Bool) → (a && b) ≡ true → (a ≡ true) × (b ≡ true)

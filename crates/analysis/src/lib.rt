@@ -1,7 +1,7 @@
 // Before sets, plan and classes of the job that the work buffer holds, each in its part.
 ghost use Prim.Native.Nat.{_≤_};
 ghost use Rattle.tables.specs.Held.{Usable};
-ghost use Rattle.found.specs.Findings.{Found};
+ghost use Rattle.found.specs.FoundHeld.{Found};
 use afterwords::after_words;
 use beforesets::find_before;
 use classgrowth::grow_classes;

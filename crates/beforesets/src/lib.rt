@@ -1,6 +1,6 @@
 // The before sets of the job that the work buffer holds, in their part of it.
 ghost use Rattle.tables.specs.Held.{Usable};
-ghost use Rattle.found.specs.Findings.{BeforeFound};
+ghost use Rattle.found.specs.FoundHeld.{BeforeFound};
 use beforestore::store_before;
 use enabling::enable_all;
 use search::search::is_faithful;

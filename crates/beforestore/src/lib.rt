@@ -3,7 +3,7 @@ ghost use mathlib.Core.Path.{_≡_};
 ghost use Prim.Native.Nat.{_<_, _≤_};
 ghost use Rattle.buffer.specs.Layout.{Lent};
 ghost use Rattle.buffer.specs.Views.{beforeIn};
-ghost use Rattle.found.specs.Findings.{BeforeStored};
+ghost use Rattle.found.specs.FoundHeld.{BeforeStored};
 use buffer::FOUND;
 use loads::read16;
 use points::held_states;

@@ -11,7 +11,7 @@ use Rattle.laws.specs.Bounded.{tabFrom, tab}
 use Rattle.laws.specs.Bits.{has}
 use Rattle.laws.specs.Bytes.{numberAt}
 use Rattle.automaton.specs.Table.{tableOf}
-use Rattle.job.specs.Job.{Node, Edge, kindOf}
+use Rattle.job.specs.Job.{Node, Edge, edge, kindOf}
 use Rattle.buffer.specs.Layout.{nodePlace, startsPart, targetsPart, pairPart, classPart, foundPart, planPart, rulePart, marksPart}
 
 -- ---- the job
@@ -43,10 +43,6 @@ pub record EdgeIn (work : List ℕ) (m n : ℕ) : Type 0 where
 -- the successors of node n
 unfoldable pub successorsIn : List ℕ → ℕ → List ℕ
 successorsIn work n = tabFrom (startIn work n) (startIn work (suc n) - startIn work n) (targetIn work)
-
--- an edge from one node to another
-abbrev pub edge : ℕ → ℕ → Edge
-edge m n = record { from = m; to = n }
 
 -- the edges of c nodes, from node m on
 unfoldable pub edgesFrom : List ℕ → ℕ → ℕ → List Edge

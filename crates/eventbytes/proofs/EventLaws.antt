@@ -23,7 +23,7 @@ use Rattle.events.specs.declared.Report.{Report}
 use Rattle.events.specs.declared.Report.the-variants.{Quiet, Alarm}
 use Rattle.events.proofs.MonitorLaws.{taken-13, taken-14, taken-15, TakenCase, no-rule, no-symbol, no-state, moves, taken-moved, taken-case}
 use Rattle.events.proofs.FormLaws.{refuses}
-use Rattle.eventbytes.specs.Event.{ruleIn, statePlace, totalPlace, recordSize, recordAt, noRecord, recordIn, eventTaken, recordBytes, leftBy, recordLeft, refusalOf, refusedBy, RefusesInOrder}
+use Rattle.eventbytes.specs.Event.{ruleIn, statePlace, totalPlace, recordSize, recordAt, noRecord, recordIn, eventTaken, recordBytes, leftBy, recordLeft, refusalOf, refusedBy, RefusesEventsInOrder}
 
 -- ---- reading
 
@@ -197,8 +197,8 @@ unfolding refusalOf
 refusal-no-rule rule s a f symbol rec e = simp (ne-eqb (length rule) 256 e)
 
 -- the call refuses in order what its bytes say
-pub refuses-in-order : RefusesInOrder
-refuses-in-order rule s a f symbol rec =
+pub refuses-events-in-order : RefusesEventsInOrder
+refuses-events-in-order rule s a f symbol rec =
     by-cases (ℕ-discrete (length rule) 256)
     (λ (e : length rule ≡ 256).
     ap (λ (t : Taken). refusedBy (t .report)) (sym (event-taken rule s a f symbol rec (tableOf rule) e refl))

@@ -74,6 +74,6 @@ refusedBy Alarm = 0
 refusedBy (Refused k) = k
 
 -- the statement: the call refuses what `refusalOf` says, and nothing else
-abbrev pub RefusesInOrder : Type 0
-RefusesInOrder =
+abbrev pub RefusesEventsInOrder : Type 0
+RefusesEventsInOrder =
     (rule : List ℕ) (s a f symbol : ℕ) (rec : List ℕ) → refusedBy (eventTaken rule s a f symbol rec .report) ≡ refusalOf rule s a f symbol rec

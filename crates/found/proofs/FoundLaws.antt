@@ -32,7 +32,7 @@ use Rattle.passes.specs.declared.passes.Counts.{Counts}
 use Rattle.passes.specs.Counts.{countsOf}
 use Rattle.passes.specs.Passes.{AllEnabled, PlanMade}
 use Rattle.passes.proofs.PlanInLaws.{plan-in-held, plan-in-same, planning-plan, planning-outside, usable-kept, job-kept, after-kept}
-use Rattle.found.specs.Findings.{BeforeHeld, BeforeStored, BeforeFound, FoundHeld, Found}
+use Rattle.found.specs.FoundHeld.{BeforeHeld, BeforeStored, BeforeFound, FoundHeld, Found}
 
 -- ---- the before sets as they are stored
 

@@ -1,3 +1,3 @@
 -- What is found at all points together.
 -- Assumes nothing.
-pub mod Findings
+pub mod FoundHeld

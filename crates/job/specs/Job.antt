@@ -71,6 +71,10 @@ pub record Edge : Type 0 where
   pub from : ℕ
   pub to : ℕ
 
+-- the edge from one node to another
+abbrev pub edge : ℕ → ℕ → Edge
+edge m n = record { from = m; to = n }
+
 -- a job: the rule, the nodes in number order, and the edges
 pub record Job : Type 0 where
   pub rule : Automaton

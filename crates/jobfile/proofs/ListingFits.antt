@@ -13,7 +13,7 @@ use Rattle.laws.proofs.Bits.{members-below}
 use Rattle.job.specs.Job.{Point, no-point, point, pointOf, Node, Job, noNode, KindBelow}
 use Rattle.job.specs.Found.{statesBefore, lowest, classCount, nopShadow}
 use Rattle.job.specs.Search.{faithful, arrives}
-use Rattle.planning.specs.Listing.{ShadowLine, Listing, planOf, shadowLine, lineOf as lineAt, linesFrom, listingOf}
+use Rattle.planning.specs.Listing.{ShadowLine, Listing, planOf, shadowLine, lineAt, linesFrom, listingOf}
 use Rattle.job.proofs.FoundLaws.{has-set-of}
 use Rattle.planning.proofs.PlanningResult.{planned-plan, planned-fits}
 use Rattle.lines.specs.Line.{line, writeLines, found, lineOf}

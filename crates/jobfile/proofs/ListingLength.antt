@@ -9,7 +9,7 @@ use native.Mathlib.Omega.{arith}
 use lib.ListN.{length, length-append}
 use Rattle.job.specs.Job.{Point, no-point, point, pointOf, isPoint, Node, Job}
 use Rattle.planning.specs.Planning.{shadowByte, allEnabled, enabledCount}
-use Rattle.planning.specs.Listing.{ShadowLine, TotalLine, planOf, lineOf, linesFrom, listingOf}
+use Rattle.planning.specs.Listing.{ShadowLine, TotalLine, planOf, lineAt, linesFrom, listingOf}
 use Rattle.planning.proofs.PlanBytes.{count-le, all-enabled-plan}
 use Rattle.lines.proofs.SpelledLine.{line-length}
 use Rattle.jobfile.specs.ListingLines.{shadowBytes, shadowsBytes, totalBytes, listingBytes, refusedBytes}
@@ -45,7 +45,7 @@ unfolding linesFrom enabledCount
 lines-count j plan n [] = refl
 lines-count j plan n (x ∷ xs) = here (pointOf (x .kind)) (linesFrom j plan (suc n) xs) ∙ ap (λ (m : ℕ). shadowByte (x .kind) + m) (lines-count j plan (suc n) xs)
   where
-    here : (x : Point) (rest : List ShadowLine) → length (lineOf j plan n x rest) ≡ cond (isPoint x) 1 0 + length rest
+    here : (x : Point) (rest : List ShadowLine) → length (lineAt j plan n x rest) ≡ cond (isPoint x) 1 0 + length rest
     here no-point rest = omega arith
     here (point a) rest = omega arith
 

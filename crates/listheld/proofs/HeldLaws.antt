@@ -14,8 +14,8 @@ use Rattle.tables.proofs.JobKeptLaws.{table-usable}
 use Rattle.passes.specs.declared.passes.Counts.{Counts}
 use Rattle.passes.specs.Counts.{countsOf}
 use Rattle.planoutcome.proofs.CountLaws.{counts-held}
-use Rattle.found.specs.Findings.{Found}
-use Rattle.listingtext.specs.Printing.{LinesWritten}
+use Rattle.found.specs.FoundHeld.{Found}
+use Rattle.listingtext.specs.TextWritten.{LinesWritten}
 use Rattle.listheld.specs.Held.{SomeJob, ListedHeld}
 
 module _ {rule table : List (List ℕ)} {finals states nodes : ℕ} {l m : List ℕ} {counts : Counts} (same : table ≡ rule)

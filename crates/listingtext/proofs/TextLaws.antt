@@ -17,7 +17,7 @@ use Rattle.job.specs.Job.{Point, no-point, point, pointOf, isPoint, isEvent, No
 use Rattle.job.specs.Plan.{enables}
 use Rattle.job.specs.Search.{faithful}
 use Rattle.job.specs.Found.{statesBefore, classCount, nopShadow}
-use Rattle.planning.specs.Listing.{ShadowLine, planOf, shadowLine, lineOf, linesFrom, listingOf}
+use Rattle.planning.specs.Listing.{ShadowLine, planOf, shadowLine, lineAt, linesFrom, listingOf}
 use Rattle.planning.proofs.PlanBytes.{enabled-mark}
 use Rattle.planning.proofs.PlanningResult.{planned-plan}
 use Rattle.lines.specs.Line.{line}
@@ -28,8 +28,8 @@ use Rattle.classes.specs.Backwards.{isLowest, isNop}
 use Rattle.classes.proofs.FoundSays.{classes-found, nop-found}
 use Rattle.passes.specs.declared.passes.Counts.{Counts}
 use Rattle.passes.proofs.PlanInLaws.{plan-in-enables}
-use Rattle.found.specs.Findings.{FoundHeld}
-use Rattle.listingtext.specs.Printing.{byteOf, PointWritten, PointsWritten, LinesWritten}
+use Rattle.found.specs.FoundHeld.{FoundHeld}
+use Rattle.listingtext.specs.TextWritten.{byteOf, PointWritten, PointsWritten, LinesWritten}
 
 -- ---- what is read at a point
 
@@ -97,7 +97,7 @@ module _
 
 -- the bytes of node n: its W line, or none
 abbrev pub nodeBytes : Job → ℕ → Point → List ℕ
-nodeBytes j n k = shadowsBytes (lineOf j (planOf j .plan) n k [])
+nodeBytes j n k = shadowsBytes (lineAt j (planOf j .plan) n k [])
 
 -- a node that is no point has no line
 pub point-none
@@ -155,7 +155,7 @@ bytes-next j n h =
     ap (λ (xs : List Node). shadowsBytes (linesFrom j (planOf j .plan) n xs)) (drop-cons (j .nodes) n noNode h)
     ∙ go (pointOf (nodeAt j n .kind)) (linesFrom j (planOf j .plan) (suc n) (drop (suc n) (j .nodes)))
   where
-    go : (k : Point) (rest : List ShadowLine) → shadowsBytes (lineOf j (planOf j .plan) n k rest) ≡ nodeBytes j n k ++ shadowsBytes rest
+    go : (k : Point) (rest : List ShadowLine) → shadowsBytes (lineAt j (planOf j .plan) n k rest) ≡ nodeBytes j n k ++ shadowsBytes rest
     go no-point rest = refl
     go (point s) rest = sym (append-assoc (shadowBytes (shadowLine j (planOf j .plan) n s)) [] (shadowsBytes rest))
 

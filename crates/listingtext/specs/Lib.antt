@@ -1,3 +1,3 @@
 -- The lines of the listing, as they are written.
 -- Assumes nothing.
-pub mod Printing
+pub mod TextWritten

@@ -3,7 +3,7 @@ ghost use Prim.Native.Nat.{_+_, _<_, _≤_};
 ghost use lib.ListN.{length};
 ghost use Rattle.buffer.specs.Layout.{Lent};
 ghost use Rattle.tables.specs.Rows.{CellsBelow};
-ghost use Rattle.listingtext.specs.Printing.{PointsWritten, LinesWritten};
+ghost use Rattle.listingtext.specs.TextWritten.{PointsWritten, LinesWritten};
 use listwriter::write_total_line;
 use passes::passes::Counts;
 use pointlines::write_point;

@@ -46,14 +46,14 @@ shadowLine j plan n a =
     }
 
 -- the line of a node, if it has a point, before the lines of those after it
-abbrev pub lineOf : Job → List ℕ → ℕ → Point → List ShadowLine → List ShadowLine
-lineOf j plan n no-point rest = rest
-lineOf j plan n (point a) rest = shadowLine j plan n a ∷ rest
+abbrev pub lineAt : Job → List ℕ → ℕ → Point → List ShadowLine → List ShadowLine
+lineAt j plan n no-point rest = rest
+lineAt j plan n (point a) rest = shadowLine j plan n a ∷ rest
 
 -- the lines of the nodes from number n on
 unfoldable pub linesFrom : Job → List ℕ → ℕ → List Node → List ShadowLine
 linesFrom j plan n [] = []
-linesFrom j plan n (x ∷ xs) = lineOf j plan n (pointOf (x .kind)) (linesFrom j plan (suc n) xs)
+linesFrom j plan n (x ∷ xs) = lineAt j plan n (pointOf (x .kind)) (linesFrom j plan (suc n) xs)
 
 -- the listing of a job
 unfoldable pub listingOf : Job → Listing

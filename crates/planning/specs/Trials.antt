@@ -6,7 +6,7 @@ use mathlib.Core.Bool.{Bool, true, false}
 use mathlib.Core.List.{List, [], _∷_}
 use Prim.Native.Nat.{ℕ}
 use Rattle.automaton.specs.Automaton.{Automaton, automatonOf}
-use Rattle.job.specs.Job.{Kind, plain, event, call, Node, Edge, Job, WellFormedJob}
+use Rattle.job.specs.Job.{Kind, plain, event, call, Node, Edge, edge, Job, WellFormedJob}
 use Rattle.job.specs.Plan.{enables, Faithful, Different}
 use Rattle.planning.specs.Listing.{ShadowLine, TotalLine, planOf, listingOf}
 
@@ -15,10 +15,6 @@ use Rattle.planning.specs.Listing.{ShadowLine, TotalLine, planOf, listin
 -- as a P line: kind with value, entry set, exit, after set
 abbrev pub node : Kind → ℕ → Bool → ℕ → Node
 node kind entry exit after = record { kind = kind; entry = entry; exit = exit; after = after }
-
--- as an F line: from, to
-abbrev pub edge : ℕ → ℕ → Edge
-edge m n = record { from = m; to = n }
 
 -- a rule, its nodes and its edges
 abbrev pub jobOf : Automaton → List Node → List Edge → Job

@@ -4,7 +4,7 @@ ghost use Prim.Native.Nat.{_+_, _<_, _≤_};
 ghost use lib.ListN.{length};
 ghost use Rattle.buffer.specs.Layout.{Lent};
 ghost use Rattle.tables.specs.Rows.{CellsBelow};
-ghost use Rattle.listingtext.specs.Printing.{byteOf, PointWritten};
+ghost use Rattle.listingtext.specs.TextWritten.{byteOf, PointWritten};
 use beforestore::before_set;
 use classreads::class_count;
 use graphreads::is_enabled;

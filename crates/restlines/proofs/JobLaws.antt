@@ -15,7 +15,8 @@ use Rattle.laws.specs.Bounded.{sumBelow, tabFrom, tab}
 use Rattle.laws.proofs.Bounded.{sum-front, sum-cong, tab-cong, fill-done}
 use Rattle.lines.specs.Line.{at}
 use Rattle.jobfile.specs.File.{nodeOf, edgeOf, someEntry}
-use Rattle.buffer.specs.Views.{nodeIn, startIn, targetIn, successorsIn, edge, edgesFrom, cellIn, tableIn}
+use Rattle.job.specs.Job.{edge}
+use Rattle.buffer.specs.Views.{nodeIn, startIn, targetIn, successorsIn, edgesFrom, cellIn, tableIn}
 
 -- ---- lists of values
 

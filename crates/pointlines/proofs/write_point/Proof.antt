@@ -4,7 +4,7 @@ use mathlib.Core.Path.{sym, ap, _∙_}
 use native.Mathlib.Omega.{arith}
 use borrow.Author.Needs.{needs}
 use borrow.Author.Tests.{not-true, not-false}
-use Rattle.listingtext.specs.Printing.{byteOf}
+use Rattle.listingtext.specs.TextWritten.{byteOf}
 use Rattle.listingtext.proofs.TextLaws.{byte-small, classes-few, point-none, point-written}
 use Rattle.pointlines.proofs.write_point.Statement.{statement}
 use Rattle.pointlines.proofs.write_point.Tie as tie

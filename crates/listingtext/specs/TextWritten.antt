@@ -8,11 +8,11 @@ use Prim.Native.Nat.{ℕ, _+_, _*_, _≤_, _<_}
 use lib.ListN.{length}
 use lib.Seq.{sets}
 use Rattle.job.specs.Job.{pointOf, Job, nodeAt}
-use Rattle.planning.specs.Listing.{planOf, lineOf, listingOf}
+use Rattle.planning.specs.Listing.{planOf, lineAt, listingOf}
 use Rattle.jobfile.specs.ListingLines.{shadowsBytes, listingBytes}
 use Rattle.passes.specs.declared.passes.Counts.{Counts}
 use Rattle.passes.specs.Counts.{countsOf}
-use Rattle.found.specs.Findings.{FoundHeld}
+use Rattle.found.specs.FoundHeld.{FoundHeld}
 
 -- a mark as a number
 abbrev pub byteOf : Bool → ℕ
@@ -24,8 +24,8 @@ pub record PointWritten (table : List (List ℕ)) (finals states n at : ℕ) (wo
   pub near : next ≤ at + 38
   pub exact
       : (j : Job) (nodes : ℕ) → FoundHeld j work table finals states nodes → n < nodes
-      → (after ≡ sets before at (shadowsBytes (lineOf j (planOf j .plan) n (pointOf (nodeAt j n .kind)) [])))
-      × (next ≡ at + length (shadowsBytes (lineOf j (planOf j .plan) n (pointOf (nodeAt j n .kind)) [])))
+      → (after ≡ sets before at (shadowsBytes (lineAt j (planOf j .plan) n (pointOf (nodeAt j n .kind)) [])))
+      × (next ≡ at + length (shadowsBytes (lineAt j (planOf j .plan) n (pointOf (nodeAt j n .kind)) [])))
 
 -- the W lines of all points were written
 pub record PointsWritten (table : List (List ℕ)) (finals states nodes : ℕ) (work before after : List ℕ) (next : ℕ) : Type 0 where
