@@ -1,27 +1,25 @@
 -- Laws of one F line, in the shape of the code.
 -- Assumes nothing.
 use mathlib.Core.Path.{_≡_, refl, sym, ap, _∙_}
-use mathlib.Core.Bool.{Bool, true, false, cond, _&&_, _||_, and-eq-true-iff}
+use mathlib.Core.Bool.{Bool, true, false, _&&_, _||_, and-eq-true-iff}
 use mathlib.Core.Logic.{⊎-elim, by-cases}
-use mathlib.Core.List.{List, [], _∷_}
+use mathlib.Core.List.{List}
 use Prim.Native.Nat.{ℕ, zero, suc, _+_, _*_, _/_, _%_, _≤_, _<_}
 use native.Mathlib.Decide.{decLt}
 use native.Mathlib.Omega.{arith}
 use lib.Dec.{lit<, eqb, leb, ltb, leb·zero}
-use lib.ListN.{take, drop}
+use lib.ListN.{replicate}
 use borrow.Author.Tests.{eq-eqb, eqb-true, le-leb, leb-true, lt-ltb, ltb-true}
 use Rattle.laws.proofs.Tests.{fails-of, test-ext, or-left, or-right, or-passes}
-use Rattle.lines.specs.declared.field.Field.the-variants.{Number, Malformed}
-use Rattle.lines.specs.Inner.{noRow, rowOf, Framed}
-use Rattle.lines.specs.Line.{Due, found, lineOf, at}
+use Rattle.lines.specs.Inner.{DueRead}
+use Rattle.lines.specs.Line.{lineOf, at}
 use Rattle.jobfile.specs.File.{ascends, goodEdge, edgeLine}
 use Rattle.framing.specs.Framing.{collected}
 use Rattle.lines.specs.Places.{numbersOf, statusOf}
 use Rattle.jobhead.specs.ReadLines.{beforeOf, EdgeRead}
 use Rattle.jobfile.specs.Refusal.{EdgeWithin}
 use Rattle.jobfile.proofs.WithinLaws.{edge-says}
-use Rattle.lines.proofs.LineLaws.{fieldAt, fields-no-more, fields-number, due-found, due-malformed}
-use Rattle.lines.proofs.LinesLaws.{row-stops}
+use Rattle.lines.proofs.LinesLaws.{due-stops, due-tested, due-whole, due-long}
 
 -- ---- the tests of an F line
 
@@ -47,46 +45,38 @@ later-key k from to h =
     le-leb (suc k) (from * 512 + to) (omega arith))
     (or-passes (ltb (k / 512) from) (eqb (k / 512) from && ltb (k % 512) to) p))
 
-key-test : (next from to : ℕ) → to < 512 → leb next (from * 512 + to) ≡ ascends (beforeOf next) (from ∷ to ∷ [])
-key-test zero from to h = leb·zero (from * 512 + to)
-key-test (suc k) from to h = later-key k from to h
+key-test : (next : ℕ) (ns : List ℕ) → at ns 1 < 512 → leb next (at ns 0 * 512 + at ns 1) ≡ ascends (beforeOf next) ns
+key-test zero ns h = leb·zero (at ns 0 * 512 + at ns 1)
+key-test (suc k) ns h = later-key k (at ns 0) (at ns 1) h
 
-module _ (n next from to : ℕ) where
+module _ (n next : ℕ) (ns : List ℕ) where
   -- the test of the code's numbers
   abbrev pub EdgeTest : Bool
-  EdgeTest = goodEdge n 0 (beforeOf next) (from ∷ to ∷ [])
+  EdgeTest = goodEdge n 0 (beforeOf next) ns
 
   -- what the line has where the test passes
-  within : EdgeTest ≡ true → EdgeWithin n (beforeOf next) (from ∷ to ∷ [])
-  within t = edge-says n 0 (beforeOf next) (from ∷ to ∷ []) .0 t
+  within : EdgeTest ≡ true → EdgeWithin n (beforeOf next) ns
+  within t = edge-says n 0 (beforeOf next) ns .0 t
 
   -- a source of N or more
-  pub edge-from : n ≤ from → false ≡ EdgeTest
+  pub edge-from : n ≤ at ns 0 → false ≡ EdgeTest
   edge-from h = sym (fails-of EdgeTest (λ t. absurd (omega (arith, within t .from))))
 
   -- an end of N or more
-  pub edge-to : n ≤ to → false ≡ EdgeTest
+  pub edge-to : n ≤ at ns 1 → false ≡ EdgeTest
   edge-to h = sym (fails-of EdgeTest (λ t. absurd (omega (arith, within t .to))))
 
   -- both are nodes
-  pub edge-key : n ≤ 512 → from < n → to < n → leb next (from * 512 + to) ≡ EdgeTest
-  edge-key s h g =
-      key-test next from to (omega arith)
-      ∙ sym (rw (lt-ltb from n h, lt-ltb to n g))
-
-  -- the numbers of a line that passes
-  pub edge-limits : n ≤ 512 → EdgeTest ≡ true → (from < n) × (to < n) × (next ≤ from * 512 + to)
-  edge-limits s g =
-      let w = within g in
-      (w .from, w .to, leb-true next (from * 512 + to) (edge-key s (w .from) (w .to) ∙ g))
+  pub edge-key : n ≤ 512 → at ns 0 < n → at ns 1 < n → leb next (at ns 0 * 512 + at ns 1) ≡ EdgeTest
+  edge-key s h g = key-test next ns (omega arith) ∙ sym (rw (lt-ltb (at ns 0) n h, lt-ltb (at ns 1) n g))
 
 -- ---- one line
 
 module _ (n next : ℕ) (bytes : List ℕ) where
-  -- nothing, or no line
-  pub edge-stop : (r : ℕ) → noRow r ≡ rowOf (lineOf 70 2 bytes) → (r ≡ 0 → ⊥) → EdgeRead n next bytes (collected r 0)
-  edge-stop r e q = record {
-    status = row-stops (edgeLine n) 0 (beforeOf next) (lineOf 70 2 bytes) (noRow r) e q;
+  -- a refusal
+  refused-as : (k : ℕ) → k ≡ statusOf (edgeLine n) 0 (beforeOf next) (lineOf 70 2 bytes) → (k ≡ 0 → ⊥) → EdgeRead n next bytes (collected k 0)
+  refused-as k e q = record {
+    status = e;
     zero = λ z. refl;
     from = λ z. absurd (q z);
     to = λ z. absurd (q z);
@@ -96,52 +86,41 @@ module _ (n next : ℕ) (bytes : List ℕ) where
     small = lit< tt;
   }
 
-  module _ (r : ℕ) (frame : Framed 70 2 bytes r) (z : r ≡ 0) (line : List ℕ) (l : line ≡ take 14 bytes) where
-    -- a field that is no number
-    pub edge-malformed : (i : ℕ) → i < 2 → fieldAt line i ≡ Malformed → EdgeRead n next bytes (collected 4 0)
-    edge-malformed i h p = edge-stop 4 (due-malformed 70 2 bytes line r i frame z l h p) (λ x. absurd (omega arith))
+  module _ {ns : List ℕ} {r : ℕ} (e : DueRead (lineOf 70 2 bytes) 2 (replicate 2 0) ns r) where
+    -- nothing, or no line
+    pub edge-stop : (r ≡ 0 → ⊥) → EdgeRead n next bytes (collected r 0)
+    edge-stop q = refused-as r (due-stops (edgeLine n) 0 (beforeOf next) bytes e q) q
 
-    module _ (from to : ℕ) (first : fieldAt line 0 ≡ Number from) (second : fieldAt line 1 ≡ Number to) (t : Bool)
-        (test : t ≡ EdgeTest n next from to) where
-      -- the numbers of the line
-      numbers-are : lineOf 70 2 bytes ≡ found (from ∷ to ∷ [])
-      numbers-are =
-          due-found 70 2 bytes line (from ∷ to ∷ []) r frame z l
-          (fields-number line 0 1 from (to ∷ []) first (fields-number line 1 0 to [] second (fields-no-more (drop 13 line))))
-
-      -- what the test says of it
-      status-is : (b : Bool) → t ≡ b → statusOf (edgeLine n) 0 (beforeOf next) (lineOf 70 2 bytes) ≡ cond b 0 8
-      status-is b v =
-          ap (statusOf (edgeLine n) 0 (beforeOf next)) numbers-are ∙ ap (λ (c : Bool). cond c 0 8) (sym test ∙ v)
+    module _ (z : r ≡ 0) where
+      -- the line's numbers
+      numbers-are : ns ≡ numbersOf (lineOf 70 2 bytes)
+      numbers-are = due-whole (edgeLine n) 0 (beforeOf next) bytes e z refl
 
       -- numbers that do not pass
-      pub edge-fails : t ≡ false → EdgeRead n next bytes (collected 8 0)
-      edge-fails v = record {
-        status = sym (status-is false v);
-        zero = λ z. refl;
-        from = λ q. absurd (omega arith);
-        to = λ q. absurd (omega arith);
-        from-below = λ q. absurd (omega arith);
-        ascends = λ q. absurd (omega arith);
-        within = λ q. absurd (omega arith);
-        small = lit< tt;
-      }
+      pub edge-fails : EdgeTest n next ns ≡ false → EdgeRead n next bytes (collected 8 0)
+      edge-fails g = refused-as 8 (due-tested (edgeLine n) 0 (beforeOf next) bytes e z false numbers-are g) (λ q. absurd (omega arith))
+
+      -- the numbers of a line that passes
+      pub edge-limits : n ≤ 512 → EdgeTest n next ns ≡ true → (at ns 0 < n) × (at ns 1 < n) × (next ≤ at ns 0 * 512 + at ns 1)
+      edge-limits s g =
+          let w = within n next ns g in
+          (w .from, w .to, leb-true next (at ns 0 * 512 + at ns 1) (edge-key n next ns s (w .from) (w .to) ∙ g))
 
       -- numbers that pass
-      pub edge-passes : n ≤ 512 → t ≡ true → EdgeRead n next bytes (collected 0 (from * 512 + to))
-      edge-passes s v =
-          let l = edge-limits n next from to s (sym test ∙ v) in
+      pub edge-passes : n ≤ 512 → EdgeTest n next ns ≡ true → EdgeRead n next bytes (collected 0 (at ns 0 * 512 + at ns 1))
+      edge-passes s g =
+          let l = edge-limits s g in
           let a = l .0 in
           let b = l .1 in
-          let d : (from * 512 + to) / 512 ≡ from = omega arith in
-          let m : (from * 512 + to) % 512 ≡ to = omega arith in
+          let d : (at ns 0 * 512 + at ns 1) / 512 ≡ at ns 0 = omega arith in
+          let m : (at ns 0 * 512 + at ns 1) % 512 ≡ at ns 1 = omega arith in
           record {
-            status = sym (status-is true v);
+            status = due-tested (edgeLine n) 0 (beforeOf next) bytes e z true numbers-are g;
             zero = λ z. absurd (z refl);
-            from = λ q. d ∙ sym (ap (λ (x : Due). at (numbersOf x) 0) numbers-are);
-            to = λ q. m ∙ sym (ap (λ (x : Due). at (numbersOf x) 1) numbers-are);
+            from = λ q. d ∙ ap (λ (x : List ℕ). at x 0) numbers-are;
+            to = λ q. m ∙ ap (λ (x : List ℕ). at x 1) numbers-are;
             from-below = λ q. omega arith;
             ascends = λ q. l .2;
-            within = λ q. frame .within z;
+            within = λ q. due-long (edgeLine n) 0 (beforeOf next) bytes e z;
             small = omega arith;
           }

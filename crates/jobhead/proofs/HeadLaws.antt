@@ -1,24 +1,23 @@
 -- Laws of the J line, in the shape of the code that reads it.
 -- Assumes nothing.
 use mathlib.Core.Path.{_≡_, sym, ap, _∙_}
-use mathlib.Core.Bool.{Bool, true, false}
-use mathlib.Core.List.{List, [], _∷_}
+use mathlib.Core.Bool.{Bool, true, false, cond}
+use mathlib.Core.List.{List, []}
 use Prim.Native.Nat.{ℕ, _<_}
 use native.Mathlib.Omega.{arith}
 use native.Mathlib.Nat.{not-suc-le-zero}
 use lib.Dec.{lit<}
-use lib.ListN.{getD}
+use lib.ListN.{length}
 use Rattle.laws.specs.Bounded.{tabFrom, tab}
-use Rattle.lines.specs.declared.line.Row.{Row}
 use Rattle.jobhead.specs.declared.head.Head.{Head}
-use Rattle.lines.specs.Inner.{rowOf}
+use Rattle.lines.specs.Inner.{DueRead}
 use Rattle.lines.specs.Line.{lineOf}
 use Rattle.jobfile.specs.File.{goodHead, headLine}
 use Rattle.lines.specs.Places.{numbersOf, dueAt, numbersAt, beforeAt, statusAt}
 use Rattle.jobhead.specs.ReadLines.{refusedHead}
 use Rattle.jobhead.specs.ReadLines.{headNumbers, headIn, HeadRead}
 use Rattle.jobfile.proofs.WithinLaws.{head-says}
-use Rattle.lines.proofs.LinesLaws.{lines-all, lines-stop, row-stops, row-passes, row-fails, row-number, row-long}
+use Rattle.lines.proofs.LinesLaws.{lines-all, lines-stop, due-stops, due-tested, due-whole, due-long}
 
 -- a refusal of the J line
 head-refused
@@ -36,62 +35,43 @@ head-refused file k e q =
       within = λ z. absurd (q z);
     }
 
-module _ (file : List ℕ) (r : Row) (e : r ≡ rowOf (lineOf 74 4 file)) where
+module _ (file : List ℕ) {l ns : List ℕ} {r : ℕ} (e : DueRead (lineOf 74 4 file) 4 l ns r) where
   -- nothing, or no line
-  pub head-stop : (h : Head) → (r .status ≡ 0 → ⊥) → h ≡ refusedHead (r .status) → HeadRead file h
+  pub head-stop : (h : Head) → (r ≡ 0 → ⊥) → h ≡ refusedHead r → HeadRead file h
   unfolding statusAt dueAt beforeAt
-  head-stop h q is = rw is (head-refused file (r .status) (row-stops headLine 0 [] (lineOf 74 4 file) r e q) q)
+  head-stop h q is = rw is (head-refused file r (due-stops headLine 0 [] file e q) q)
 
-  -- the numbers of the row, in the test
-  test-same
-      : goodHead 0 [] (getD (r .numbers) 0 0 ∷ getD (r .numbers) 1 0 ∷ getD (r .numbers) 2 0 ∷ getD (r .numbers) 3 0 ∷ [])
-      ≡ goodHead 0 [] (numbersOf (lineOf 74 4 file))
-  test-same =
-      rw (
-        row-number (lineOf 74 4 file) r 0 e (lit< tt),
-        row-number (lineOf 74 4 file) r 1 e (lit< tt),
-        row-number (lineOf 74 4 file) r 2 e (lit< tt),
-        row-number (lineOf 74 4 file) r 3 e (lit< tt),
-      )
+  module _ (z : r ≡ 0) (four : length l ≡ 4) where
+    -- the line's numbers
+    numbers-are : ns ≡ numbersOf (lineOf 74 4 file)
+    numbers-are = due-whole headLine 0 [] file e z four
 
-  -- numbers outside their limits
-  pub head-fails
-      : (h : Head) (t : Bool) → r .status ≡ 0
-      → t ≡ goodHead 0 [] (getD (r .numbers) 0 0 ∷ getD (r .numbers) 1 0 ∷ getD (r .numbers) 2 0 ∷ getD (r .numbers) 3 0 ∷ [])
-      → t ≡ false → h ≡ refusedHead 5 → HeadRead file h
-  unfolding statusAt dueAt beforeAt
-  head-fails h t z g f is =
-      rw is
-      (head-refused file 5 (sym (row-fails headLine 0 [] (lineOf 74 4 file) r e z (sym test-same ∙ sym g ∙ f))) (λ q. absurd (omega arith)))
+    -- the status of the line, by the test of its numbers
+    head-tested : (t : Bool) → goodHead 0 [] ns ≡ t → cond t 0 5 ≡ statusAt headLine file 0
+    unfolding statusAt dueAt beforeAt
+    head-tested t g = due-tested headLine 0 [] file e z t numbers-are g
 
-  -- numbers within them
-  pub head-found
-      : (t : Bool) → r .status ≡ 0
-      → t ≡ goodHead 0 [] (getD (r .numbers) 0 0 ∷ getD (r .numbers) 1 0 ∷ getD (r .numbers) 2 0 ∷ getD (r .numbers) 3 0 ∷ [])
-      → t ≡ true → HeadRead file (headNumbers (r .numbers))
-  unfolding statusAt dueAt beforeAt numbersAt tab tabFrom
-  head-found t z g f =
-      let good = sym g ∙ f in
-      let l = head-says 0 [] (getD (r .numbers) 0 0 ∷ getD (r .numbers) 1 0 ∷ getD (r .numbers) 2 0 ∷ getD (r .numbers) 3 0 ∷ []) .0 good in
-      let p : statusAt headLine file 0 ≡ 0 = row-passes headLine 0 [] (lineOf 74 4 file) r e z (sym test-same ∙ good) in
-      record {
-        exact =
-            rw (
-              row-number (lineOf 74 4 file) r 0 e (lit< tt),
-              row-number (lineOf 74 4 file) r 1 e (lit< tt),
-              row-number (lineOf 74 4 file) r 2 e (lit< tt),
-              row-number (lineOf 74 4 file) r 3 e (lit< tt),
-            )
-            (sym (ap headIn (lines-all headLine file 1 (lit< tt) (λ j h. rw (only j h) p))));
-        passed = λ q. p;
-        some-state = λ q. l .some-state;
-        few-states = l .few-states;
-        some-symbol = λ q. l .some-symbol;
-        few-symbols = l .few-symbols;
-        few-nodes = l .few-nodes;
-        few-edges = l .few-edges;
-        within = λ q. row-long 74 4 file r e z;
-      }
-    where
-      only : (j : ℕ) → j < 1 → j ≡ 0
-      only j h = omega arith
+    -- numbers outside their limits
+    pub head-fails : (h : Head) → goodHead 0 [] ns ≡ false → h ≡ refusedHead 5 → HeadRead file h
+    head-fails h g is = rw is (head-refused file 5 (head-tested false g) (λ q. absurd (omega arith)))
+
+    -- numbers within them
+    pub head-found : goodHead 0 [] ns ≡ true → HeadRead file (headNumbers ns)
+    unfolding numbersAt dueAt tab tabFrom
+    head-found g =
+        let w = head-says 0 [] ns .0 g in
+        let p : statusAt headLine file 0 ≡ 0 = sym (head-tested true g) in
+        record {
+          exact = ap headNumbers numbers-are ∙ sym (ap headIn (lines-all headLine file 1 (lit< tt) (λ j h. rw (only j h) p)));
+          passed = λ q. p;
+          some-state = λ q. w .some-state;
+          few-states = w .few-states;
+          some-symbol = λ q. w .some-symbol;
+          few-symbols = w .few-symbols;
+          few-nodes = w .few-nodes;
+          few-edges = w .few-edges;
+          within = λ q. due-long headLine 0 [] file e z;
+        }
+      where
+        only : (j : ℕ) → j < 1 → j ≡ 0
+        only j h = omega arith

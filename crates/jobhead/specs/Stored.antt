@@ -8,6 +8,7 @@ use lib.ListN.{getD}
 use Rattle.laws.specs.Bounded.{tab}
 use Rattle.automaton.specs.Automaton.{automatonOf}
 use Rattle.job.specs.Job.{Node, Job}
+use Rattle.lines.specs.Line.{at}
 use Rattle.buffer.specs.Layout.{startsPart, rulePart, marksPart}
 use Rattle.buffer.specs.Views.{nodeIn, startIn, edgesFrom, cellIn, tableIn}
 use Rattle.buffer.specs.Kept.{SameOutside}
@@ -21,7 +22,15 @@ jobIn work h = record {
   edges = edgesFrom work 0 (h .nodes);
 }
 
--- ---- what a store leaves
+-- ---- what a store asks and leaves
+
+-- the numbers of a P line fit the bytes of a node
+pub record NodeFits (ns : List ℕ) : Type 0 where
+  pub kind : at ns 1 < 256
+  pub value : at ns 2 < 65536
+  pub entries : at ns 3 < 65536
+  pub exits : at ns 4 < 256
+  pub after : at ns 5 < 65536
 
 -- node n is stored
 pub record NodeStored (l m : List ℕ) (n : ℕ) (node : Node) : Type 0 where

@@ -59,20 +59,19 @@ fn is_head(states: u64, symbols: u64, nodes: u64, edges: u64) -> bool
 pub fn head_line(file: &[u8]) -> Head
     ensures { λ r. ⌜ HeadRead (now (file .entry)) r ⌝ }
 {
-    let row = due_line(file, 0, 74, 4);
-    let status = row.status;
+    let mut numbers = [0u64; 4];
+    let status = due_line(file, 0, 74, 4, &mut numbers);
     if status != 0 {
         return turned_back(status);
     }
-    let n = row.numbers;
-    if is_head(n[0], n[1], n[2], n[3]) {
+    if is_head(numbers[0], numbers[1], numbers[2], numbers[3]) {
         return Head {
             refusal: 0,
-            states: n[0],
-            symbols: n[1],
+            states: numbers[0],
+            symbols: numbers[1],
             finals: 0,
-            nodes: n[2],
-            edges: n[3],
+            nodes: numbers[2],
+            edges: numbers[3],
         };
     }
     turned_back(5)

@@ -2,29 +2,21 @@
 -- Assumes nothing.
 use mathlib.Core.Path.{_≡_, refl, sym, ap, subst, _∙_}
 use mathlib.Core.Bool.{Bool, true, false, _&&_}
-use mathlib.Core.Logic.{⊎-elim, by-cases}
-use mathlib.Core.List.{List, [], _∷_}
+use mathlib.Core.Logic.{⊎-elim}
+use mathlib.Core.List.{List, [], _∷_, _++_}
 use Prim.Native.Nat.{ℕ, zero, suc, _+_, _-_, _*_, _≤_, _<_}
-use native.Mathlib.Nat.{le-refl, not-suc-le-zero, eq-or-lt-of-le, ne-of-lt, ne-of-gt, le-of-suc-le-suc}
-use native.Mathlib.Decide.{decLt}
+use native.Mathlib.Nat.{le-refl, not-suc-le-zero, eq-or-lt-of-le, ne-of-lt, le-of-suc-le-suc}
 use native.Mathlib.Numerals.{add-one}
 use native.Mathlib.Omega.{arith}
 use lib.Dec.{lit<, eqb, leb}
-use lib.ListN.{length, take, drop, getD, set, replicate, length-set, length-drop, List·getD-eq-default}
+use lib.ListN.{length, take, drop, getD, set, length-set, length-drop, take-append-drop}
 use Rattle.lines.proofs.FieldLaws.{slice-part}
-use lib.Seq.{length-take-le, take-take, drop-drop, getD-take, getD-set-same, getD-set-other}
+use lib.Seq.{length-take-le, take-take, drop-drop, drop-cons, drop-set-lt, getD-take, getD-set-same, getD-set-other}
 use borrow.Author.Tests.{eq-eqb, ne-eqb, le-leb, lt-leb}
-use Rattle.laws.specs.Bounded.{tabFrom, tab}
-use Rattle.laws.proofs.Bounded.{length-tab, getD-tab, fill-done}
 use Rattle.lines.specs.declared.field.Field.{Field}
 use Rattle.lines.specs.declared.field.Field.the-variants.{Number, Malformed}
-use Rattle.lines.specs.declared.line.Row.{Row}
-use Rattle.lines.specs.Inner.{padded, noRow, rowOf, Framed}
-use Rattle.lines.specs.Line.{fieldOf, Numbers, numbers, no-numbers, consField, fieldsOf, found, foundIn, lineOf}
-
--- a row of these two
-abbrev pub row : ℕ → List ℕ → Row
-row s ns = record { status = s; numbers = ns }
+use Rattle.lines.specs.Inner.{dueStatus, Framed, DueRead}
+use Rattle.lines.specs.Line.{fieldOf, Numbers, numbers, no-numbers, consField, fieldsOf, foundIn, lineOf}
 
 -- ---- fields, by their places
 
@@ -36,27 +28,19 @@ fieldAt l k = fieldOf (take 6 (drop (k * 6 + 1) l))
 past-field : (l : List ℕ) (i : ℕ) → drop 6 (drop (i * 6 + 1) l) ≡ drop (suc i * 6 + 1) l
 past-field l i = let e : i * 6 + 1 + 6 ≡ suc i * 6 + 1 = omega arith in drop-drop 6 (i * 6 + 1) l ∙ ap (λ (n : ℕ). drop n l) e
 
--- no field
-pub fields-no-more : (bytes : List ℕ) → fieldsOf 0 bytes ≡ numbers []
-unfolding fieldsOf
-fields-no-more bytes = refl
-
--- a field that is a number, before others that are
-pub fields-number
-    : (l : List ℕ) (i c n : ℕ) (ns : List ℕ) → fieldAt l i ≡ Number n → fieldsOf c (drop (suc i * 6 + 1) l) ≡ numbers ns
-    → fieldsOf (suc c) (drop (i * 6 + 1) l) ≡ numbers (n ∷ ns)
-unfolding fieldsOf
-fields-number l i c n ns e p = rw (e, past-field l i, p)
-
--- fields that are all numbers
+-- fields that are all numbers, those of a list from its place i on
 fields-from
-    : (l : List ℕ) (f : ℕ → ℕ) (c i : ℕ) → ((k : ℕ) → i ≤ k → k < i + c → fieldAt l k ≡ Number (f k))
-    → fieldsOf c (drop (i * 6 + 1) l) ≡ numbers (tabFrom i c f)
-unfolding tabFrom
-fields-from l f zero i h = fields-no-more (drop (i * 6 + 1) l)
-fields-from l f (suc c) i h =
-    fields-number l i c (f i) (tabFrom (suc i) c f) (h i (le-refl i) (omega arith))
-    (fields-from l f c (suc i) (λ k p q. h k (omega arith) (omega arith)))
+    : (l ns : List ℕ) (c i : ℕ) → i + c ≤ length ns → ((k : ℕ) → i ≤ k → k < i + c → fieldAt l k ≡ Number (getD ns k 0))
+    → fieldsOf c (drop (i * 6 + 1) l) ≡ numbers (take c (drop i ns))
+unfolding fieldsOf
+fields-from l ns zero i m h = refl
+fields-from l ns (suc c) i m h =
+    rw (
+      h i (le-refl i) (omega arith),
+      past-field l i,
+      fields-from l ns c (suc i) (omega arith) (λ k p q. h k (omega arith) (omega arith)),
+      drop-cons ns i 0 (omega arith),
+    )
 
 -- a field that is none, before any others
 cons-malformed : (ns : Numbers) → consField Malformed ns ≡ no-numbers
@@ -81,64 +65,44 @@ fields-none-from l (suc c) i k h m e =
 
 -- ---- the loop over the fields
 
--- the first k fields are read
-pub record FieldsRead (l ns : List ℕ) (k : ℕ) : Type 0 where
-  pub long : length ns ≡ 18
-  pub exact : (j : ℕ) → j < k → fieldAt l j ≡ Number (getD ns j 0)
-  pub zeros : (j : ℕ) → k ≤ j → getD ns j 0 ≡ 0
-
--- zeros alone
-zero-at : (n j : ℕ) → _≡_ {A = ℕ} (getD (replicate n 0) j 0) 0
-zero-at zero j = refl
-zero-at (suc n) zero = refl
-zero-at (suc n) (suc j) = zero-at n j
+-- the first k fields are read into the numbers l, which now are m
+pub record FieldsRead (line l m : List ℕ) (k : ℕ) : Type 0 where
+  pub exact : (j : ℕ) → j < k → fieldAt line j ≡ Number (getD m j 0)
+  pub rest : drop k m ≡ drop k l
+  pub long : length m ≡ length l
 
 -- no field is read yet
-pub fields-start : (l : List ℕ) → FieldsRead l (replicate 18 0) 0
-fields-start l = record { long = refl; exact = λ j h. absurd (not-suc-le-zero h); zeros = λ j h. zero-at 18 j }
+pub fields-start : (line l : List ℕ) → FieldsRead line l l 0
+fields-start line l = record { exact = λ j h. absurd (not-suc-le-zero h); rest = refl; long = refl }
 
 -- one field more
 pub fields-more
-    : (l ns : List ℕ) (k n : ℕ) (f : Field) → k < 18 → FieldsRead l ns k → f ≡ fieldAt l k → f ≡ Number n → FieldsRead l (set ns k n) (k + 1)
-fields-more l ns k n f h r e q = record {
-  long = length-set ns k n ∙ r .long;
-  exact = λ j m.
+    : (line l m : List ℕ) (k n : ℕ) (f : Field) → k < length l → FieldsRead line l m k → f ≡ fieldAt line k → f ≡ Number n
+    → FieldsRead line l (set m k n) (k + 1)
+fields-more line l m k n f h r e q = record {
+  exact = λ j s.
       ⊎-elim
-      (λ (p : j ≡ k). rw (p, getD-set-same ns k n 0 (omega (arith, r .long))) (sym e ∙ q))
-      (λ (p : j < k). rw (getD-set-other ns k j n 0 (ne-of-lt p)) (r .exact j p))
-      (eq-or-lt-of-le (le-of-suc-le-suc (rw (add-one k) at m)));
-  zeros = λ j m. getD-set-other ns k j n 0 (ne-of-gt (omega arith)) ∙ r .zeros j (omega arith);
+      (λ (p : j ≡ k). rw (p, getD-set-same m k n 0 (omega (arith, r .long))) (sym e ∙ q))
+      (λ (p : j < k). rw (getD-set-other m k j n 0 (ne-of-lt p)) (r .exact j p))
+      (eq-or-lt-of-le (le-of-suc-le-suc (rw (add-one k) at s)));
+  rest = drop-set-lt (k + 1) m k n (omega arith) ∙ sym (drop-drop 1 k m) ∙ ap (drop 1) (r .rest) ∙ drop-drop 1 k l;
+  long = length-set m k n ∙ r .long;
 }
-
--- a refusal beside eighteen zeros
-pub no-row : (k : ℕ) → row k (replicate 18 0) ≡ noRow k
-unfolding padded tab tabFrom
-no-row k = refl
 
 -- a field that is no number
 pub fields-stop
-    : (l : List ℕ) (k count : ℕ) → k < count → fieldAt l k ≡ Malformed → noRow 4 ≡ rowOf (foundIn (fieldsOf count (drop 1 l)))
-fields-stop l k count h e = rw (fields-none-from l count 0 k (omega arith) (omega arith) e)
-
--- the numbers in eighteen places
-padded-tab
-    : (ns : List ℕ) (c : ℕ) → c ≤ 18 → length ns ≡ 18 → ((j : ℕ) → c ≤ j → getD ns j 0 ≡ 0) → ns ≡ padded (tab c (λ j. getD ns j 0))
-unfolding padded
-padded-tab ns c h e z =
-    fill-done ns 18 (λ i. getD (tab c (λ j. getD ns j 0)) i 0) 0 e
-    (λ k m.
-    by-cases (decLt k c)
-    (λ (p : k < c). sym (getD-tab c (λ j. getD ns j 0) k 0 p))
-    (λ p. z k (omega arith) ∙ sym (List·getD-eq-default (tab c (λ j. getD ns j 0)) 0 {n = k} (rw (length-tab c (λ j. getD ns j 0)) (omega arith)))))
+    : (line l m : List ℕ) (k count : ℕ) → k < count → fieldAt line k ≡ Malformed → DueRead (foundIn (fieldsOf count (drop 1 line))) count l m 4
+fields-stop line l m k count h e =
+    rw (fields-none-from line count 0 k (omega arith) (omega arith) e) (record { status = refl; numbers = λ z. absurd (omega arith) })
 
 -- all fields are read
 pub fields-end
-    : (l ns : List ℕ) (k count : ℕ) → k ≡ count → count ≤ 18 → FieldsRead l ns k
-    → row 0 ns ≡ rowOf (foundIn (fieldsOf count (drop 1 l)))
-unfolding tab
-fields-end l ns k count e h r =
-    rw (fields-from l (λ j. getD ns j 0) count 0 (λ j p q. r .exact j (omega arith)))
-    (ap (λ (m : List ℕ). row 0 m) (padded-tab ns count h (r .long) (λ j m. r .zeros j (omega arith))))
+    : (line l m : List ℕ) (k count : ℕ) → k ≡ count → count ≤ length l → FieldsRead line l m k
+    → DueRead (foundIn (fieldsOf count (drop 1 line))) count l m 0
+fields-end line l m k count e h r =
+    let rest : drop count m ≡ drop count l = rw e at (r .rest) in
+    rw (fields-from line m count 0 (omega (arith, r .long)) (λ j p q. r .exact j (omega arith)))
+    (record { status = refl; numbers = λ z. sym (take-append-drop count m) ∙ ap (λ (x : List ℕ). take count m ++ x) rest })
 
 -- ---- the whole line
 
@@ -165,7 +129,7 @@ fields-take (suc k) m xs h =
     rw (take-take 6 m xs (omega arith), rest, fields-take k (m - 6) (drop 6 xs) (omega arith))
 
 -- no such line
-no-such : (letter k : ℕ) (bytes : List ℕ) (r : ℕ) → 0 < r → noRow r ≡ rowOf (lineOf letter k bytes) → Framed letter k bytes r
+no-such : (letter k : ℕ) (bytes : List ℕ) (r : ℕ) → 0 < r → r ≡ dueStatus (lineOf letter k bytes) → Framed letter k bytes r
 no-such letter k bytes r h e = record { stops = λ z. e; line = λ z. absurd (omega arith); within = λ z. absurd (omega arith) }
 
 -- the file ends
@@ -245,23 +209,16 @@ pub frame-length
     : (letter k : ℕ) (bytes line : List ℕ) (r : ℕ) → Framed letter k bytes r → r ≡ 0 → line ≡ take (k * 6 + 2) bytes → length line ≡ k * 6 + 2
 frame-length letter k bytes line r f z e = rw e (length-take-le (k * 6 + 2) bytes (f .within z))
 
--- the row of a line whose fields decide
-pub due-row
-    : (letter k : ℕ) (bytes line : List ℕ) (r : ℕ) → Framed letter k bytes r → r ≡ 0 → line ≡ take (k * 6 + 2) bytes
-    → rowOf (foundIn (fieldsOf k (drop 1 line))) ≡ rowOf (lineOf letter k bytes)
-due-row letter k bytes line r f z e = rw (f .line z, e)
+-- no such line, whatever the lent numbers
+pub due-none
+    : (letter k : ℕ) (bytes l : List ℕ) (r : ℕ) → Framed letter k bytes r → (r ≡ 0 → ⊥) → DueRead (lineOf letter k bytes) k l l r
+due-none letter k bytes l r f q = record { status = f .stops q; numbers = λ z. absurd (q z) }
 
--- the numbers of a line, where its fields are these
-pub due-found
-    : (letter k : ℕ) (bytes line ns : List ℕ) (r : ℕ) → Framed letter k bytes r → r ≡ 0 → line ≡ take (k * 6 + 2) bytes
-    → fieldsOf k (drop 1 line) ≡ numbers ns → lineOf letter k bytes ≡ found ns
-due-found letter k bytes line ns r f z e q = rw (f .line z, ← e, q)
-
--- a field that is no number, and so no line
-pub due-malformed
-    : (letter k : ℕ) (bytes line : List ℕ) (r i : ℕ) → Framed letter k bytes r → r ≡ 0 → line ≡ take (k * 6 + 2) bytes → i < k
-    → fieldAt line i ≡ Malformed → noRow 4 ≡ rowOf (lineOf letter k bytes)
-due-malformed letter k bytes line r i f z e h p = fields-stop line i k h p ∙ due-row letter k bytes line r f z e
+-- a line whose fields decide
+pub due-fields
+    : (letter k : ℕ) (bytes line l m : List ℕ) (r s : ℕ) → Framed letter k bytes r → r ≡ 0 → line ≡ take (k * 6 + 2) bytes
+    → DueRead (foundIn (fieldsOf k (drop 1 line))) k l m s → DueRead (lineOf letter k bytes) k l m s
+due-fields letter k bytes line l m r s f z e d = rw (f .line z, ← e) d
 
 -- the bytes of a part of the file
 pub line-length : (l : List ℕ) (at n : ℕ) (line : List ℕ) → at + n ≤ length l → line ≡ take n (drop at l) → length line ≡ n

@@ -3,21 +3,19 @@
 use mathlib.Core.Path.{_≡_, refl, sym, ap, _∙_}
 use mathlib.Core.Bool.{Bool, true, false, cond, _&&_}
 use mathlib.Core.Logic.{⊎-elim}
-use mathlib.Core.List.{List, [], _∷_}
+use mathlib.Core.List.{List, [], _∷_, _++_, append-nil}
 use Prim.Native.Nat.{ℕ, zero, suc, _+_, _*_, _≤_, _<_}
 use native.Mathlib.Nat.{le-refl, eq-or-lt-of-le, le-of-suc-le-suc, suc-mul, zero-add, zero-mul, add-suc, suc-add}
 use native.Mathlib.Numerals.{add-one}
 use native.Mathlib.Omega.{arith}
 use lib.Dec.{eqb, leb}
 use borrow.Author.Tests.{leb-true}
-use lib.ListN.{length, drop, getD, take}
-use lib.Seq.{drop-drop}
+use lib.ListN.{length, drop, getD, take, replicate, drop-of-length-le}
+use lib.Seq.{drop-drop, getD-drop}
 use Rattle.laws.specs.Bounded.{tabFrom, tab}
-use Rattle.laws.proofs.Bounded.{getD-tab}
 use Rattle.lines.specs.declared.field.Field.{Field}
 use Rattle.lines.specs.declared.field.Field.the-variants.{Number, Malformed}
-use Rattle.lines.specs.declared.line.Row.{Row}
-use Rattle.lines.specs.Inner.{padded, rowOf}
+use Rattle.lines.specs.Inner.{dueStatus, DueRead}
 use Rattle.lines.specs.Line.{fieldOf, Numbers, numbers, no-numbers, consField, fieldsOf, Due, ends, no-line, found, foundIn, lineLength, lineOf}
 use Rattle.lines.specs.Lines.{Kind, Lines, lines, refused, consLine, onDue, linesOf}
 use Rattle.lines.specs.Places.{numbersOf, statusOf, dueAt, numbersAt, beforeAt, statusAt, refusalIn, LinesRead}
@@ -144,55 +142,74 @@ read-stop k bytes c i s l h p e q = record {
   within = λ z. absurd (q z);
 }
 
--- ---- a line from its row
+-- ---- a line that is read into lent numbers
 
-abbrev status-of : Row → ℕ
-status-of r = r .status
+-- nothing, or no line
+stops : (k : Kind) (i : ℕ) (before : List ℕ) (d : Due) → (dueStatus d ≡ 0 → ⊥) → dueStatus d ≡ statusOf k i before d
+stops k i before ends q = refl
+stops k i before no-line q = refl
+stops k i before (found ns) q = absurd (q refl)
 
-module _ (k : Kind) (i : ℕ) (before : List ℕ) where
-  -- a row with a number of its own
-  pub row-stops : (d : Due) (r : Row) → r ≡ rowOf d → (r .status ≡ 0 → ⊥) → r .status ≡ statusOf k i before d
-  row-stops ends r e q = ap status-of e
-  row-stops no-line r e q = ap status-of e
-  row-stops (found ns) r e q = absurd (q (ap status-of e))
-
-  -- a row whose numbers pass
-  pub row-passes
-      : (d : Due) (r : Row) → r ≡ rowOf d → r .status ≡ 0 → k .good i before (numbersOf d) ≡ true → statusOf k i before d ≡ 0
-  row-passes ends r e q g = let z : _≡_ {A = ℕ} 3 0 = sym (ap status-of e) ∙ q in absurd (omega arith)
-  row-passes no-line r e q g = let z : _≡_ {A = ℕ} 4 0 = sym (ap status-of e) ∙ q in absurd (omega arith)
-  row-passes (found ns) r e q g = rw g
-
-  -- a row whose numbers do not
-  pub row-fails
-      : (d : Due) (r : Row) → r ≡ rowOf d → r .status ≡ 0 → k .good i before (numbersOf d) ≡ false → statusOf k i before d ≡ k .refusal
-  row-fails ends r e q g = let z : _≡_ {A = ℕ} 3 0 = sym (ap status-of e) ∙ q in absurd (omega arith)
-  row-fails no-line r e q g = let z : _≡_ {A = ℕ} 4 0 = sym (ap status-of e) ∙ q in absurd (omega arith)
-  row-fails (found ns) r e q g = rw g
-
--- a number of a row, below eighteen
-pub row-number : (d : Due) (r : Row) (j : ℕ) → r ≡ rowOf d → j < 18 → getD (r .numbers) j 0 ≡ getD (numbersOf d) j 0
-unfolding padded
-row-number ends r j e h = ap (λ (x : Row). getD (x .numbers) j 0) e ∙ getD-tab 18 (λ i. getD [] i 0) j 0 h
-row-number no-line r j e h = ap (λ (x : Row). getD (x .numbers) j 0) e ∙ getD-tab 18 (λ i. getD [] i 0) j 0 h
-row-number (found ns) r j e h = ap (λ (x : Row). getD (x .numbers) j 0) e ∙ getD-tab 18 (λ i. getD ns i 0) j 0 h
+-- a line, whose numbers decide
+tested : (k : Kind) (i : ℕ) (before : List ℕ) (d : Due) → dueStatus d ≡ 0 → cond (k .good i before (numbersOf d)) 0 (k .refusal) ≡ statusOf k i before d
+tested k i before ends e = absurd (omega arith)
+tested k i before no-line e = absurd (omega arith)
+tested k i before (found ns) e = refl
 
 -- a test that passes among three
-second-of : (a b c : Bool) (d : Due) → rowOf (cond (a && b && c) d no-line) .status ≡ 0 → b ≡ true
+second-of : (a b c : Bool) (d : Due) → dueStatus (cond (a && b && c) d no-line) ≡ 0 → b ≡ true
 second-of true true c d e = refl
 second-of true false c d e = let z : _≡_ {A = ℕ} 4 0 = e in absurd (omega arith)
 second-of false b c d e = let z : _≡_ {A = ℕ} 4 0 = e in absurd (omega arith)
 
-long-of : (letter k : ℕ) (bytes : List ℕ) → rowOf (lineOf letter k bytes) .status ≡ 0 → k * 6 + 2 ≤ length bytes
+-- a line has its bytes
+line-long : (letter k : ℕ) (bytes : List ℕ) → dueStatus (lineOf letter k bytes) ≡ 0 → lineLength k ≤ length bytes
 unfolding lineOf
-long-of letter k [] e = let z : _≡_ {A = ℕ} 3 0 = e in absurd (omega arith)
-long-of letter k (b ∷ bs) e =
+line-long letter k [] e = let z : _≡_ {A = ℕ} 3 0 = e in absurd (omega arith)
+line-long letter k (b ∷ bs) e =
     let m = leb-true (k * 6 + 1) (length bs) (second-of (eqb b letter) (leb (k * 6 + 1) (length bs)) (eqb (getD bs (k * 6) 0) 10) (foundIn (fieldsOf k bs)) e) in
     omega arith
 
--- a line that is there has its bytes
-pub row-long : (letter k : ℕ) (bytes : List ℕ) (r : Row) → r ≡ rowOf (lineOf letter k bytes) → r .status ≡ 0 → k * 6 + 2 ≤ length bytes
-row-long letter k bytes r e q = long-of letter k bytes (sym (ap status-of e) ∙ q)
+-- zeros past some numbers, or none
+zeros-past : (ns : List ℕ) (n k i : ℕ) → getD (ns ++ drop k (replicate n 0)) i 0 ≡ getD ns i 0
+zeros-past [] n k i = getD-drop k (replicate n 0) i 0 ∙ zero-at n (k + i)
+  where
+    zero-at : (n j : ℕ) → _≡_ {A = ℕ} (getD (replicate n 0) j 0) 0
+    zero-at zero j = refl
+    zero-at (suc n) zero = refl
+    zero-at (suc n) (suc j) = zero-at n j
+zeros-past (x ∷ ns) n k zero = refl
+zeros-past (x ∷ ns) n k (suc i) = zeros-past ns n k i
+
+module _ (k : Kind) (i : ℕ) (before bytes : List ℕ) {l m : List ℕ} {r : ℕ} (e : DueRead (lineOf (k .letter) (k .count) bytes) (k .count) l m r) where
+  -- what is due
+  abbrev due : Due
+  due = lineOf (k .letter) (k .count) bytes
+
+  -- nothing, or no line
+  pub due-stops : (r ≡ 0 → ⊥) → r ≡ statusOf k i before due
+  due-stops q = e .status ∙ stops k i before due (λ z. q (e .status ∙ z))
+
+  module _ (z : r ≡ 0) where
+    -- a line
+    is-line : dueStatus due ≡ 0
+    is-line = sym (e .status) ∙ z
+
+    -- a line whose numbers pass, or fail, the test of its kind
+    pub due-tested : (t : Bool) {ns : List ℕ} → ns ≡ numbersOf due → k .good i before ns ≡ t → cond t 0 (k .refusal) ≡ statusOf k i before due
+    due-tested t same g = rw (← g, same) (tested k i before due is-line)
+
+    -- its bytes
+    pub due-long : lineLength (k .count) ≤ length bytes
+    due-long = line-long (k .letter) (k .count) bytes is-line
+
+    -- as many numbers lent as it has fields
+    pub due-whole : length l ≡ k .count → m ≡ numbersOf due
+    due-whole h = e .numbers z ∙ rw (drop-of-length-le l {i = k .count} (omega arith)) (append-nil (numbersOf due))
+
+    -- more of them lent, all zero
+    pub due-number : (n j : ℕ) → l ≡ replicate n 0 → getD m j 0 ≡ getD (numbersOf due) j 0
+    due-number n j h = rw (e .numbers z, h) (zeros-past (numbersOf due) n (k .count) j)
 
 -- a test that gives the same at another place and after another line
 status-test
@@ -243,19 +260,19 @@ unfolding fieldsOf
 fields-long zero bytes = refl
 fields-long (suc k) bytes = cons-long (fieldOf (take 6 bytes)) (fieldsOf k (drop 6 bytes)) k (fields-long k (drop 6 bytes))
 
-found-long : (m : Numbers) (k : ℕ) → Long m k → rowOf (foundIn m) .status ≡ 0 → length (numbersOf (foundIn m)) ≡ k
+found-long : (m : Numbers) (k : ℕ) → Long m k → dueStatus (foundIn m) ≡ 0 → length (numbersOf (foundIn m)) ≡ k
 found-long (numbers ns) k h e = h
 found-long no-numbers k h e = let z : _≡_ {A = ℕ} 4 0 = e in absurd (omega arith)
 
 cond-long
-    : (t : Bool) (d : Due) (k : ℕ) → (rowOf d .status ≡ 0 → length (numbersOf d) ≡ k) → rowOf (cond t d no-line) .status ≡ 0
+    : (t : Bool) (d : Due) (k : ℕ) → (dueStatus d ≡ 0 → length (numbersOf d) ≡ k) → dueStatus (cond t d no-line) ≡ 0
     → length (numbersOf (cond t d no-line)) ≡ k
 cond-long true d k h e = h e
 cond-long false d k h e = let z : _≡_ {A = ℕ} 4 0 = e in absurd (omega arith)
 
 -- a line that is there has as many numbers as fields
 pub due-length
-    : (letter k : ℕ) (bytes : List ℕ) → rowOf (lineOf letter k bytes) .status ≡ 0 → length (numbersOf (lineOf letter k bytes)) ≡ k
+    : (letter k : ℕ) (bytes : List ℕ) → dueStatus (lineOf letter k bytes) ≡ 0 → length (numbersOf (lineOf letter k bytes)) ≡ k
 unfolding lineOf
 due-length letter k [] e = let z : _≡_ {A = ℕ} 3 0 = e in absurd (omega arith)
 due-length letter k (b ∷ bs) e =
@@ -263,14 +280,14 @@ due-length letter k (b ∷ bs) e =
     (found-long (fieldsOf k bs) k (fields-long k bs)) e
 
 -- a line that passes is there
-passing-row : (k : Kind) (i : ℕ) (before : List ℕ) (d : Due) → statusOf k i before d ≡ 0 → rowOf d .status ≡ 0
-passing-row k i before ends e = absurd (omega arith)
-passing-row k i before no-line e = absurd (omega arith)
-passing-row k i before (found ns) e = refl
+passing-line : (k : Kind) (i : ℕ) (before : List ℕ) (d : Due) → statusOf k i before d ≡ 0 → dueStatus d ≡ 0
+passing-line k i before ends e = absurd (omega arith)
+passing-line k i before no-line e = absurd (omega arith)
+passing-line k i before (found ns) e = refl
 
 -- so has a line that passes
 pub passed-length : (k : Kind) (bytes : List ℕ) (i : ℕ) → statusAt k bytes i ≡ 0 → length (numbersAt k bytes i) ≡ k .count
 unfolding statusAt dueAt numbersAt beforeAt
 passed-length k bytes i e =
     due-length (k .letter) (k .count) (drop (i * lineLength (k .count)) bytes)
-    (passing-row k i (beforeAt k bytes i) (lineOf (k .letter) (k .count) (drop (i * lineLength (k .count)) bytes)) e)
+    (passing-line k i (beforeAt k bytes i) (lineOf (k .letter) (k .count) (drop (i * lineLength (k .count)) bytes)) e)

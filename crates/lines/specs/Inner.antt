@@ -2,29 +2,26 @@
 -- Inner contracts: what functions ask of and leave to each other. No promise is stated in them; a reader need not believe them.
 -- Assumes nothing.
 use mathlib.Core.Path.{_≡_}
-use mathlib.Core.List.{List, []}
+use mathlib.Core.List.{List, _++_}
 use Prim.Native.Nat.{ℕ, _≤_}
-use lib.ListN.{length, take, drop, getD}
-use Rattle.laws.specs.Bounded.{tab}
+use lib.ListN.{length, take, drop}
 use Rattle.lines.specs.Line.{fieldsOf, Due, ends, no-line, found, foundIn, lineLength, lineOf}
-use Rattle.lines.specs.declared.line.Row.{Row}
+use Rattle.lines.specs.Places.{numbersOf}
 
--- the numbers of a line in eighteen places, with zeros after them
-unfoldable pub padded : List ℕ → List ℕ
-padded ns = tab 18 (λ i. getD ns i 0)
-
--- a refusal beside zeros
-abbrev pub noRow : ℕ → Row
-noRow k = record { status = k; numbers = padded [] }
-
--- what is due, in numbers: a line's own numbers beside 0, and zeros beside 3 and 4
-abbrev pub rowOf : Due → Row
-rowOf ends = noRow 3
-rowOf no-line = noRow 4
-rowOf (found ns) = record { status = 0; numbers = padded ns }
+-- what is due, as a number: 3, 4, or 0 for a line
+abbrev pub dueStatus : Due → ℕ
+dueStatus ends = 3
+dueStatus no-line = 4
+dueStatus (found ns) = 0
 
 -- what is due, its fields aside: r is 3 or 4 where there is no such line, and 0 where the fields decide
 pub record Framed (letter k : ℕ) (bytes : List ℕ) (r : ℕ) : Type 0 where
-  pub stops : (r ≡ 0 → ⊥) → noRow r ≡ rowOf (lineOf letter k bytes)
+  pub stops : (r ≡ 0 → ⊥) → r ≡ dueStatus (lineOf letter k bytes)
   pub line : r ≡ 0 → lineOf letter k bytes ≡ foundIn (fieldsOf k (drop 1 (take (lineLength k) bytes)))
   pub within : r ≡ 0 → lineLength k ≤ length bytes
+
+-- what is due is read into the lent numbers l, which then are m: beside 0 the line's k numbers stand in front of those past them;
+-- beside 3 and 4 the numbers are free
+pub record DueRead (due : Due) (k : ℕ) (l m : List ℕ) (r : ℕ) : Type 0 where
+  pub status : r ≡ dueStatus due
+  pub numbers : r ≡ 0 → m ≡ numbersOf due ++ drop k l

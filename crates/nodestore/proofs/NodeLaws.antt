@@ -3,7 +3,7 @@
 use mathlib.Core.Path.{_≡_, refl, sym, _∙_}
 use mathlib.Core.Bool.{Bool, true, false, _||_, true≢false}
 use mathlib.Core.Logic.{_⊎_, inl, inr}
-use mathlib.Core.List.{List, [], _∷_}
+use mathlib.Core.List.{List, []}
 use Prim.Native.Nat.{ℕ, zero, suc, _+_, _*_, _/_, _^_, _≤_, _<_}
 use native.Mathlib.Nat.{ne-of-lt, lt-of-lt-of-le}
 use native.Mathlib.Omega.{arith}
@@ -16,10 +16,11 @@ use Rattle.laws.specs.Bytes.{numberAt, putNumber}
 use Rattle.laws.proofs.Bytes.{number-cong, number-put, number-put-other, length-put, getD-put-outside}
 use Rattle.laws.proofs.Bits.{shr-zero-says, below-says}
 use Rattle.laws.proofs.Tests.{fails-of, test-ext}
+use Rattle.lines.specs.Line.{at}
 use Rattle.jobfile.specs.File.{goodValue, goodNode, nodeOf}
 use Rattle.buffer.specs.Layout.{Lent}
 use Rattle.buffer.specs.Views.{nodeIn}
-use Rattle.jobhead.specs.Stored.{NodeStored}
+use Rattle.jobhead.specs.Stored.{NodeFits, NodeStored}
 use Rattle.jobfile.specs.Refusal.{NodeWithin}
 use Rattle.jobfile.proofs.WithinLaws.{value-says, node-says}
 
@@ -39,11 +40,7 @@ value-none a (suc zero) v p q r = absurd (q refl)
 value-none a (suc (suc zero)) v p q r = absurd (r refl)
 value-none a (suc (suc (suc k))) v p q r = refl
 
-module _ (s a place node kind value entries exits after : ℕ) where
-  -- the line's numbers
-  abbrev ns : List ℕ
-  ns = node ∷ kind ∷ value ∷ entries ∷ exits ∷ after ∷ []
-
+module _ (s a place : ℕ) (ns : List ℕ) where
   -- the test of the code's numbers
   abbrev pub Test : Bool
   Test = goodNode s a place [] ns
@@ -53,45 +50,46 @@ module _ (s a place node kind value entries exits after : ℕ) where
   denied h = sym (fails-of Test (λ t. h (node-says s a place [] ns .0 t)))
 
   -- a node out of order
-  pub node-place : (node ≡ place → ⊥) → false ≡ Test
+  pub node-place : (at ns 0 ≡ place → ⊥) → false ≡ Test
   node-place h = denied (λ w. h (w .node))
 
   -- a value that its kind has not
-  pub node-value : goodValue a kind value ≡ false → false ≡ Test
+  pub node-value : goodValue a (at ns 1) (at ns 2) ≡ false → false ≡ Test
   node-value h =
-      denied (λ w. true≢false (sym (value-says a kind value .1 (w .kind, w .plain-value, w .symbol, w .call-set)) ∙ h))
+      denied (λ w. true≢false (sym (value-says a (at ns 1) (at ns 2) .1 (w .kind, w .plain-value, w .symbol, w .call-set)) ∙ h))
 
   -- an entry set with a state of S or more
-  pub node-entries : (entries / 2 ^ s ≡ 0 → ⊥) → false ≡ Test
-  node-entries h = denied (λ w. h (shr-zero-says s entries .1 (below-says s entries .1 (w .entry-set))))
+  pub node-entries : (at ns 3 / 2 ^ s ≡ 0 → ⊥) → false ≡ Test
+  node-entries h = denied (λ w. h (shr-zero-says s (at ns 3) .1 (below-says s (at ns 3) .1 (w .entry-set))))
 
   -- an exit mark above 1
-  pub node-exits : 1 < exits → false ≡ Test
+  pub node-exits : 1 < at ns 4 → false ≡ Test
   node-exits h = denied (λ w. absurd (omega (arith, w .exit-mark)))
 
   -- an after set with a symbol of A or more
-  pub node-after : (after / 2 ^ a ≡ 0 → ⊥) → false ≡ Test
-  node-after h = denied (λ w. h (shr-zero-says a after .1 (below-says a after .1 (w .after-set))))
+  pub node-after : (at ns 5 / 2 ^ a ≡ 0 → ⊥) → false ≡ Test
+  node-after h = denied (λ w. h (shr-zero-says a (at ns 5) .1 (below-says a (at ns 5) .1 (w .after-set))))
 
-  module _ (p1 : node ≡ place) (p2 : goodValue a kind value ≡ true) (p3 : entries / 2 ^ s ≡ 0) (p4 : exits ≤ 1) (p5 : after / 2 ^ a ≡ 0) where
+  module _ (p1 : at ns 0 ≡ place) (p2 : goodValue a (at ns 1) (at ns 2) ≡ true) (p3 : at ns 3 / 2 ^ s ≡ 0) (p4 : at ns 4 ≤ 1)
+      (p5 : at ns 5 / 2 ^ a ≡ 0) where
     -- the first five tests pass
-    node-last : Test ≡ (eqb exits 1 || eqb after 0)
+    node-last : Test ≡ (eqb (at ns 4) 1 || eqb (at ns 5) 0)
     node-last =
         rw (
-          eq-eqb node place p1,
+          eq-eqb (at ns 0) place p1,
           p2,
-          lt-ltb entries (2 ^ s) (shr-zero-says s entries .0 p3),
-          le-leb exits 1 p4,
-          lt-ltb after (2 ^ a) (shr-zero-says a after .0 p5),
+          lt-ltb (at ns 3) (2 ^ s) (shr-zero-says s (at ns 3) .0 p3),
+          le-leb (at ns 4) 1 p4,
+          lt-ltb (at ns 5) (2 ^ a) (shr-zero-says a (at ns 5) .0 p5),
         )
 
     -- an exit
-    pub node-exit : exits ≡ 1 → true ≡ Test
-    node-exit e = sym (node-last ∙ rw (eq-eqb exits 1 e))
+    pub node-exit : at ns 4 ≡ 1 → true ≡ Test
+    node-exit e = sym (node-last ∙ rw (eq-eqb (at ns 4) 1 e))
 
     -- no exit, and so no after set
-    pub node-inner : (exits ≡ 1 → ⊥) → eqb after 0 ≡ Test
-    node-inner e = sym (node-last ∙ rw (ne-eqb exits 1 e))
+    pub node-inner : (at ns 4 ≡ 1 → ⊥) → eqb (at ns 5) 0 ≡ Test
+    node-inner e = sym (node-last ∙ rw (ne-eqb (at ns 4) 1 e))
 
 -- ---- what a P line that passes has
 
@@ -106,26 +104,16 @@ value-small a (suc zero) v h g = omega (arith, ltb-true v a g)
 value-small a (suc (suc zero)) v h g = lt-of-lt-of-le (ltb-true v (2 ^ a) g) (pow-small a h)
 value-small a (suc (suc (suc k))) v h g = absurd (true≢false (sym g))
 
--- the sizes of the numbers of a node
-pub record NodeSizes (kind value entries exits after : ℕ) : Type 0 where
-  pub kind-small : kind < 256
-  pub value-fits : value < 65536
-  pub entries-fit : entries < 65536
-  pub exits-small : exits < 256
-  pub after-fits : after < 65536
-
--- a line that passes has them
-pub node-sizes
-    : (s a place node kind value entries exits after : ℕ) (t : Bool) → s ≤ 16 → a ≤ 16
-    → t ≡ Test s a place node kind value entries exits after → t ≡ true → NodeSizes kind value entries exits after
-node-sizes s a place node kind value entries exits after t hs ha g v =
-    let w = node-says s a place [] (node ∷ kind ∷ value ∷ entries ∷ exits ∷ after ∷ []) .0 (sym g ∙ v) in
+-- a line that passes fits the bytes of a node
+pub node-fits : (s a place : ℕ) (ns : List ℕ) → s ≤ 16 → a ≤ 16 → Test s a place ns ≡ true → NodeFits ns
+node-fits s a place ns hs ha g =
+    let w = node-says s a place [] ns .0 g in
     record {
-      kind-small = omega (arith, w .kind);
-      value-fits = value-small a kind value ha (value-says a kind value .1 (w .kind, w .plain-value, w .symbol, w .call-set));
-      entries-fit = lt-of-lt-of-le (below-says s entries .1 (w .entry-set)) (pow-small s hs);
-      exits-small = omega (arith, w .exit-mark);
-      after-fits = lt-of-lt-of-le (below-says a after .1 (w .after-set)) (pow-small a ha);
+      kind = omega (arith, w .kind);
+      value = value-small a (at ns 1) (at ns 2) ha (value-says a (at ns 1) (at ns 2) .1 (w .kind, w .plain-value, w .symbol, w .call-set));
+      entries = lt-of-lt-of-le (below-says s (at ns 3) .1 (w .entry-set)) (pow-small s hs);
+      exits = omega (arith, w .exit-mark);
+      after = lt-of-lt-of-le (below-says a (at ns 5) .1 (w .after-set)) (pow-small a ha);
     }
 
 -- ---- a node in the buffer
@@ -134,8 +122,22 @@ node-sizes s a place node kind value entries exits after t hs ha g v =
 number-set : (l : List ℕ) (i v j : ℕ) → j + 2 ≤ i → numberAt 2 (set l i v) j ≡ numberAt 2 l j
 number-set l i v j h = number-cong 2 (set l i v) l j j (λ k p. getD-set-other l i (j + k) v 0 (ne-of-lt (omega arith)))
 
-module _ (l : List ℕ) (n kind value entries exits after : ℕ) (h : n < 512) (long : Lent l)
-    (z : NodeSizes kind value entries exits after) where
+module _ (l : List ℕ) (n : ℕ) (ns : List ℕ) (h : n < 512) (long : Lent l) (z : NodeFits ns) where
+  abbrev kind : ℕ
+  kind = at ns 1
+
+  abbrev value : ℕ
+  value = at ns 2
+
+  abbrev entries : ℕ
+  entries = at ns 3
+
+  abbrev exits : ℕ
+  exits = at ns 4
+
+  abbrev after : ℕ
+  after = at ns 5
+
   abbrev w1 : List ℕ
   w1 = putNumber 2 l (n * 8) value
 
@@ -165,18 +167,18 @@ module _ (l : List ℕ) (n kind value entries exits after : ℕ) (h : n < 512) (
       number-set w4 (n * 8 + 7) exits (n * 8) (omega arith) ∙ number-set w3 (n * 8 + 6) kind (n * 8) (omega arith)
       ∙ number-put-other 2 2 w2 (n * 8 + 4) (n * 8) after (inl (omega arith))
       ∙ number-put-other 2 2 w1 (n * 8 + 2) (n * 8) entries (inl (omega arith))
-      ∙ number-put 2 l (n * 8) value (z .value-fits) (omega arith)
+      ∙ number-put 2 l (n * 8) value (z .value) (omega arith)
 
   entries-are : numberAt 2 (set w4 (n * 8 + 7) exits) (n * 8 + 2) ≡ entries
   entries-are =
       number-set w4 (n * 8 + 7) exits (n * 8 + 2) (omega arith) ∙ number-set w3 (n * 8 + 6) kind (n * 8 + 2) (omega arith)
       ∙ number-put-other 2 2 w2 (n * 8 + 4) (n * 8 + 2) after (inl (omega arith))
-      ∙ number-put 2 w1 (n * 8 + 2) entries (z .entries-fit) (omega (arith, long1))
+      ∙ number-put 2 w1 (n * 8 + 2) entries (z .entries) (omega (arith, long1))
 
   after-is : numberAt 2 (set w4 (n * 8 + 7) exits) (n * 8 + 4) ≡ after
   after-is =
       number-set w4 (n * 8 + 7) exits (n * 8 + 4) (omega arith) ∙ number-set w3 (n * 8 + 6) kind (n * 8 + 4) (omega arith)
-      ∙ number-put 2 w2 (n * 8 + 4) after (z .after-fits) (omega (arith, long2))
+      ∙ number-put 2 w2 (n * 8 + 4) after (z .after) (omega (arith, long2))
 
   kind-is : getD (set w4 (n * 8 + 7) exits) (n * 8 + 6) 0 ≡ kind
   kind-is =
@@ -206,7 +208,7 @@ module _ (l : List ℕ) (n kind value entries exits after : ℕ) (h : n < 512) (
   pub node-stored
       : (v1 v2 v3 : List ℕ) → v1 ≡ putNumber 2 l (n * 8) value → v2 ≡ putNumber 2 v1 (n * 8 + 2) entries
       → v3 ≡ putNumber 2 v2 (n * 8 + 4) after
-      → NodeStored l (set (set v3 (n * 8 + 6) kind) (n * 8 + 7) exits) n (nodeOf (n ∷ kind ∷ value ∷ entries ∷ exits ∷ after ∷ []))
+      → NodeStored l (set (set v3 (n * 8 + 6) kind) (n * 8 + 7) exits) n (nodeOf ns)
   unfolding nodeIn
   node-stored v1 v2 v3 e1 e2 e3 =
       rw (e3, e2, e1)

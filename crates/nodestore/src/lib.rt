@@ -1,10 +1,10 @@
 // A node of the job: what a P line's numbers may be, and its place in the work buffer.
 ghost use mathlib.Core.Path.{_≡_};
-ghost use mathlib.Core.List.{[], _∷_};
+ghost use mathlib.Core.List.{[]};
 ghost use Prim.Native.Nat.{_<_, _≤_};
 ghost use Rattle.jobfile.specs.File.{goodValue, goodNode, nodeOf};
 ghost use Rattle.buffer.specs.Layout.{Lent};
-ghost use Rattle.jobhead.specs.Stored.{NodeStored};
+ghost use Rattle.jobhead.specs.Stored.{NodeFits, NodeStored};
 use stores::write16;
 
 // Whether a value is 0, a symbol or a set of symbols, as its kind wants.
@@ -25,24 +25,17 @@ fn is_value(symbols: u64, kind: u64, value: u64) -> bool
 }
 
 // Whether the numbers of a P line are those of a node: refusal 7 is that they are not.
-pub fn is_node(
-    states: u64,
-    symbols: u64,
-    place: u64,
-    node: u64,
-    kind: u64,
-    value: u64,
-    entries: u64,
-    exits: u64,
-    after: u64,
-) -> bool
+pub fn is_node(states: u64, symbols: u64, place: u64, numbers: &[u64; 6]) -> bool
     requires { ⌜ (states ≤ 16) × (symbols ≤ 16) ⌝ }
-    ensures { λ r. ⌜ r ≡ goodNode states symbols place [] (node ∷ kind ∷ value ∷ entries ∷ exits ∷ after ∷ []) ⌝ }
+    ensures { λ r. ⌜ r ≡ goodNode states symbols place [] (now (numbers .entry)) ⌝ }
 {
-    if node != place {
+    let entries = numbers[3];
+    let exits = numbers[4];
+    let after = numbers[5];
+    if numbers[0] != place {
         return false;
     }
-    let fits = is_value(symbols, kind, value);
+    let fits = is_value(symbols, numbers[1], numbers[2]);
     if fits {
         if entries >> states != 0 {
             return false;
@@ -62,18 +55,15 @@ pub fn is_node(
 }
 
 // Stores a node.
-pub fn store_node(
-    work: &mut [u8],
-    n: usize,
-    kind: u64,
-    value: u64,
-    entries: u64,
-    exits: u64,
-    after: u64,
-)
-    requires { ⌜ (n < 512) × ((Lent (now work)) × ((kind < 256) × ((value < 65536) × ((entries < 65536) × ((exits < 256) × (after < 65536)))))) ⌝ }
-    ensures { λ _. ⌜ NodeStored (now (work .entry)) (now (work .exit)) n (nodeOf (n ∷ kind ∷ value ∷ entries ∷ exits ∷ after ∷ [])) ⌝ }
+pub fn store_node(work: &mut [u8], n: usize, numbers: &[u64; 6])
+    requires { ⌜ (n < 512) × ((Lent (now work)) × (NodeFits (now numbers))) ⌝ }
+    ensures { λ _. ⌜ NodeStored (now (work .entry)) (now (work .exit)) n (nodeOf (now (numbers .entry))) ⌝ }
 {
+    let kind = numbers[1];
+    let value = numbers[2];
+    let entries = numbers[3];
+    let exits = numbers[4];
+    let after = numbers[5];
     let at = n * 8;
     write16(work, at, value as u16);
     write16(work, at + 2, entries as u16);

@@ -21,24 +21,23 @@ pub fn rule_line(
     requires { ⌜ (at ≤ length (now file)) × ((Lent (now work)) × ((states ≤ 16) × ((symbols ≤ 16) × (q < 16)))) ⌝ }
     ensures { λ r. ⌜ RuleRead states symbols q (drop at (now (file .entry))) (now (work .entry)) (now (work .exit)) r ⌝ }
 {
-    let row = due_line(file, at, 82, symbols + 2);
-    let status = row.status;
+    let mut numbers = [0u64; 18];
+    let status = due_line(file, at, 82, symbols + 2, &mut numbers);
     if status != 0 {
         return refused(status);
     }
-    let f = row.numbers;
     let place = q as u64;
-    if f[0] != place {
+    if numbers[0] != place {
         return refused(6);
     }
-    if 1 < f[1] {
+    if 1 < numbers[1] {
         return refused(6);
     }
-    if are_below(&f, states, symbols) {
-        store_row(work, q, &f);
+    if are_below(&numbers, states, symbols) {
+        store_row(work, q, &numbers);
         return Collected {
             status: 0,
-            number: f[1],
+            number: numbers[1],
         };
     }
     refused(6)

@@ -1,5 +1,5 @@
 -- `duelines::fields_in` meets its contract.
--- Invariant: the first k fields are numbers, which stand in order, with zeros after them. Measure: the fields still to be read.
+-- Invariant: the first k fields are numbers, which stand in order, and those past them are as they were. Measure: the fields still to be read.
 -- Assumes nothing.
 use Prim.Native.Nat.{_≤_, _-_}
 use mathlib.Core.Path.{sym, _∙_}
@@ -10,13 +10,13 @@ use Rattle.duelines.proofs.fields_in.Statement.{statement}
 use Rattle.duelines.proofs.fields_in.Tie as tie
 
 abbrev Inv-loop : tie.InvT-loop
-Inv-loop line count numbers₀ k₀ numbers k = (k ≤ count) × FieldsRead line numbers k
+Inv-loop line count numbers₀ k₀ numbers k = (k ≤ count) × FieldsRead line numbers₀ numbers k
 
 abbrev μ-loop : tie.MeasureT-loop
 μ-loop line count numbers₀ k₀ numbers k = count - k
 
 loop-holds : tie.Need-loop-holds Inv-loop μ-loop
-loop-holds c = (search needs, fields-start (c .before .args .line .now))
+loop-holds c = (search needs, fields-start (c .before .before .args .line .now) (c .before .before .args .numbers .now))
 
 mul-field-in : tie.Need-mul-field-in Inv-loop μ-loop
 mul-field-in c = search needs
@@ -33,22 +33,21 @@ enum-known-n c = search needs
 enum-told : tie.Need-enum-told Inv-loop μ-loop
 enum-told c = search needs
 
-no-row-requires : tie.Need-no-row-requires Inv-loop μ-loop
-no-row-requires c κs = search needs
+same-length : tie.Need-same-length Inv-loop μ-loop
+same-length c = search needs
 
 returns : tie.Need-returns Inv-loop μ-loop
 returns c =
     let x = c .before .before .before .before .before .before .before .args in
-    let l = c .before .before .before .before .before .loop in
-    let f = c .before .before .before .field-in in
-    c .no-row .ensures
-    ∙ fields-stop (x .line .now) (l .k) (x .count) (omega arith) (sym (f .ensures) ∙ c .before .enum-told .given .1)
+    let l = c .before .before .before .before .loop in
+    let f = c .before .before .field-in in
+    fields-stop (x .line .now) (x .numbers .now) (l .numbers) (l .k) (x .count) (omega arith) (sym (f .ensures) ∙ c .enum-told .given .1)
 
 mul-numbers : tie.Need-mul-numbers Inv-loop μ-loop
 mul-numbers c = search needs
 
-array-write-numbers : tie.Need-array-write-numbers Inv-loop μ-loop
-array-write-numbers c = search needs
+slice-write-numbers : tie.Need-slice-write-numbers Inv-loop μ-loop
+slice-write-numbers c = search needs
 
 add-k : tie.Need-add-k Inv-loop μ-loop
 add-k c = search needs
@@ -58,16 +57,22 @@ loop-less c = search needs
 
 loop-again : tie.Need-loop-again Inv-loop μ-loop
 loop-again c =
-    let x = c .before .before .before .before .before .before .before .args in
+    let x = c .before .before .before .before .before .before .before .before .args in
     let l = c .before .before .before .before .before .loop in
-    let f = c .before .before .before .field-in in
-    (search needs, fields-more (x .line .now) (l .numbers) (l .k) _ (f .result) (omega arith) (l .inv .1) (f .ensures) (c .before .n .given .1))
+    let f = c .before .before .before .field-in in (
+      search needs,
+      fields-more (x .line .now) (x .numbers .now) (l .numbers) (l .k) (c .before .n .given .0 .0) (f .result) (omega arith) (l .inv .1)
+          (f .ensures) (c .before .n .given .1),
+    )
+
+same-length-2 : tie.Need-same-length-2 Inv-loop μ-loop
+same-length-2 c = search needs
 
 returns-2 : tie.Need-returns-2 Inv-loop μ-loop
 returns-2 c =
+    let x = c .before .before .before .before .args in
     let l = c .before .loop in
-    let x = c .before .before .before .args in
-    fields-end (x .line .now) (l .numbers) (l .k) (x .count) (omega arith) (omega arith) (l .inv .1)
+    fields-end (x .line .now) (x .numbers .now) (l .numbers) (l .k) (x .count) (omega arith) (omega arith) (l .inv .1)
 
 pub fields-in-spec : {M : Type 1} → statement M
 fields-in-spec =
@@ -81,11 +86,12 @@ fields-in-spec =
     field-in-requires
     enum-known-n
     enum-told
-    no-row-requires
+    same-length
     returns
     mul-numbers
-    array-write-numbers
+    slice-write-numbers
     add-k
     loop-less
     loop-again
+    same-length-2
     returns-2)

@@ -7,6 +7,21 @@ use Rattle.nodestore.proofs.NodeLaws.{node-stored}
 use Rattle.nodestore.proofs.store_node.Statement.{statement}
 use Rattle.nodestore.proofs.store_node.Tie as tie
 
+element-copy-out-kind : tie.Need-element-copy-out-kind
+element-copy-out-kind c = search needs
+
+element-copy-out-value : tie.Need-element-copy-out-value
+element-copy-out-value c = search needs
+
+element-copy-out-entries : tie.Need-element-copy-out-entries
+element-copy-out-entries c = search needs
+
+element-copy-out-exits : tie.Need-element-copy-out-exits
+element-copy-out-exits c = search needs
+
+element-copy-out-after : tie.Need-element-copy-out-after
+element-copy-out-after c = search needs
+
 mul-at : tie.Need-mul-at
 mul-at c = search needs
 
@@ -56,24 +71,21 @@ same-length : tie.Need-same-length
 same-length c = simp length-set (omega arith)
 
 returns : tie.Need-returns
-returns c = let x = c .before .before .before .before .before .before .before .before .before .before .before .before .before .args in
-    node-stored (x .work .now) (x .n) (x .kind) (x .value) (x .entries) (x .exits) (x .after) (omega arith) (omega arith)
-    (record {
-      kind-small = omega arith;
-      value-fits = omega arith;
-      entries-fit = omega arith;
-      exits-small = omega arith;
-      after-fits = omega arith;
-    })
-    _ _ _
-    (c .before .before .before .before .before .before .before .before .before .before .write16 .ensures)
-    (c .before .before .before .before .before .before .write162 .ensures)
+returns c =
+    let x = c .before .before .before .before .before .before .before .before .before .before .before .before .before .before .before .before .before .before .args in
+    let p = c .before .before .before .before .before .before .before .before .before .before .before .before .before .before .before .before .before .before .pre in
+    node-stored (x .work .now) (x .n) (x .numbers .now) (p .0) (p .1 .0) (p .1 .1) _ _ _ (c .before .before .before .before .before .before .before .before .before .before .write16 .ensures) (c .before .before .before .before .before .before .write162 .ensures)
     (c .before .before .write163 .ensures)
 
 pub store-node-spec : {M : Type 1} → statement M
 store-node-spec =
     tie.close
     (tie.spec
+    element-copy-out-kind
+    element-copy-out-value
+    element-copy-out-entries
+    element-copy-out-exits
+    element-copy-out-after
     mul-at
     cast-write16
     write16-requires
