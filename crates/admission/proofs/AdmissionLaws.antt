@@ -13,7 +13,7 @@ use borrow.Author.Tests.{lt-ltb, le-ltb}
 use Rattle.laws.proofs.Tests.{or-left, or-right, or-fails}
 use Rattle.laws.proofs.Bits.{members-below}
 use Rattle.job.specs.Job.{Job}
-use Rattle.lines.specs.Lines.{Kind}
+use Rattle.lines.specs.Lines.{LineKind}
 use Rattle.lines.specs.Written.{BadLine, ended, malformed, outside}
 use Rattle.jobfile.specs.File.{Answer, accepted, turned, maxFile, readJob}
 use Rattle.jobfile.specs.Refusal.{TurnedBack, too-long, at-head, at-rule, at-node, at-edge, bytes-follow, no-entry}
@@ -94,7 +94,7 @@ long-enough work size other least h g =
 -- ---- what is left of the work buffer
 
 -- a line is turned back by 3 or more
-bad-past : {k : Kind} {i r : ℕ} {before bytes : List ℕ} → 3 ≤ k .refusal → BadLine k i before bytes r → 3 ≤ r
+bad-past : {k : LineKind} {i r : ℕ} {before bytes : List ℕ} → 3 ≤ k .refusal → BadLine k i before bytes r → 3 ≤ r
 bad-past low (ended none) = omega arith
 bad-past low (malformed some none) = omega arith
 bad-past low (outside l bad) = low

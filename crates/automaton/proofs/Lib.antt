@@ -1,3 +1,4 @@
 -- The laws that other crates cite.
 -- Assumes nothing.
 pub mod AutomatonLaws
+pub mod TableLaws

@@ -1,24 +1,16 @@
 -- The whole table of the rule has the cells that the buffer holds.
 -- Assumes nothing.
 use mathlib.Core.Path.{_≡_, sym, ap, _∙_}
-use mathlib.Core.List.{List, []}
+use mathlib.Core.List.{List}
 use Prim.Native.Nat.{ℕ, _+_, _*_, _<_}
 use native.Mathlib.Nat.{add-assoc}
 use native.Mathlib.Omega.{arith}
 use lib.ListN.{getD, take, drop}
 use lib.Seq.{getD-take, getD-drop}
-use Rattle.laws.proofs.Bounded.{getD-tab}
 use Rattle.automaton.specs.Automaton.{cell}
-use Rattle.automaton.specs.Table.{rowOf, tableOf}
+use Rattle.automaton.proofs.TableLaws.{table-cell}
 use Rattle.buffer.specs.Layout.{rulePart}
 use Rattle.buffer.specs.Views.{cellIn, ruleRowsIn}
-
--- a cell of a table of bytes
-table-cell : (l : List ℕ) (q a : ℕ) → q < 16 → a < 16 → cell (tableOf l) q a ≡ getD l (q * 16 + a) 0
-unfolding cell tableOf rowOf
-table-cell l q a h k =
-    ap (λ (r : List ℕ). getD r a 0) (getD-tab 16 (λ (p : ℕ). rowOf l (p * 16)) q [] h)
-    ∙ getD-tab 16 (λ (c : ℕ). getD l (q * 16 + c) 0) a 0 k
 
 -- a cell of the whole table
 pub rule-cell : (work : List ℕ) (q a : ℕ) → q < 16 → a < 16 → cell (ruleRowsIn work) q a ≡ cellIn work q a

@@ -6,7 +6,7 @@ use mathlib.Core.Logic.{_⊎_, inl, inr}
 use mathlib.Core.List.{List}
 use native.Mathlib.Omega.{arith}
 use Rattle.job.specs.Job.{Job}
-use Rattle.lines.specs.Lines.{Kind}
+use Rattle.lines.specs.Lines.{LineKind}
 use Rattle.jobfile.specs.File.{headLine, ruleLine, nodeLine, edgeLine, Answer, accepted, turned, readJob}
 use Rattle.lines.specs.Written.{BadLine, ended, malformed, outside}
 use Rattle.jobfile.specs.Refusal.{TurnedBack, too-long, at-head, at-rule, at-node, at-edge, bytes-follow, no-entry, RefusalNumber, RefusesInOrder, AnswersEveryFile, TurnedOnce, TurnedNotAccepted}
@@ -23,7 +23,7 @@ refuses-in-order = turned-says
 
 -- a line is turned back by 3, 4 or its kind's own number
 bad-number
-    : {k : Kind} {i r : ℕ} {before bytes : List ℕ} → 3 ≤ k .refusal → k .refusal ≤ 10 → BadLine k i before bytes r
+    : {k : LineKind} {i r : ℕ} {before bytes : List ℕ} → 3 ≤ k .refusal → k .refusal ≤ 10 → BadLine k i before bytes r
     → RefusalNumber r
 bad-number low high (ended none) = inr (omega arith)
 bad-number low high (malformed some none) = inr (omega arith)

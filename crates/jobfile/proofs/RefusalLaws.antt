@@ -12,7 +12,7 @@ use lib.ListN.{length, getD}
 use borrow.Author.Tests.{lt-ltb, le-ltb, ltb-true, ltb-false, eqb-true, eqb-false, not-true, not-false}
 use Rattle.laws.proofs.Tests.{passes-or-fails, fails-of, or-passes}
 use Rattle.job.specs.Job.{Node, Job, noNode}
-use Rattle.lines.specs.Lines.{Kind, Lines, lines, refused, linesOf}
+use Rattle.lines.specs.Lines.{LineKind, Lines, lines, refused, linesOf}
 use Rattle.jobfile.specs.File.{maxFile, headLine, ruleLine, nodeLine, edgeLine, nodeOf, someEntry, Answer, accepted, turned, onLines, atEnd, readRest, headOf, readJob, jobOf}
 use Rattle.lines.specs.Line.{at}
 use Rattle.lines.specs.Written.{LinesAt, FirstBad}
@@ -155,7 +155,7 @@ module _ (file : List ℕ) where
 
   -- lines of one kind, and what is done with them
   grounds-lines
-      : (k : Kind) (c : ℕ) (from : List ℕ) (f : List (List ℕ) → List ℕ → Answer)
+      : (k : LineKind) (c : ℕ) (from : List ℕ) (f : List (List ℕ) → List ℕ → Answer)
       → ((ls : List (List ℕ)) (rest : List ℕ) → LinesAt k c 0 [] from ls rest → Grounds (f ls rest))
       → ((r : ℕ) → FirstBad k c 0 [] from r → TurnedBack file r) → Grounds (onLines (linesOf k c 0 [] from) f)
   grounds-lines k c from f good bad = go (linesOf k c 0 [] from) refl

@@ -10,7 +10,7 @@ use Rattle.laws.specs.Bits.{has, with}
 use Rattle.automaton.specs.Automaton.{Automaton}
 use Rattle.job.specs.Job.{kindOf, kindNumber, valueNumber, Node, Edge, Job}
 use Rattle.lines.specs.Line.{line, at}
-use Rattle.lines.specs.Lines.{Kind, Lines, lines, refused, linesOf}
+use Rattle.lines.specs.Lines.{LineKind, Lines, lines, refused, linesOf}
 
 -- the longest file
 abbrev pub maxFile : ℕ
@@ -24,7 +24,7 @@ goodHead i before ns =
     leb 1 (at ns 0) && leb (at ns 0) 16 && leb 1 (at ns 1) && leb (at ns 1) 16 && leb 1 (at ns 2) && leb (at ns 2) 512 && leb (at ns 3) 2048
 
 -- J lines
-abbrev pub headLine : Kind
+abbrev pub headLine : LineKind
 headLine = record { letter = 74; count = 4; refusal = 5; good = goodHead }
 
 -- "R, one per state in order: state, final 0 or 1, then A next states"; 6: "a state out of order, a final mark above 1, or a next
@@ -33,7 +33,7 @@ abbrev pub goodRule : ℕ → ℕ → ℕ → List ℕ → List ℕ → Bool
 goodRule s a i before ns = eqb (at ns 0) i && leb (at ns 1) 1 && allBelow a (λ c. ltb (at ns (c + 2)) s)
 
 -- R lines of a job of s states and a symbols
-abbrev pub ruleLine : ℕ → ℕ → Kind
+abbrev pub ruleLine : ℕ → ℕ → LineKind
 ruleLine s a = record { letter = 82; count = a + 2; refusal = 6; good = goodRule s a }
 
 -- "value (0, symbol or set)" names what the job has, and is 0 at kind 0; a kind is 0 to 2
@@ -52,7 +52,7 @@ goodNode s a i before ns =
     && (eqb (at ns 4) 1 || eqb (at ns 5) 0)
 
 -- P lines of such a job
-abbrev pub nodeLine : ℕ → ℕ → Kind
+abbrev pub nodeLine : ℕ → ℕ → LineKind
 nodeLine s a = record { letter = 80; count = 6; refusal = 7; good = goodNode s a }
 
 -- "strictly ascending by from, then to": the line's numbers after those of the line before, if there is one
@@ -65,7 +65,7 @@ abbrev pub goodEdge : ℕ → ℕ → List ℕ → List ℕ → Bool
 goodEdge n i before ns = ltb (at ns 0) n && ltb (at ns 1) n && ascends before ns
 
 -- F lines of a job of n nodes
-abbrev pub edgeLine : ℕ → Kind
+abbrev pub edgeLine : ℕ → LineKind
 edgeLine n = record { letter = 70; count = 2; refusal = 8; good = goodEdge n }
 
 -- ---- the job of the lines

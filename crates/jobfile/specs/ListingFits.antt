@@ -9,7 +9,7 @@ use lib.ListN.{length, getD}
 use Rattle.job.specs.Job.{Job}
 use Rattle.planning.specs.Listing.{listingOf}
 use Rattle.lines.specs.Line.{found, lineOf}
-use Rattle.lines.specs.Lines.{Kind, lines, linesOf}
+use Rattle.lines.specs.Lines.{LineKind, lines, linesOf}
 use Rattle.lines.specs.Written.{Fits}
 use Rattle.jobfile.specs.File.{turned, readJob}
 use Rattle.jobfile.specs.ListingLines.{shadowNumbers, totalNumbers, totalBytes, listingBytes, refusedBytes}
@@ -29,7 +29,7 @@ pub record ListingFits : Type 0 where
   pub turned-back : (file : List ℕ) (k : ℕ) → readJob file ≡ turned k → k ≤ maxRefusal
 
 -- W lines, whatever their numbers
-abbrev pub shadowKind : Kind
+abbrev pub shadowKind : LineKind
 shadowKind = record { letter = 87; count = 6; refusal = 4; good = λ i before ns. true }
 
 -- the statement: what is printed is read back, line by line, as the listing's numbers

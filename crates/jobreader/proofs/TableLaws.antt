@@ -2,16 +2,12 @@
 -- Assumes nothing.
 use mathlib.Core.Path.{_≡_, refl, sym, ap, _∙_}
 use mathlib.Core.List.{List, []}
-use Prim.Native.Nat.{ℕ, _+_, _*_, _<_}
-use native.Mathlib.Nat.{add-assoc}
+use Prim.Native.Nat.{ℕ, _<_}
 use native.Mathlib.Omega.{arith}
-use lib.ListN.{getD, take, drop}
-use lib.Seq.{getD-take, getD-drop}
+use lib.ListN.{getD}
 use Rattle.laws.specs.Bounded.{tab}
 use Rattle.laws.proofs.Bounded.{getD-tab}
 use Rattle.automaton.specs.Automaton.{cell}
-use Rattle.automaton.specs.Table.{rowOf, tableOf}
-use Rattle.buffer.specs.Layout.{rulePart}
 use Rattle.buffer.specs.Views.{cellIn, tableIn}
 use Rattle.buffer.proofs.ViewLaws.{rule-cell}
 use Rattle.jobreader.specs.Rule.{HandsOverRule}

@@ -1,5 +1,4 @@
 // Reading a whole job file into the work buffer.
-ghost use Prim.Native.Nat.{_≤_};
 ghost use Rattle.buffer.specs.Layout.{Lent};
 ghost use Rattle.jobhead.specs.Reading.{FileRead};
 use jobhead::head::Head;

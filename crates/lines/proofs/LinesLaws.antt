@@ -17,7 +17,7 @@ use Rattle.lines.specs.declared.field.Field.{Field}
 use Rattle.lines.specs.declared.field.Field.the-variants.{Number, Malformed}
 use Rattle.lines.specs.Inner.{dueStatus, DueRead}
 use Rattle.lines.specs.Line.{fieldOf, Numbers, numbers, no-numbers, consField, fieldsOf, Due, ends, no-line, found, foundIn, lineLength, lineOf}
-use Rattle.lines.specs.Lines.{Kind, Lines, lines, refused, consLine, onDue, linesOf}
+use Rattle.lines.specs.Lines.{LineKind, Lines, lines, refused, consLine, onDue, linesOf}
 use Rattle.lines.specs.Places.{numbersOf, statusOf, dueAt, numbersAt, beforeAt, statusAt, refusalIn, LinesRead}
 
 -- ---- one line
@@ -37,7 +37,7 @@ cond-some-number false r h = refl
 
 -- a line that passes is followed by the others
 step-good
-    : (k : Kind) (i : ℕ) (before : List ℕ) (d : Due) (f : List ℕ → Lines) → 0 < k .refusal → statusOf k i before d ≡ 0
+    : (k : LineKind) (i : ℕ) (before : List ℕ) (d : Due) (f : List ℕ → Lines) → 0 < k .refusal → statusOf k i before d ≡ 0
     → onDue d (λ ns. cond (k .good i before ns) (f ns) (refused (k .refusal))) ≡ f (numbersOf d)
 step-good k i before ends f h e = absurd (omega arith)
 step-good k i before no-line f h e = absurd (omega arith)
@@ -45,7 +45,7 @@ step-good k i before (found ns) f h e = cond-zero (k .good i before ns) (k .refu
 
 -- a line that does not is the end
 step-bad
-    : (k : Kind) (i : ℕ) (before : List ℕ) (d : Due) (f : List ℕ → Lines) → (statusOf k i before d ≡ 0 → ⊥)
+    : (k : LineKind) (i : ℕ) (before : List ℕ) (d : Due) (f : List ℕ → Lines) → (statusOf k i before d ≡ 0 → ⊥)
     → onDue d (λ ns. cond (k .good i before ns) (f ns) (refused (k .refusal))) ≡ refused (statusOf k i before d)
 step-bad k i before ends f h = refl
 step-bad k i before no-line f h = refl
@@ -54,7 +54,7 @@ step-bad k i before (found ns) f h =
     ∙ ap refused (sym (cond-some-number (k .good i before ns) (k .refusal) h))
 
 -- the bytes past a line
-past-line : (k : Kind) (bytes : List ℕ) (i : ℕ)
+past-line : (k : LineKind) (bytes : List ℕ) (i : ℕ)
     → drop (lineLength (k .count)) (drop (i * lineLength (k .count)) bytes) ≡ drop (suc i * lineLength (k .count)) bytes
 past-line k bytes i =
     let e : i * lineLength (k .count) + lineLength (k .count) ≡ suc i * lineLength (k .count) = sym (suc-mul i (lineLength (k .count))) in
@@ -63,7 +63,7 @@ past-line k bytes i =
 -- ---- all of them
 
 lines-from
-    : (k : Kind) (bytes : List ℕ) (c i : ℕ) → 0 < k .refusal → ((j : ℕ) → i ≤ j → j < i + c → statusAt k bytes j ≡ 0)
+    : (k : LineKind) (bytes : List ℕ) (c i : ℕ) → 0 < k .refusal → ((j : ℕ) → i ≤ j → j < i + c → statusAt k bytes j ≡ 0)
     → linesOf k c i (beforeAt k bytes i) (drop (i * lineLength (k .count)) bytes)
     ≡ lines (tabFrom i c (numbersAt k bytes)) (drop ((i + c) * lineLength (k .count)) bytes)
 unfolding linesOf tabFrom statusAt dueAt numbersAt beforeAt
@@ -76,7 +76,7 @@ lines-from k bytes (suc c) i h p =
 
 -- lines that all pass
 pub lines-all
-    : (k : Kind) (bytes : List ℕ) (c : ℕ) → 0 < k .refusal → ((j : ℕ) → j < c → statusAt k bytes j ≡ 0)
+    : (k : LineKind) (bytes : List ℕ) (c : ℕ) → 0 < k .refusal → ((j : ℕ) → j < c → statusAt k bytes j ≡ 0)
     → linesOf k c 0 [] bytes ≡ lines (tab c (numbersAt k bytes)) (drop (c * lineLength (k .count)) bytes)
 unfolding tab beforeAt
 lines-all k bytes c h p =
@@ -86,7 +86,7 @@ lines-all k bytes c h p =
 -- ---- the first that does not pass
 
 lines-stop-from
-    : (k : Kind) (bytes : List ℕ) (c i m : ℕ) → 0 < k .refusal → i ≤ m → m < i + c → ((j : ℕ) → i ≤ j → j < m → statusAt k bytes j ≡ 0)
+    : (k : LineKind) (bytes : List ℕ) (c i m : ℕ) → 0 < k .refusal → i ≤ m → m < i + c → ((j : ℕ) → i ≤ j → j < m → statusAt k bytes j ≡ 0)
     → (statusAt k bytes m ≡ 0 → ⊥)
     → linesOf k c i (beforeAt k bytes i) (drop (i * lineLength (k .count)) bytes) ≡ refused (statusAt k bytes m)
 unfolding linesOf statusAt dueAt numbersAt beforeAt
@@ -106,7 +106,7 @@ lines-stop-from k bytes (suc c) i m h a b p q =
 
 -- lines of which m is the first that does not pass
 pub lines-stop
-    : (k : Kind) (bytes : List ℕ) (c m : ℕ) → 0 < k .refusal → m < c → ((j : ℕ) → j < m → statusAt k bytes j ≡ 0)
+    : (k : LineKind) (bytes : List ℕ) (c m : ℕ) → 0 < k .refusal → m < c → ((j : ℕ) → j < m → statusAt k bytes j ≡ 0)
     → (statusAt k bytes m ≡ 0 → ⊥) → linesOf k c 0 [] bytes ≡ refused (statusAt k bytes m)
 unfolding beforeAt
 lines-stop k bytes c m h b p q =
@@ -117,14 +117,14 @@ lines-stop k bytes c m h b p q =
 
 -- one line more has passed
 pub passed-more
-    : (k : Kind) (bytes : List ℕ) (i : ℕ) → ((j : ℕ) → j < i → statusAt k bytes j ≡ 0) → statusAt k bytes i ≡ 0
+    : (k : LineKind) (bytes : List ℕ) (i : ℕ) → ((j : ℕ) → j < i → statusAt k bytes j ≡ 0) → statusAt k bytes i ≡ 0
     → (j : ℕ) → j < i + 1 → statusAt k bytes j ≡ 0
 passed-more k bytes i p q j h =
     ⊎-elim (λ (e : j ≡ i). rw e q) (λ (e : j < i). p j e) (eq-or-lt-of-le (le-of-suc-le-suc (rw (add-one i) at h)))
 
 -- a loop left at its bound
 pub read-all
-    : (k : Kind) (bytes : List ℕ) (c i : ℕ) → i ≡ c → 0 < k .refusal → ((j : ℕ) → j < i → statusAt k bytes j ≡ 0)
+    : (k : LineKind) (bytes : List ℕ) (c i : ℕ) → i ≡ c → 0 < k .refusal → ((j : ℕ) → j < i → statusAt k bytes j ≡ 0)
     → i * lineLength (k .count) ≤ length bytes → LinesRead k bytes c 0
 read-all k bytes c i e h p w = record {
   refusal = rw (lines-all k bytes c h (λ j l. p j (omega arith)));
@@ -134,7 +134,7 @@ read-all k bytes c i e h p w = record {
 
 -- a loop left at a line that does not pass
 pub read-stop
-    : (k : Kind) (bytes : List ℕ) (c i s : ℕ) → i < c → 0 < k .refusal → ((j : ℕ) → j < i → statusAt k bytes j ≡ 0)
+    : (k : LineKind) (bytes : List ℕ) (c i s : ℕ) → i < c → 0 < k .refusal → ((j : ℕ) → j < i → statusAt k bytes j ≡ 0)
     → s ≡ statusAt k bytes i → (s ≡ 0 → ⊥) → LinesRead k bytes c s
 read-stop k bytes c i s l h p e q = record {
   refusal = e ∙ sym (ap refusalIn (lines-stop k bytes c i h l p (λ z. q (e ∙ z))));
@@ -145,13 +145,13 @@ read-stop k bytes c i s l h p e q = record {
 -- ---- a line that is read into lent numbers
 
 -- nothing, or no line
-stops : (k : Kind) (i : ℕ) (before : List ℕ) (d : Due) → (dueStatus d ≡ 0 → ⊥) → dueStatus d ≡ statusOf k i before d
+stops : (k : LineKind) (i : ℕ) (before : List ℕ) (d : Due) → (dueStatus d ≡ 0 → ⊥) → dueStatus d ≡ statusOf k i before d
 stops k i before ends q = refl
 stops k i before no-line q = refl
 stops k i before (found ns) q = absurd (q refl)
 
 -- a line, whose numbers decide
-tested : (k : Kind) (i : ℕ) (before : List ℕ) (d : Due) → dueStatus d ≡ 0 → cond (k .good i before (numbersOf d)) 0 (k .refusal) ≡ statusOf k i before d
+tested : (k : LineKind) (i : ℕ) (before : List ℕ) (d : Due) → dueStatus d ≡ 0 → cond (k .good i before (numbersOf d)) 0 (k .refusal) ≡ statusOf k i before d
 tested k i before ends e = absurd (omega arith)
 tested k i before no-line e = absurd (omega arith)
 tested k i before (found ns) e = refl
@@ -181,7 +181,7 @@ zeros-past [] n k i = getD-drop k (replicate n 0) i 0 ∙ zero-at n (k + i)
 zeros-past (x ∷ ns) n k zero = refl
 zeros-past (x ∷ ns) n k (suc i) = zeros-past ns n k i
 
-module _ (k : Kind) (i : ℕ) (before bytes : List ℕ) {l m : List ℕ} {r : ℕ} (e : DueRead (lineOf (k .letter) (k .count) bytes) (k .count) l m r) where
+module _ (k : LineKind) (i : ℕ) (before bytes : List ℕ) {l m : List ℕ} {r : ℕ} (e : DueRead (lineOf (k .letter) (k .count) bytes) (k .count) l m r) where
   -- what is due
   abbrev due : Due
   due = lineOf (k .letter) (k .count) bytes
@@ -213,14 +213,14 @@ module _ (k : Kind) (i : ℕ) (before bytes : List ℕ) {l m : List ℕ} {r : �
 
 -- a test that gives the same at another place and after another line
 status-test
-    : (k : Kind) (i j : ℕ) (b c : List ℕ) (d : Due) → ((ns : List ℕ) → k .good i b ns ≡ k .good j c ns) → statusOf k i b d ≡ statusOf k j c d
+    : (k : LineKind) (i j : ℕ) (b c : List ℕ) (d : Due) → ((ns : List ℕ) → k .good i b ns ≡ k .good j c ns) → statusOf k i b d ≡ statusOf k j c d
 status-test k i j b c ends h = refl
 status-test k i j b c no-line h = refl
 status-test k i j b c (found ns) h = rw (h ns)
 
 -- ---- a line of the file, at its place among those that begin at `start`
 
-module _ (k : Kind) (file : List ℕ) (start i : ℕ) where
+module _ (k : LineKind) (file : List ℕ) (start i : ℕ) where
   -- the bytes from there on
   place : drop (i * lineLength (k .count)) (drop start file) ≡ drop (start + i * lineLength (k .count)) file
   place = drop-drop (i * lineLength (k .count)) start file
@@ -280,13 +280,13 @@ due-length letter k (b ∷ bs) e =
     (found-long (fieldsOf k bs) k (fields-long k bs)) e
 
 -- a line that passes is there
-passing-line : (k : Kind) (i : ℕ) (before : List ℕ) (d : Due) → statusOf k i before d ≡ 0 → dueStatus d ≡ 0
+passing-line : (k : LineKind) (i : ℕ) (before : List ℕ) (d : Due) → statusOf k i before d ≡ 0 → dueStatus d ≡ 0
 passing-line k i before ends e = absurd (omega arith)
 passing-line k i before no-line e = absurd (omega arith)
 passing-line k i before (found ns) e = refl
 
 -- so has a line that passes
-pub passed-length : (k : Kind) (bytes : List ℕ) (i : ℕ) → statusAt k bytes i ≡ 0 → length (numbersAt k bytes i) ≡ k .count
+pub passed-length : (k : LineKind) (bytes : List ℕ) (i : ℕ) → statusAt k bytes i ≡ 0 → length (numbersAt k bytes i) ≡ k .count
 unfolding statusAt dueAt numbersAt beforeAt
 passed-length k bytes i e =
     due-length (k .letter) (k .count) (drop (i * lineLength (k .count)) bytes)

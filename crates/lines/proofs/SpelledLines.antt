@@ -10,13 +10,13 @@ use native.Mathlib.Nat.{add-zero, suc-add, add-suc, zero-mul, suc-mul}
 use native.Mathlib.Omega.{arith}
 use lib.ListN.{length, drop, length-append}
 use Rattle.lines.specs.Line.{line, Due, ends, no-line, found, lineLength, lineOf, writeLines}
-use Rattle.lines.specs.Lines.{Kind, Lines, lines, refused, consLine, onDue, linesOf}
+use Rattle.lines.specs.Lines.{LineKind, Lines, lines, refused, consLine, onDue, linesOf}
 use Rattle.lines.specs.Written.{LineAt, GoodLines, good-none, good-more, LinesAt, BadLine, ended, malformed, outside, lastOf, FirstBad}
 use Rattle.lines.proofs.SpelledLine.{line-length, line-read, line-exact, line-drop, ends-says}
 
 -- ---- the line due
 
-module _ (k : Kind) (bytes : List ℕ) where
+module _ (k : LineKind) (bytes : List ℕ) where
   -- what is found is a line
   pub found-line
       : (ns : List ℕ) → lineOf (k .letter) (k .count) bytes ≡ found ns → LineAt k bytes ns (drop (lineLength (k .count)) bytes)
@@ -51,7 +51,7 @@ module _ (k : Kind) (bytes : List ℕ) where
 
 -- ---- from the lines to what is read
 
-module _ (k : Kind) where
+module _ (k : LineKind) where
   -- one line more is written
   write-cons : (ns : List ℕ) (ls : List (List ℕ)) (rest : List ℕ)
       → writeLines (k .letter) (ns ∷ ls) ++ rest ≡ line (k .letter) ns ++ (writeLines (k .letter) ls ++ rest)

@@ -8,7 +8,7 @@ use Rattle.lines.specs.Line.{Due, ends, no-line, found, lineLength, line
 
 -- lines of one letter: how many fields they have, the number of their own refusal, and the test of a line's numbers,
 -- given its place among them and the numbers of the line before it
-pub record Kind : Type 0 where
+pub record LineKind : Type 0 where
   pub letter : ℕ
   pub count : ℕ
   pub refusal : ℕ
@@ -31,7 +31,7 @@ onDue no-line f = refused 4
 onDue (found ns) f = f ns
 
 -- so many lines of a kind, from place i on, after a line with the numbers `before`
-unfoldable pub linesOf : Kind → ℕ → ℕ → List ℕ → List ℕ → Lines
+unfoldable pub linesOf : LineKind → ℕ → ℕ → List ℕ → List ℕ → Lines
 linesOf k zero i before bytes = lines [] bytes
 linesOf k (suc c) i before bytes =
     onDue (lineOf (k .letter) (k .count) bytes)

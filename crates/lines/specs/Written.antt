@@ -9,33 +9,33 @@ use Prim.Native.Nat.{ℕ, suc, _+_, _<_}
 use lib.ListN.{length, drop}
 use Rattle.lines.specs.declared.field.Field.the-variants.{Number}
 use Rattle.lines.specs.Line.{field, line, writeLines, at, fieldOf, found, lineLength, lineOf}
-use Rattle.lines.specs.Lines.{Kind}
+use Rattle.lines.specs.Lines.{LineKind}
 
 -- numbers of at most six digits; past the last one `at` is 0
 abbrev pub Fits : List ℕ → Type 0
 Fits ns = (i : ℕ) → at ns i < 1000000
 
 -- the bytes begin with a line of the kind, "its letter, its fields and its end byte", and the rest follows it
-pub record LineAt (k : Kind) (bytes ns rest : List ℕ) : Type 0 where
+pub record LineAt (k : LineKind) (bytes ns rest : List ℕ) : Type 0 where
   pub count : length ns ≡ k .count
   pub fits : Fits ns
   pub spelled : bytes ≡ line (k .letter) ns ++ rest
 
 -- good lines in turn, from place i on, after a line with the numbers `before`
-pub data GoodLines (k : Kind) : ℕ → List ℕ → List (List ℕ) → Type 0 where
+pub data GoodLines (k : LineKind) : ℕ → List ℕ → List (List ℕ) → Type 0 where
   good-none : {i : ℕ} {before : List ℕ} → GoodLines k i before []
   good-more
       : {i : ℕ} {before ns : List ℕ} {ls : List (List ℕ)} → length ns ≡ k .count → Fits ns → k .good i before ns ≡ true
       → GoodLines k (suc i) ns ls → GoodLines k i before (ns ∷ ls)
 
 -- the bytes begin with c good lines, and the rest follows them
-pub record LinesAt (k : Kind) (c i : ℕ) (before bytes : List ℕ) (ls : List (List ℕ)) (rest : List ℕ) : Type 0 where
+pub record LinesAt (k : LineKind) (c i : ℕ) (before bytes : List ℕ) (ls : List (List ℕ)) (rest : List ℕ) : Type 0 where
   pub count : length ls ≡ c
   pub good : GoodLines k i before ls
   pub spelled : bytes ≡ writeLines (k .letter) ls ++ rest
 
 -- why the line due at the start of the bytes is turned back
-pub data BadLine (k : Kind) (i : ℕ) (before bytes : List ℕ) : ℕ → Type 0 where
+pub data BadLine (k : LineKind) (i : ℕ) (before bytes : List ℕ) : ℕ → Type 0 where
   -- 3: "the file ends where a line is due"
   ended : bytes ≡ [] → BadLine k i before bytes 3
   -- 4: "the line due has not its letter, its fields or its end byte"
@@ -49,7 +49,7 @@ lastOf before [] = before
 lastOf before (ns ∷ ls) = lastOf ns ls
 
 -- of c lines due, the first that is turned back: those passed before it are good
-pub record FirstBad (k : Kind) (c i : ℕ) (before bytes : List ℕ) (r : ℕ) : Type 0 where
+pub record FirstBad (k : LineKind) (c i : ℕ) (before bytes : List ℕ) (r : ℕ) : Type 0 where
   pub passed : List (List ℕ)
   pub due : List ℕ
   pub few : length passed < c

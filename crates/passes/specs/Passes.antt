@@ -2,11 +2,9 @@
 -- Inner contracts: what functions ask of and leave to each other. No promise is stated in them; a reader need not believe them.
 -- Assumes nothing.
 use mathlib.Core.Path.{_≡_}
-use mathlib.Core.Logic.{_⊎_}
 use mathlib.Core.Bool.{cond}
 use mathlib.Core.List.{List}
 use Prim.Native.Nat.{ℕ, _≤_, _<_}
-use lib.ListN.{take, drop}
 use Rattle.job.specs.Job.{Job}
 use Rattle.planning.specs.Planning.{allEnabled, tried, passed, enabledCount}
 use Rattle.planning.specs.Listing.{planOf}

@@ -17,11 +17,12 @@ use Rattle.laws.proofs.Bounded.{length-tab, getD-tab}
 use Rattle.laws.proofs.Bits.{below-says}
 use Rattle.laws.proofs.Bytes.{byte-lt}
 use Rattle.automaton.specs.Automaton.{Automaton, cell, WellFormed, SameRule}
-use Rattle.automaton.specs.Table.{rowOf, tableOf}
+use Rattle.automaton.specs.Table.{tableOf}
 use Rattle.events.specs.Monitor.{refusedWith, taken}
 use Rattle.events.specs.Form.{Given, GivenFits, GivenIs, valueForm, lentForm}
 use Rattle.events.specs.declared.Record.{Record}
 use Rattle.events.proofs.MonitorLaws.{record-with, taken-13}
+use Rattle.automaton.proofs.TableLaws.{table-cell, table-rows, table-columns}
 use Rattle.events.proofs.FormLaws.{refuses}
 use Rattle.twomonitors.specs.Monitors.{RecordsExist, RefusedExist}
 use Rattle.twomonitors.proofs.MonitorsMore.{FormGives}
@@ -31,24 +32,6 @@ use Rattle.eventbytes.proofs.EventLaws.{rule-of, rule-none}
 use Rattle.eventbytes.proofs.FormLaws.{record-bytes-length}
 
 -- ---- the rule as bytes
-
--- a cell of the table that bytes spell
-table-cell : (l : List ℕ) (q a : ℕ) → q < 16 → a < 16 → cell (tableOf l) q a ≡ getD l (q * 16 + a) 0
-unfolding cell tableOf rowOf
-table-cell l q a h k =
-    ap (λ (r : List ℕ). getD r a 0) (getD-tab 16 (λ (p : ℕ). rowOf l (p * 16)) q [] h)
-    ∙ getD-tab 16 (λ (b : ℕ). getD l (q * 16 + b) 0) a 0 k
-
--- the table has sixteen rows
-table-rows : (l : List ℕ) → length (tableOf l) ≡ 16
-unfolding tableOf
-table-rows l = length-tab 16 (λ (q : ℕ). rowOf l (q * 16))
-
--- of sixteen
-table-columns : (l : List ℕ) (q : ℕ) → q < 16 → length (getD (tableOf l) q []) ≡ 16
-unfolding tableOf rowOf
-table-columns l q h =
-    ap length (getD-tab 16 (λ (p : ℕ). rowOf l (p * 16)) q [] h) ∙ length-tab 16 (λ (a : ℕ). getD l (q * 16 + a) 0)
 
 -- the byte of a state and a symbol
 cellByte : Automaton → ℕ → ℕ → ℕ

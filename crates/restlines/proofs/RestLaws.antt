@@ -18,7 +18,7 @@ use Rattle.job.specs.Job.{Job}
 use Rattle.jobhead.specs.declared.head.Head.{Head}
 use Rattle.lines.specs.declared.line.Collected.{Collected}
 use Rattle.lines.specs.Line.{lineLength, at}
-use Rattle.lines.specs.Lines.{Kind, Lines, lines, refused, linesOf}
+use Rattle.lines.specs.Lines.{LineKind, Lines, lines, refused, linesOf}
 use Rattle.jobfile.specs.File.{ruleLine, nodeLine, edgeLine, ruleOf, nodeOf, edgeOf, someEntry, Answer, accepted, turned, atEnd, readRest}
 use Rattle.buffer.specs.Layout.{startsPart, pairPart, rulePart, marksPart}
 use Rattle.buffer.specs.Views.{nodeIn, cellIn}
@@ -54,7 +54,7 @@ refused-is (refused j) k e q = ap refused (sym e)
 
 -- lines that were read, with the rest by its place in the file
 lines-are
-    : (k : Kind) (file : List ℕ) (start c : ℕ) → 0 < k .refusal → LinesRead k (drop start file) c 0
+    : (k : LineKind) (file : List ℕ) (start c : ℕ) → 0 < k .refusal → LinesRead k (drop start file) c 0
     → linesOf k c 0 [] (drop start file) ≡ lines (tab c (numbersAt k (drop start file))) (drop (start + c * lineLength (k .count)) file)
 lines-are k file start c h x =
     lines-all k (drop start file) c h (x .passed refl)
@@ -229,5 +229,5 @@ module _ (s a n e : ℕ) (file : List ℕ) where
     accepted-read k z is = rw z (job-read is)
 
 -- lines that were read
-pub read-zero : (k : Kind) (bytes : List ℕ) (c status : ℕ) → LinesRead k bytes c status → status ≡ 0 → LinesRead k bytes c 0
+pub read-zero : (k : LineKind) (bytes : List ℕ) (c status : ℕ) → LinesRead k bytes c status → status ≡ 0 → LinesRead k bytes c 0
 read-zero k bytes c status x e = subst (λ (v : ℕ). LinesRead k bytes c v) e x

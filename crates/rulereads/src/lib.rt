@@ -1,6 +1,5 @@
 // The rule's table out of the work buffer.
 ghost use mathlib.Core.Path.{_≡_};
-ghost use Prim.Native.Nat.{_≤_};
 ghost use Rattle.buffer.specs.Layout.{Lent};
 ghost use Rattle.buffer.specs.Views.{ruleRowsIn};
 use buffer::MARKS;
