@@ -15,7 +15,7 @@ use Rattle.jobhead.specs.Stored.{NodeStored}
 use Rattle.framing.specs.Framing.{collected}
 use Rattle.jobhead.specs.ReadLines.{NodeRead}
 use Rattle.lines.proofs.LinesLaws.{due-stops, due-tested, due-whole, due-long}
-use Rattle.nodestore.proofs.NodeLaws.{node-fits}
+use Rattle.nodetest.proofs.NodeTestLaws.{node-fits}
 use Rattle.buffer.proofs.KeptLaws.{kept-none}
 
 module _ (s a n : ℕ) (bytes l : List ℕ) where

@@ -6,8 +6,8 @@ ghost use Rattle.jobhead.specs.ReadLines.{NodeRead};
 use duelines::due_line;
 use framing::refused;
 use lines::line::Collected;
-use nodestore::is_node;
 use nodestore::store_node;
+use nodetest::is_node;
 
 // Reads the P line at `at` as node n: 3, 4 or 7, or its entry set, and the node is stored.
 pub fn node_line(

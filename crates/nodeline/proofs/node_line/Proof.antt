@@ -3,7 +3,7 @@
 use mathlib.Core.Path.{sym, _∙_}
 use borrow.Author.Needs.{needs}
 use lib.ListN.{drop}
-use Rattle.nodestore.proofs.NodeLaws.{node-fits}
+use Rattle.nodetest.proofs.NodeTestLaws.{node-fits}
 use Rattle.nodeline.proofs.NodeLineLaws.{node-stop, node-fails, node-passes}
 use Rattle.nodeline.proofs.node_line.Statement.{statement}
 use Rattle.nodeline.proofs.node_line.Tie as tie

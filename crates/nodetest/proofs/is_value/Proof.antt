@@ -1,10 +1,10 @@
--- `nodestore::is_value` meets its contract, by cases on the kind.
+-- `nodetest::is_value` meets its contract, by cases on the kind.
 -- Assumes nothing.
 use mathlib.Core.Path.{sym}
 use borrow.Author.Needs.{needs}
-use Rattle.nodestore.proofs.NodeLaws.{shr-test, value-none}
-use Rattle.nodestore.proofs.is_value.Statement.{statement}
-use Rattle.nodestore.proofs.is_value.Tie as tie
+use Rattle.nodetest.proofs.NodeTestLaws.{shr-test, value-none}
+use Rattle.nodetest.proofs.is_value.Statement.{statement}
+use Rattle.nodetest.proofs.is_value.Tie as tie
 
 returns : tie.Need-returns
 returns c = rw (c .if1 .taken)

@@ -1,10 +1,10 @@
--- `nodestore::is_node` meets its contract: each test that fails denies one part of `goodNode`.
+-- `nodetest::is_node` meets its contract: each test that fails denies one part of `goodNode`.
 -- Assumes nothing.
 use mathlib.Core.Path.{sym, _∙_}
 use borrow.Author.Needs.{needs}
-use Rattle.nodestore.proofs.NodeLaws.{node-place, node-value, node-entries, node-exits, node-after, node-exit, node-inner}
-use Rattle.nodestore.proofs.is_node.Statement.{statement}
-use Rattle.nodestore.proofs.is_node.Tie as tie
+use Rattle.nodetest.proofs.NodeTestLaws.{node-place, node-value, node-entries, node-exits, node-after, node-exit, node-inner}
+use Rattle.nodetest.proofs.is_node.Statement.{statement}
+use Rattle.nodetest.proofs.is_node.Tie as tie
 
 element-copy-out-entries : tie.Need-element-copy-out-entries
 element-copy-out-entries c = search needs
