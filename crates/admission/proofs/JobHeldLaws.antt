@@ -21,7 +21,6 @@ use Rattle.jobhead.specs.declared.head.Head.{Head}
 use Rattle.buffer.specs.Layout.{Lent}
 use Rattle.buffer.specs.Views.{nodeIn, startIn, targetIn, cellIn, tableIn, EdgeIn, ruleRowsIn}
 use Rattle.jobhead.specs.Stored.{jobIn}
-use Rattle.buffer.specs.Views.{ruleRowsIn}
 use Rattle.jobhead.specs.Reading.{headOfAnswer, JobRead}
 use Rattle.buffer.proofs.ViewLaws.{rule-cell}
 use Rattle.tables.specs.Rows.{CellsBelow}

@@ -1,5 +1,5 @@
 -- The class rows of the work buffer as their readers and writers see them: which pairs they hold, and what joining a set leaves. How a row
--- is packed is said by `classRowIn` and `classPlace` alone.
+-- is packed is said by `classRowIn`, `classPlace` and `apartLeft` alone.
 -- Inner contracts: what functions ask of and leave to each other. No promise is stated in them; a reader need not believe them.
 -- Assumes nothing.
 use mathlib.Core.Path.{_≡_}

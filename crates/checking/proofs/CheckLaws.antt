@@ -20,7 +20,6 @@ use Rattle.buffer.specs.Views.{nodeIn, ruleRowsIn}
 use Rattle.buffer.specs.Kept.{SameOutside}
 use Rattle.buffer.proofs.KeptLaws.{kept-fewer, outside-part, kept-none, kept-both}
 use Rattle.jobhead.specs.declared.head.Head.{Head}
-use Rattle.buffer.specs.Views.{ruleRowsIn}
 use Rattle.tables.specs.Tables.{SearchKept}
 use Rattle.tables.specs.Held.{Usable, JobHeld, PlanHeld}
 use Rattle.tables.proofs.JobKeptLaws.{FrontKept, front-kept, front-usable, front-job, table-usable}

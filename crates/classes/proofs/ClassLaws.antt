@@ -22,7 +22,7 @@ use Rattle.job.specs.Plan.{full, ApartAt}
 use Rattle.job.proofs.Pairs.{told-splits, apart-now, apart-moved, apart-told}
 use Rattle.job.proofs.Bounds.{Within}
 use Rattle.job.proofs.Rules.{apart-true, apart-false}
-use Rattle.job.proofs.KindLaws.{point-some, reports-word}
+use Rattle.job.proofs.KindLaws.{point-some, reports-word, event-small}
 use Rattle.job.proofs.Nodes.{BeforeNode, before-silent, before-event, event-splits}
 use Rattle.job.proofs.Nodes.{NodeBackwards, node-backwards, before-apart, word-apart}
 use Rattle.buffer.specs.Layout.{startsPart, targetsPart, classPart, foundPart, classSize, classPlace}
@@ -197,10 +197,6 @@ ApartPast j n p q = ApartAt j full full (past n) p q
 module _
     {j : Job} {work : List ℕ} {table : List (List ℕ)} {finals states nodes : ℕ} (h : JobHeld j work table finals states nodes)
     (below : CellsBelow table) where
-  -- the symbol of an event node is below 16
-  pub event-small : (n a : ℕ) → pointOf (nodeAt j n .kind) ≡ point a → a < 16
-  event-small n a e = omega (arith, h .formed .kinds n .point-below a e, h .formed .rule .few-symbols)
-
   -- the cells of two states, as the rule has them
   module _ (a p q : ℕ) (ha : a < 16) (hp : p < 16) (hq : q < 16) where
     -- a pair that is led to
@@ -252,7 +248,7 @@ module _
           → BeforeNode j full full (λ m. ApartPast j m) n p q
       go no-point e f = before-silent e (rest p q hp f)
       go (point a) e f =
-          let small = event-small n a e in
+          let small = event-small n (h .formed) e in
           let is : a % 16 ≡ a = mod-eq-of-lt small in
           let both =
           and-eq-true-iff (ltb q states) (apartBy table finals (classRowIn w n) a p q) .0
@@ -291,11 +287,11 @@ module _
       go : BeforeNode j full full (HeldApart w) n p q → Row (pointOf (nodeAt j n .kind))
       go (before-silent s f) = silent (pointOf (nodeAt j n .kind)) s f
       go (before-event {a = a} e f) =
-          let small = event-small n a e in
+          let small = event-small n (h .formed) e in
           subst Row (sym e)
           (at-event a small (apart-by-rows table finals (classRowIn w n) a p q (pair-cells a p q small hp (omega arith) (HeldApart w n) f)))
       go (event-splits {a = a} e d) =
-          let small = event-small n a e in
+          let small = event-small n (h .formed) e in
           subst Row (sym e)
           (at-event a small
           (apart-by-unlike table finals (classRowIn w n) a p q (below q a (omega arith) small) (differ-cells a p q small hp (omega arith) d)))

@@ -7,7 +7,6 @@ ghost use Rattle.buffer.specs.Layout.{Lent};
 ghost use Rattle.classes.specs.Backwards.{isLowest, lowestStates};
 use classrows::class_row;
 use sets::count;
-use sets::lowest;
 
 // The states of node n that are lowest in their class.
 pub fn lowest_states(work: &[u8], n: usize, states: usize) -> u16

@@ -1,4 +1,4 @@
--- The before set, the lowest states and the nop mark say what document 01 says of them in walks.
+-- The before set, the lowest states, the class count and the nop mark say what document 01 says of them in walks.
 -- Assumes nothing.
 use mathlib.Core.Path.{_≡_, refl, sym, ap, _∙_}
 use mathlib.Core.Logic.{_↔_, ⊎-elim}

@@ -4,10 +4,11 @@ use mathlib.Core.Path.{_≡_, refl, sym, ap, subst, _∙_}
 use mathlib.Core.Logic.{_⊎_, inl, inr}
 use mathlib.Core.Bool.{true, true≢false, false≢true}
 use Prim.Native.Nat.{ℕ, _<_}
+use native.Mathlib.Nat.{lt-of-lt-of-le}
 use native.Mathlib.Omega.{arith}
 use Rattle.laws.specs.Bits.{has}
 use Rattle.laws.proofs.Bits.{has-empty}
-use Rattle.job.specs.Job.{Kind, plain, event, call, Point, no-point, point, pointOf, callSet, isPoint, isEvent, Job, nodeAt, leads, KindBelow}
+use Rattle.job.specs.Job.{Kind, plain, event, call, Point, no-point, point, pointOf, callSet, isPoint, isEvent, Job, nodeAt, leads, KindBelow, WellFormedJob}
 use Rattle.job.specs.Walk.{Event, shadow, word, Place, before, past, ended, Silent, pass-plain, begin-word, take-edge, begin-after}
 use Rattle.job.specs.Walk.{Told, report, call-word, after-word}
 
@@ -134,3 +135,13 @@ pub told-by : {j : Job} {x y : Place} {e : Event} → Told j x e y → ToldBy j 
 told-by (report e) = by-point (point-own e)
 told-by (call-word {a = a} e h) = by-words (call-has a e h)
 told-by (after-word e h) = by-after e h
+
+-- ---- symbols of a well-formed job
+
+-- the symbol of an event node is below 16
+pub event-small : {j : Job} (n : ℕ) {a : ℕ} → WellFormedJob j → pointOf (nodeAt j n .kind) ≡ point a → a < 16
+event-small n {a} wf e = lt-of-lt-of-le (wf .kinds n .point-below a e) (wf .rule .few-symbols)
+
+-- and so are the symbols of a call
+pub call-small : {j : Job} (n a : ℕ) → WellFormedJob j → has (callSet (nodeAt j n .kind)) a ≡ true → a < 16
+call-small n a wf h = lt-of-lt-of-le (wf .kinds n .words-below a h) (wf .rule .few-symbols)

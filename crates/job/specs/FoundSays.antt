@@ -20,7 +20,7 @@ LowestSays =
     (j : Job) → WellFormedJob j → (n q : ℕ) → n < length (j .nodes) → q < j .rule .states
     → (lowest j n q ≡ true) ↔ ((p : ℕ) → p < q → Equivalent j n p q → ⊥)
 
--- "out of all S": some state is lowest in its class, also after a point that no walk reaches
+-- the class count is "out of all S": some state is lowest in its class also after a point that no walk reaches
 abbrev pub SomeClass : Type 0
 SomeClass = (j : Job) → WellFormedJob j → (n : ℕ) → 1 ≤ classCount j n
 

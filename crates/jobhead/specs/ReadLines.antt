@@ -12,7 +12,7 @@ use Rattle.lines.specs.Lines.{Lines, lines, refused, linesOf}
 use Rattle.lines.specs.Places.{numbersOf, statusOf, numbersAt, statusAt, LinesRead}
 use Rattle.jobfile.specs.File.{headLine, ruleLine, nodeLine, edgeLine, finalsOf, nodeOf}
 use Rattle.jobhead.specs.declared.head.Head.{Head}
-use Rattle.buffer.specs.Layout.{startsPart, pairPart, rulePart, marksPart}
+use Rattle.buffer.specs.Layout.{nodePlace, startsPart, pairPart, rulePart, marksPart}
 use Rattle.buffer.specs.Views.{nodeIn, startIn, targetIn, cellIn}
 use Rattle.buffer.specs.Kept.{SameOutside}
 
@@ -52,7 +52,7 @@ pub record NodeRead (s a n : ℕ) (bytes l m : List ℕ) (r : Collected) : Type 
   pub small : r .number < 65536
   pub here : r .status ≡ 0 → nodeIn m n ≡ nodeOf (numbersOf (lineOf 80 6 bytes))
   pub within : r .status ≡ 0 → lineLength 6 ≤ length bytes
-  pub kept : SameOutside l m (n * 8) (n * 8 + 8)
+  pub kept : SameOutside l m (nodePlace n) (nodePlace n + 8)
 
 -- all P lines, with the sum of the entry sets beside the status
 pub record NodesRead (s a n : ℕ) (bytes l m : List ℕ) (r : Collected) : Type 0 where

@@ -9,7 +9,7 @@ use Rattle.laws.specs.Bounded.{tab}
 use Rattle.automaton.specs.Automaton.{automatonOf}
 use Rattle.job.specs.Job.{Node, Job}
 use Rattle.lines.specs.Line.{at}
-use Rattle.buffer.specs.Layout.{startsPart, rulePart, marksPart}
+use Rattle.buffer.specs.Layout.{nodePlace, startsPart, rulePart, marksPart}
 use Rattle.buffer.specs.Views.{nodeIn, startIn, edgesFrom, cellIn, tableIn}
 use Rattle.buffer.specs.Kept.{SameOutside}
 use Rattle.jobhead.specs.declared.head.Head.{Head}
@@ -35,7 +35,7 @@ pub record NodeFits (ns : List ℕ) : Type 0 where
 -- node n is stored
 pub record NodeStored (l m : List ℕ) (n : ℕ) (node : Node) : Type 0 where
   pub here : nodeIn m n ≡ node
-  pub kept : SameOutside l m (n * 8) (n * 8 + 8)
+  pub kept : SameOutside l m (nodePlace n) (nodePlace n + 8)
 
 -- row q is stored: sixteen numbers from the third on
 pub record RowStored (l m : List ℕ) (q : ℕ) (ns : List ℕ) : Type 0 where

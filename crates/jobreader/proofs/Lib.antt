@@ -1,4 +1,4 @@
--- The laws that the proofs of the functions cite.
+-- The laws that the proof of the function cites, and what the whole table is.
 -- Assumes nothing.
 pub mod ReadLaws
 pub mod TableLaws

@@ -4,7 +4,7 @@ use mathlib.Core.Path.{_≡_, refl, sym, ap, subst, _∙_}
 use mathlib.Core.Logic.{_⊎_, inl, inr, ⊎-elim}
 use mathlib.Core.Bool.{Bool, true, false, not, true≢false, false≢true}
 use mathlib.Core.List.{List}
-use Prim.Native.Nat.{ℕ, _%_, _^_, _≤_, _<_}
+use Prim.Native.Nat.{ℕ, _%_, _^_, _<_}
 use native.Mathlib.Nat.{mod-eq-of-lt}
 use native.Mathlib.Omega.{arith}
 use borrow.Author.Tests.{eqb-true, eqb-false}
@@ -14,6 +14,7 @@ use Rattle.laws.specs.Bits.{has}
 use Rattle.laws.proofs.Bits.{has-below, has-empty}
 use Rattle.laws.proofs.Tests.{fails-of}
 use Rattle.automaton.specs.Automaton.{next, final, cell}
+use Rattle.job.proofs.KindLaws.{event-small, call-small}
 use Rattle.job.specs.Job.{point, pointOf, callSet, isEvent, Job, Node, nodeAt}
 use Rattle.job.specs.Plan.{Enabling, full, enables}
 use Rattle.buffer.specs.Layout.{Lent}
@@ -25,7 +26,7 @@ use Rattle.tables.specs.Held.{JobHeld, PlanHeld}
 use Rattle.spread.specs.Spreading.{WordFrom, Spread}
 use Rattle.look.specs.Looking.{pastNode, Follows, by-word, AlikePair, SplitPair, split-point, split-call, split-exit, LookedAt}
 use Rattle.spread.proofs.SpreadLaws.{apart-meets, some-meets}
-use Rattle.look.proofs.PastLaws.{event-small, call-small, PastSays, past-says, past-state}
+use Rattle.look.proofs.PastLaws.{PastSays, past-says, past-state}
 use Rattle.tables.proofs.RowLaws.{meets-says, meets-none}
 use Rattle.tables.proofs.KeptLaws.{grown-none, node-same, class-same, enabled-same}
 

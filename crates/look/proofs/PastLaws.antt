@@ -4,13 +4,12 @@ use mathlib.Core.Path.{_≡_, refl, sym, ap, subst, _∙_}
 use mathlib.Core.Bool.{Bool, true, false, not, false≢true}
 use mathlib.Core.List.{List}
 use Prim.Native.Nat.{ℕ, _^_, _<_}
-use native.Mathlib.Nat.{lt-of-lt-of-le}
 use lib.Count.{trailingZeros}
 use Rattle.laws.specs.Bits.{has}
 use Rattle.laws.proofs.Bits.{has-below}
 use Rattle.laws.proofs.Walk.{trailing-member}
 use Rattle.automaton.specs.Automaton.{Automaton, next, final, cell}
-use Rattle.job.specs.Job.{Point, no-point, point, pointOf, callSet, isPoint, Job, nodeAt, WellFormedJob}
+use Rattle.job.specs.Job.{Point, no-point, point, isPoint}
 use Rattle.job.specs.Walk.{shadow}
 use Rattle.job.specs.Plan.{Enabling, full, alarmAt}
 use Rattle.job.proofs.KindLaws.{point-some, point-same}
@@ -20,16 +19,6 @@ use Rattle.moves.specs.Past.{pastShadow, pastRow}
 use Rattle.look.specs.Looking.{pastState}
 use Rattle.spread.proofs.SpreadLaws.{moved-alike, moved-split}
 use Rattle.tables.proofs.RowLaws.{has-image-of}
-
--- ---- symbols
-
--- the symbol of an event node is below 16
-pub event-small : {j : Job} (n : ℕ) {a : ℕ} → WellFormedJob j → pointOf (nodeAt j n .kind) ≡ point a → a < 16
-event-small n {a} wf e = lt-of-lt-of-le (wf .kinds n .point-below a e) (wf .rule .few-symbols)
-
--- and so are the symbols of a call
-pub call-small : {j : Job} (n a : ℕ) → WellFormedJob j → has (callSet (nodeAt j n .kind)) a ≡ true → a < 16
-call-small n a wf h = lt-of-lt-of-le (wf .kinds n .words-below a h) (wf .rule .few-symbols)
 
 -- ---- a row past a node
 

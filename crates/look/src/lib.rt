@@ -1,5 +1,5 @@
 // Looking at one row of pairs in the work buffer: what its call word leads to is joined, and a difference is told.
-ghost use Prim.Native.Nat.{_<_, _≤_};
+ghost use Prim.Native.Nat.{_<_};
 ghost use Rattle.buffer.specs.Layout.{Lent};
 ghost use Rattle.tables.specs.Rows.{CellsBelow};
 ghost use Rattle.look.specs.Looking.{LookedAt};

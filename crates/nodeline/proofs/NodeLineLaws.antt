@@ -16,6 +16,7 @@ use Rattle.framing.specs.Framing.{collected}
 use Rattle.jobhead.specs.ReadLines.{NodeRead}
 use Rattle.lines.proofs.LinesLaws.{due-stops, due-tested, due-whole, due-long}
 use Rattle.nodetest.proofs.NodeTestLaws.{node-fits}
+use Rattle.buffer.specs.Layout.{nodePlace}
 use Rattle.buffer.proofs.KeptLaws.{kept-none}
 
 module _ (s a n : ℕ) (bytes l : List ℕ) where
@@ -28,7 +29,7 @@ module _ (s a n : ℕ) (bytes l : List ℕ) where
     small = lit< tt;
     here = λ z. absurd (q z);
     within = λ z. absurd (q z);
-    kept = kept-none l (n * 8) (n * 8 + 8);
+    kept = kept-none l (nodePlace n) (nodePlace n + 8);
   }
 
   module _ {ns : List ℕ} {r : ℕ} (e : DueRead (lineOf 80 6 bytes) 6 (replicate 6 0) ns r) where

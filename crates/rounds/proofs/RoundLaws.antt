@@ -17,6 +17,7 @@ use Rattle.laws.proofs.Bits.{has-below, has-or}
 use Rattle.laws.proofs.Tests.{passes-or-fails, or-left, or-right, or-passes}
 use Rattle.laws.proofs.Walk.{Rest, rest-start, rest-from, rest-lt, rest-next, members-more, members-end}
 use Rattle.automaton.specs.Automaton.{next}
+use Rattle.job.proofs.KindLaws.{event-small, call-small}
 use Rattle.job.specs.Job.{Point, no-point, point, pointOf, Job, nodeAt}
 use Rattle.job.specs.Plan.{Enabling, full, enables}
 use Rattle.moves.specs.declared.Past.{Past}
@@ -28,7 +29,6 @@ use Rattle.rounds.specs.declared.Seen.the-variants.{Nothing, Rows, Diffe
 use Rattle.successors.specs.Joined.{InRows, JoinedPast}
 use Rattle.look.specs.Looking.{pastState, pastNode, Follows, over-edge, AlikePair, ClosedPair, SplitPair, split-point, split-call, split-exit, Looked, LookedAt}
 use Rattle.rounds.specs.Rounds.{Following, held-first, follows, SettledRow, Settled, Rounded, RoundedAt}
-use Rattle.look.proofs.PastLaws.{event-small, call-small}
 use Rattle.tables.proofs.RowLaws.{has-nothing}
 use Rattle.tables.proofs.KeptLaws.{search-kept-none, search-kept-both, grown-none, grown-both, class-same, usable-same, job-same, plan-same}
 

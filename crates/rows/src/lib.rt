@@ -1,6 +1,6 @@
 // The rows of pairs in the work buffer. A row that grows is marked.
 ghost use mathlib.Core.Path.{_≡_};
-ghost use Prim.Native.Nat.{_<_, _≤_};
+ghost use Prim.Native.Nat.{_<_};
 ghost use Rattle.buffer.specs.Layout.{Lent};
 ghost use Rattle.buffer.specs.Views.{pairRowIn};
 ghost use Rattle.tables.specs.Tables.{PairsJoined};

@@ -1,5 +1,5 @@
 // A row of pairs moved by the symbols of a call word.
-ghost use Prim.Native.Nat.{_<_, _≤_};
+ghost use Prim.Native.Nat.{_<_};
 ghost use Rattle.buffer.specs.Layout.{Lent};
 ghost use Rattle.tables.specs.Rows.{CellsBelow};
 ghost use Rattle.spread.specs.Spreading.{Spread};

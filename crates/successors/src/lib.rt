@@ -1,5 +1,5 @@
 // Sixteen rows of pairs joined at a node, and at the successors of a node.
-ghost use Prim.Native.Nat.{_<_, _≤_};
+ghost use Prim.Native.Nat.{_<_};
 ghost use Rattle.buffer.specs.Layout.{Lent};
 ghost use Rattle.tables.specs.Held.{EdgesWithin};
 ghost use Rattle.successors.specs.Joined.{RowsJoined, JoinedPast};

@@ -1,4 +1,4 @@
--- `clearing::clear` meets its contract: the bytes of all parts are zero, and the rest as it was.
+-- `clearing::clear` meets its contract: the first 65,536 bytes are zero, and the rest as it was.
 -- Assumes nothing.
 use borrow.Author.Needs.{needs}
 use Rattle.buffer.proofs.ClearedLaws.{zeroed-cleared}
