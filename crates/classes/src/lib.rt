@@ -1,1 +1,1 @@
-// What is found at the nodes of a job: definitions, and laws that the crates `afterwords`, `nextrows`, `classgrowth`, `classreads` and `points` cite. No code.
+// What is found at the nodes of a job: definitions and laws for the crates `afterwords`, `nextrows`, `classgrowth`, `classreads`, `points` and those above them. No code.
