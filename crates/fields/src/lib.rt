@@ -1,4 +1,4 @@
-// Reading a field: six columns with a decimal number, right-justified with spaces.
+// Reading a field: six columns with a decimal number, right-justified, spaces or zeros before its digits.
 ghost use mathlib.Core.Path.{_≡_};
 ghost use Prim.Native.Nat.{_+_, _-_, _<_, _≤_};
 ghost use lib.ListN.{length, take, drop};
@@ -60,11 +60,5 @@ pub fn field_in(line: &[u8], at: usize) -> Field
     if first == end {
         return Field::Malformed;
     }
-    if line[first] != 48 {
-        return digits_in(line, first, end);
-    }
-    if first + 1 == end {
-        return Field::Number(0);
-    }
-    Field::Malformed
+    digits_in(line, first, end)
 }

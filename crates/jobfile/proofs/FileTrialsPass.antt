@@ -13,12 +13,13 @@ use Rattle.jobfile.specs.FileTrials.{AllRead, done, _and_, pairFile, fil
 pub file-trials-pass : AllRead fileTrials
 unfolding fileTrials allBelow has digitsOf fieldOf fieldsOf lineOf linesOf finalsOf someEntry readRest readJob
 file-trials-pass =
-    refl
+    refl and refl and refl
     and refl
     and refl and refl
     and refl and refl
-    and refl and refl and refl and refl and refl and refl and refl and refl and refl
-    and refl and refl and refl and refl and refl and refl and refl and refl
+    and refl and refl and refl and refl and refl and refl and refl
+    and refl and refl and refl and refl and refl
+    and refl and refl and refl and refl and refl and refl and refl and refl and refl and refl and refl
     and refl and refl and refl and refl and refl
     and refl and refl and refl and refl and refl and refl and refl and refl and refl and refl
     and refl and refl and refl and refl

@@ -6,6 +6,7 @@ pub mod SpelledNodes
 pub mod SpelledEdges
 pub mod SpelledFile
 pub mod RefusalLaws
+pub mod AlikeLaws
 pub mod SpellableLaws
 pub mod AnswerLaws
 pub mod Longest

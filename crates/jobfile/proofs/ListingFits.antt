@@ -20,7 +20,7 @@ use Rattle.lines.specs.Line.{line, writeLines, found, lineOf}
 use Rattle.lines.specs.Lines.{lines, linesOf}
 use Rattle.lines.specs.Written.{Fits, GoodLines, good-none, good-more}
 use Rattle.lines.proofs.SpelledLine.{line-read}
-use Rattle.lines.proofs.SpelledLines.{lines-says}
+use Rattle.lines.proofs.SpelledLines.{written-stand, lines-says}
 use Rattle.jobfile.specs.File.{turned, readJob}
 use Rattle.jobfile.specs.Spellable.{Spellable}
 use Rattle.jobfile.specs.ListingLines.{shadowNumbers, totalNumbers, shadowsBytes, totalBytes, listingBytes}
@@ -140,7 +140,8 @@ shadows-back l fit =
     (record {
       count = length-map (l .shadows) shadowNumbers;
       good = shadows-good (l .shadows) fit 0 [];
-      spelled = ap (λ (bytes : List ℕ). bytes ++ totalBytes (l .total)) (shadows-written (l .shadows));
+      stand =
+          rw (shadows-written (l .shadows)) (written-stand shadowKind (totalBytes (l .total)) (shadows-good (l .shadows) fit 0 []));
     })
 
 -- what is printed is read back as the listing's numbers

@@ -115,7 +115,7 @@ module _ (file : List ℕ) where
       ∙ rw (lines-says (nodeLine (at head 0) (at head 1)) (at head 2) 0 [] (p .from) nodes rest .1 (p .lines))
 
   -- and good F lines
-  past-edges
+  pub past-edges
       : (head : List ℕ) (rules nodes edges : List (List ℕ)) (rest : List ℕ) → PastEdges file head rules nodes edges rest
       → readJob file ≡ atEnd rest (jobOf head rules nodes edges)
   past-edges head rules nodes edges rest p =

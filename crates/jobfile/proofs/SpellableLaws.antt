@@ -1,26 +1,29 @@
--- A file is accepted with a job exactly where it is the file written from that job and the job is spellable; so reading and writing
--- are inverse, and no accepted file has more than 49,914 bytes. Each part by the laws of its lines.
+-- A file is accepted with a job exactly where it is alike the file written from that job and the job is spellable; of the files of a job
+-- just the written one has no zeros; and no accepted file has more than 49,914 bytes. Each part by the laws of its lines.
 -- Assumes nothing.
 use Prim.Native.Nat.{ℕ, _+_, _*_, _≤_, _<_}
-use mathlib.Core.Path.{_≡_, refl, sym, ap, _∙_}
+use mathlib.Core.Path.{_≡_, refl, sym, ap, subst, _∙_}
 use mathlib.Core.Logic.{by-cases}
-use mathlib.Core.Bool.{true, true≢false}
-use mathlib.Core.List.{List, [], _∷_, _++_, map, append-nil}
+use mathlib.Core.Bool.{Bool, true, false, true≢false}
+use mathlib.Core.List.{List, [], _∷_, map}
 use native.Mathlib.Decide.{decLt}
 use native.Mathlib.Omega.{arith}
 use lib.ListN.{length, drop, getD, length-map}
 use Rattle.automaton.specs.Automaton.{WellFormed, cell}
 use Rattle.job.specs.Job.{Job, noNode, WellFormedJob}
-use Rattle.lines.specs.Line.{at, writeLines}
-use Rattle.jobfile.specs.File.{ruleLine, nodeLine, edgeLine, finalsOf, ruleOf, nodeOf, edgeOf, someEntry, accepted, readJob, writeJob, jobOf}
-use Rattle.jobfile.specs.Refusal.{HeadWithin, PastHead, PastRules, PastNodes, PastEdges}
+use Rattle.lines.specs.Line.{at}
+use Rattle.lines.specs.Alike.{NoZerosOver}
+use Rattle.jobfile.specs.File.{maxFile, ruleLine, nodeLine, edgeLine, finalsOf, ruleOf, nodeOf, edgeOf, someEntry, accepted, turned, readJob, writeJob, jobOf}
+use Rattle.jobfile.specs.Refusal.{HeadWithin, PastEdges, too-long, at-head, at-rule, at-node, at-edge}
+use Rattle.jobfile.specs.Alike.{LinesDue, none-due, head-due, rule-due, node-due, edge-due, all-due, Alike, WithoutZeros}
 use Rattle.lines.specs.Written.{GoodLines}
 use Rattle.jobfile.specs.Spellable.{Spellable, ReadsWhatIsWritten, AcceptedOnce, AcceptsWellFormed}
 use Rattle.jobfile.proofs.SpelledRules.{ruleLines, rules-count, rules-table, finals-high, finals-same, RowsFit, rules-exact, rules-good, rows-fit}
 use Rattle.jobfile.proofs.SpelledNodes.{nodeLines, nodes-count, nodes-read, NodeFits, nodes-exact, nodes-fit, nodes-good}
 use Rattle.jobfile.proofs.SpelledEdges.{edgeNumbers, edges-read, edges-exact, edges-ascend, edges-below, edges-good}
-use Rattle.jobfile.proofs.SpelledFile.{head-good, head-exact, fileOf, write-one, written-form, past-form, file-length, length-limit}
-use Rattle.jobfile.proofs.RefusalLaws.{Whole, some-entry-says, accepted-says}
+use Rattle.jobfile.proofs.SpelledFile.{head-good, head-exact, fileOf, written-form, allCounts, Parts, parts-of, file-past, file-no-zeros, past-only, past-alike, past-length, file-length, length-limit}
+use Rattle.jobfile.proofs.RefusalLaws.{Whole, some-entry-says, past-edges, turned-says, accepted-says}
+use Rattle.jobfile.proofs.AlikeLaws.{alike-says}
 
 -- ---- from a job to its lines
 
@@ -110,46 +113,40 @@ module _ (j : Job) (spell : Spellable j) where
         edges-read (j .edges),
       )
 
-  -- its file consists of those lines
+  -- the four parts of its file
+  job-parts
+      : Parts (j .rule .states ∷ j .rule .symbols ∷ length (j .nodes) ∷ length (j .edges) ∷ [])
+      (ruleLines (j .rule .finals) 0 (j .rule .table)) (nodeLines 0 (j .nodes)) (map edgeNumbers (j .edges))
+  job-parts =
+      record {
+        head-lines = head-good (j .rule .states) (j .rule .symbols) (length (j .nodes)) (length (j .edges)) head-fits;
+        rule-lines = rules-fine;
+        rule-count = rules-all;
+        node-lines = nodes-fine;
+        node-count = nodes-count 0 (j .nodes);
+        edge-lines = edges-fine;
+        edge-count = length-map (j .edges) edgeNumbers;
+      }
+
+  -- its file consists of them
+  written-past
+      : PastEdges (writeJob j) (j .rule .states ∷ j .rule .symbols ∷ length (j .nodes) ∷ length (j .edges) ∷ [])
+      (ruleLines (j .rule .finals) 0 (j .rule .table)) (nodeLines 0 (j .nodes)) (map edgeNumbers (j .edges)) []
+  written-past =
+      rw (written-form j)
+      (file-past (j .rule .states ∷ j .rule .symbols ∷ length (j .nodes) ∷ length (j .edges) ∷ [])
+      (ruleLines (j .rule .finals) 0 (j .rule .table)) (nodeLines 0 (j .nodes)) (map edgeNumbers (j .edges)) job-parts
+      (subst (λ (l : List ℕ). length l ≤ maxFile) (written-form j) longest))
+
+  -- and is accepted with it
   written-whole : Whole (writeJob j) j
   written-whole =
-      let head : List ℕ = j .rule .states ∷ j .rule .symbols ∷ length (j .nodes) ∷ length (j .edges) ∷ [] in
-      let rules : List (List ℕ) = ruleLines (j .rule .finals) 0 (j .rule .table) in
-      let nodes : List (List ℕ) = nodeLines 0 (j .nodes) in
-      let edges : List (List ℕ) = map edgeNumbers (j .edges) in
-      let from-edges : List ℕ = writeLines 70 edges in
-      let from-nodes : List ℕ = writeLines 80 nodes ++ from-edges in
-      let from-rules : List ℕ = writeLines 82 rules ++ from-nodes in
-      let past-head : PastHead (writeJob j) head from-rules =
       record {
-        short = longest;
-        lines =
-            record {
-              count = refl;
-              good = head-good (j .rule .states) (j .rule .symbols) (length (j .nodes)) (length (j .edges)) head-fits;
-              spelled = written-form j ∙ sym (write-one 74 head from-rules);
-            };
-      } in
-      let past-rules : PastRules (writeJob j) head rules from-nodes =
-      record { from = from-rules; past = past-head; lines = record { count = rules-all; good = rules-fine; spelled = refl } } in
-      let past-nodes : PastNodes (writeJob j) head rules nodes from-edges =
-      record {
-        from = from-nodes;
-        past = past-rules;
-        lines = record { count = nodes-count 0 (j .nodes); good = nodes-fine; spelled = refl };
-      } in
-      record {
-        head = head;
-        rules = rules;
-        nodes = nodes;
-        edges = edges;
-        past =
-            record {
-              from = from-edges;
-              past = past-nodes;
-              lines =
-                  record { count = length-map (j .edges) edgeNumbers; good = edges-fine; spelled = sym (append-nil from-edges) };
-            };
+        head = j .rule .states ∷ j .rule .symbols ∷ length (j .nodes) ∷ length (j .edges) ∷ [];
+        rules = ruleLines (j .rule .finals) 0 (j .rule .table);
+        nodes = nodeLines 0 (j .nodes);
+        edges = map edgeNumbers (j .edges);
+        past = written-past;
         entry = rw (nodes-read 0 (j .nodes)) (some-entry-says (j .nodes) .1 (spell .some-entry));
         job = lines-job;
       }
@@ -157,6 +154,20 @@ module _ (j : Job) (spell : Spellable j) where
   -- the file written from a job is read as that job
   pub written-read : readJob (writeJob j) ≡ accepted j
   written-read = accepted-says (writeJob j) j .1 written-whole
+
+  -- it has no zeros before a number's digits
+  written-plain : WithoutZeros (writeJob j)
+  written-plain =
+      let rules : List (List ℕ) = ruleLines (j .rule .finals) 0 (j .rule .table) in
+      let nodes : List (List ℕ) = nodeLines 0 (j .nodes) in
+      let edges : List (List ℕ) = map edgeNumbers (j .edges) in
+      record {
+        due = allCounts (j .rule .symbols) rules nodes edges;
+        lines = all-due written-past;
+        none =
+            rw (written-form j)
+            (file-no-zeros (j .rule .states ∷ j .rule .symbols ∷ length (j .nodes) ∷ length (j .edges) ∷ []) rules nodes edges job-parts);
+      }
 
 -- ---- from the lines to a job
 
@@ -233,25 +244,72 @@ module _
           some-entry = some-entry-says (map nodeOf nodes) .0 some;
         }
 
+    -- the file is alike the one written from that job
+    lines-alike : Alike (writeJob (jobOf head rules nodes edges)) file
+    lines-alike =
+        let j : Job = jobOf head rules nodes edges in
+        let written : PastEdges (writeJob j) head rules nodes edges [] =
+        rw lines-written
+        (file-past head rules nodes edges (parts-of p) (subst (λ (l : List ℕ). length l ≤ maxFile) lines-written (longest j lines-spellable))) in
+        record {
+          long = past-length head rules nodes edges written ∙ sym (past-length head rules nodes edges p);
+          due = allCounts (at head 1) rules nodes edges;
+          lines = all-due written;
+          over = past-alike head rules nodes edges written p;
+        }
+
 -- ---- both ways
 
--- an accepted file is the file written from its job, which is spellable
-pub read-written : (file : List ℕ) (j : Job) → readJob file ≡ accepted j → (file ≡ writeJob j) × Spellable j
+-- an accepted file is alike the file written from its job, which is spellable
+pub read-written : (file : List ℕ) (j : Job) → readJob file ≡ accepted j → Alike (writeJob j) file × Spellable j
 read-written file j e =
     let w = accepted-says file j .0 e in
     rw (w .job) (
-      past-form file (w .head) (w .rules) (w .nodes) (w .edges) (w .past)
-          ∙ sym (lines-written file (w .head) (w .rules) (w .nodes) (w .edges) (w .past) (w .entry)),
+      lines-alike file (w .head) (w .rules) (w .nodes) (w .edges) (w .past) (w .entry),
       lines-spellable file (w .head) (w .rules) (w .nodes) (w .edges) (w .past) (w .entry),
     )
 
 -- a file is accepted with a job exactly where it spells that job
 pub accepted-written : ReadsWhatIsWritten
-accepted-written file j = (read-written file j, λ s. rw (s .0) (written-read j (s .1)))
+accepted-written file j =
+    (read-written file j, λ s. sym (alike-says .read-alike (writeJob j) file (s .0)) ∙ written-read j (s .1))
 
--- two accepted files with one job are equal
+-- a file without zeros that is accepted is the written one
+plain-only : (file : List ℕ) (j : Job) → WithoutZeros file → readJob file ≡ accepted j → (file ≡ writeJob j) × Spellable j
+plain-only file j w e = go (w .lines) (w .none)
+  where
+    turned-not : {r : ℕ} → readJob file ≡ turned r → (file ≡ writeJob j) × Spellable j
+    turned-not t = let z : _≡_ {A = ℕ} 0 1 = cc (t, e) in absurd (omega arith)
+
+    whole
+        : {head : List ℕ} {rules nodes edges : List (List ℕ)} (rest : List ℕ) → PastEdges file head rules nodes edges rest
+        → NoZerosOver (allCounts (at head 1) rules nodes edges) file → (t : Bool) → someEntry (map nodeOf nodes) ≡ t
+        → (file ≡ writeJob j) × Spellable j
+    whole {head} {rules} {nodes} {edges} [] p none true t =
+        let read : readJob file ≡ accepted (jobOf head rules nodes edges) = past-edges file head rules nodes edges [] p ∙ rw t in
+        let is : j ≡ jobOf head rules nodes edges = cc (e, read) in
+        rw is (
+          past-only head rules nodes edges file p none ∙ sym (lines-written file head rules nodes edges p t),
+          lines-spellable file head rules nodes edges p t,
+        )
+    whole {head} {rules} {nodes} {edges} [] p none false t = turned-not {r = 10} (past-edges file head rules nodes edges [] p ∙ rw t)
+    whole {head} {rules} {nodes} {edges} (b ∷ bytes) p none u t = turned-not {r = 9} (past-edges file head rules nodes edges (b ∷ bytes) p)
+
+    go : {due : List ℕ} → LinesDue file due → NoZerosOver due file → (file ≡ writeJob j) × Spellable j
+    go (none-due l) none = turned-not (turned-says file 1 .1 (too-long l))
+    go (head-due {r} short bad) none = turned-not (turned-says file r .1 (at-head short bad))
+    go (rule-due {r} p bad) none = turned-not (turned-says file r .1 (at-rule p bad))
+    go (node-due {r} p bad) none = turned-not (turned-says file r .1 (at-node p bad))
+    go (edge-due {r} p bad) none = turned-not (turned-says file r .1 (at-edge p bad))
+    go (all-due {rest} {nodes} p) none = whole rest p none (someEntry (map nodeOf nodes)) refl
+
+-- of all files of a job just one has no zeros
 pub accepted-once : AcceptedOnce
-accepted-once f g j d e = read-written f j d .0 ∙ sym (read-written g j e .0)
+accepted-once =
+    record {
+      written = written-plain;
+      only = λ file j w. (plain-only file j w, λ s. rw (s .0) (written-read j (s .1)));
+    }
 
 -- an accepted job is well formed
 pub accepted-well-formed : AcceptsWellFormed

@@ -5,16 +5,18 @@ use mathlib.Core.Path.{_≡_, refl, ap, _∙_}
 use mathlib.Core.List.{List, [], _∷_, _++_, map, append-assoc, append-nil}
 use native.Mathlib.Nat.{mul-le-mul}
 use native.Mathlib.Omega.{arith}
-use lib.ListN.{length, length-append}
+use lib.ListN.{length, replicate, length-append}
 use Rattle.laws.specs.Bounded.{tab}
 use Rattle.job.specs.Job.{Job}
 use Rattle.lines.specs.Line.{line, lineLength, at, writeLines}
-use Rattle.jobfile.specs.File.{headLine, ruleLine, nodeLine, edgeLine, writeRules, writeNodes, writeEdges, writeJob}
-use Rattle.jobfile.specs.Refusal.{HeadWithin, PastEdges}
+use Rattle.jobfile.specs.File.{maxFile, headLine, ruleLine, nodeLine, edgeLine, writeRules, writeNodes, writeEdges, writeJob}
+use Rattle.jobfile.specs.Refusal.{HeadWithin, PastHead, PastRules, PastNodes, PastEdges}
 use Rattle.lines.specs.Written.{Fits, GoodLines, good-none, good-more}
+use Rattle.lines.specs.Alike.{AlikeOver, NoZerosOver}
 use Rattle.jobfile.proofs.WithinLaws.{head-says}
 use Rattle.lines.proofs.SpelledLine.{fields-length}
-use Rattle.lines.proofs.SpelledLines.{lines-length}
+use Rattle.lines.proofs.SpelledLines.{lines-length, written-stand}
+use Rattle.lines.proofs.AlikeLaws.{alike-stand, stand-length, stand-only, written-only}
 use Rattle.jobfile.proofs.SpelledRules.{ruleLines, rules-written}
 use Rattle.jobfile.proofs.SpelledNodes.{nodeLines, nodes-written, list-tab}
 use Rattle.jobfile.proofs.SpelledEdges.{edgeNumbers, edges-written}
@@ -81,17 +83,161 @@ written-form j =
     (regroup head (writeLines 82 (ruleLines (j .rule .finals) 0 (j .rule .table))) (writeLines 80 (nodeLines 0 (j .nodes)))
     (writeLines 70 (map edgeNumbers (j .edges))))
 
--- a file of good lines alone is the file of those lines
-pub past-form
-    : (file head : List ℕ) (rules nodes edges : List (List ℕ)) → PastEdges file head rules nodes edges []
-    → file ≡ fileOf head rules nodes edges
-past-form file head rules nodes edges p =
-    p .past .past .past .lines .spelled ∙ write-one 74 head (p .past .past .from)
-    ∙ ap (λ (l : List ℕ). line 74 head ++ l)
-    (p .past .past .lines .spelled
-    ∙ ap (λ (l : List ℕ). writeLines 82 rules ++ l)
-    (p .past .lines .spelled
-    ∙ ap (λ (l : List ℕ). writeLines 80 nodes ++ l) (p .lines .spelled ∙ append-nil (writeLines 70 edges))))
+-- how many fields the lines of a file have, one after the other
+abbrev pub allCounts : ℕ → List (List ℕ) → List (List ℕ) → List (List ℕ) → List ℕ
+allCounts a rules nodes edges =
+    4 ∷ (replicate (length rules) (a + 2) ++ (replicate (length nodes) 6 ++ (replicate (length edges) 2 ++ [])))
+
+-- the four parts of a file of good lines alone
+pub record Parts (head : List ℕ) (rules nodes edges : List (List ℕ)) : Type 0 where
+  pub head-lines : GoodLines headLine 0 [] (head ∷ [])
+  pub rule-lines : GoodLines (ruleLine (at head 0) (at head 1)) 0 [] rules
+  pub rule-count : length rules ≡ at head 0
+  pub node-lines : GoodLines (nodeLine (at head 0) (at head 1)) 0 [] nodes
+  pub node-count : length nodes ≡ at head 2
+  pub edge-lines : GoodLines (edgeLine (at head 2)) 0 [] edges
+  pub edge-count : length edges ≡ at head 3
+
+-- those of a file
+pub parts-of
+    : {file head rest : List ℕ} {rules nodes edges : List (List ℕ)} → PastEdges file head rules nodes edges rest → Parts head rules nodes edges
+parts-of p =
+    record {
+      head-lines = p .past .past .past .lines .good;
+      rule-lines = p .past .past .lines .good;
+      rule-count = p .past .past .lines .count;
+      node-lines = p .past .lines .good;
+      node-count = p .past .lines .count;
+      edge-lines = p .lines .good;
+      edge-count = p .lines .count;
+    }
+
+module _ (head : List ℕ) (rules nodes edges : List (List ℕ)) where
+  -- what follows the J line, the R lines and the P lines
+  abbrev from-edges : List ℕ
+  from-edges = writeLines 70 edges ++ []
+
+  abbrev from-nodes : List ℕ
+  from-nodes = writeLines 80 nodes ++ from-edges
+
+  abbrev from-rules : List ℕ
+  from-rules = writeLines 82 rules ++ from-nodes
+
+  -- the file, line by line
+  pub file-form : writeLines 74 (head ∷ []) ++ from-rules ≡ fileOf head rules nodes edges
+  file-form =
+      write-one 74 head from-rules
+      ∙ ap (λ (l : List ℕ). line 74 head ++ (writeLines 82 rules ++ (writeLines 80 nodes ++ l))) (append-nil (writeLines 70 edges))
+
+  -- the file of good lines consists of them
+  pub file-past
+      : Parts head rules nodes edges → length (fileOf head rules nodes edges) ≤ maxFile
+      → PastEdges (fileOf head rules nodes edges) head rules nodes edges []
+  file-past p short =
+      let past-head : PastHead (fileOf head rules nodes edges) head from-rules =
+      record {
+        short = short;
+        lines =
+            record {
+              count = refl;
+              good = p .head-lines;
+              stand = rw (← file-form) (written-stand headLine from-rules (p .head-lines));
+            };
+      } in
+      let past-rules : PastRules (fileOf head rules nodes edges) head rules from-nodes =
+      record {
+        from = from-rules;
+        past = past-head;
+        lines =
+            record {
+              count = p .rule-count;
+              good = p .rule-lines;
+              stand = written-stand (ruleLine (at head 0) (at head 1)) from-nodes (p .rule-lines);
+            };
+      } in
+      let past-nodes : PastNodes (fileOf head rules nodes edges) head rules nodes from-edges =
+      record {
+        from = from-nodes;
+        past = past-rules;
+        lines =
+            record {
+              count = p .node-count;
+              good = p .node-lines;
+              stand = written-stand (nodeLine (at head 0) (at head 1)) from-edges (p .node-lines);
+            };
+      } in
+      record {
+        from = from-edges;
+        past = past-nodes;
+        lines =
+            record {
+              count = p .edge-count;
+              good = p .edge-lines;
+              stand = written-stand (edgeLine (at head 2)) [] (p .edge-lines);
+            };
+      }
+
+  -- no zeros stand in it
+  pub file-no-zeros
+      : Parts head rules nodes edges → NoZerosOver (allCounts (at head 1) rules nodes edges) (fileOf head rules nodes edges)
+  file-no-zeros p =
+      rw (← file-form)
+      (written-only headLine (replicate (length rules) (at head 1 + 2) ++ (replicate (length nodes) 6 ++ (replicate (length edges) 2 ++ [])))
+      from-rules (p .head-lines)
+      (written-only (ruleLine (at head 0) (at head 1)) (replicate (length nodes) 6 ++ (replicate (length edges) 2 ++ [])) from-nodes
+      (p .rule-lines)
+      (written-only (nodeLine (at head 0) (at head 1)) (replicate (length edges) 2 ++ []) from-edges (p .node-lines)
+      (written-only (edgeLine (at head 2)) [] [] (p .edge-lines) tt))))
+
+  -- a file of good lines alone without zeros is the file of those lines
+  pub past-only
+      : (file : List ℕ) → PastEdges file head rules nodes edges [] → NoZerosOver (allCounts (at head 1) rules nodes edges) file
+      → file ≡ fileOf head rules nodes edges
+  past-only file p none =
+      let (first, none₁) =
+      stand-only headLine (head ∷ [])
+      (replicate (length rules) (at head 1 + 2) ++ (replicate (length nodes) 6 ++ (replicate (length edges) 2 ++ []))) file
+      (p .past .past .from) (p .past .past .past .lines .stand) none in
+      let (second, none₂) =
+      stand-only (ruleLine (at head 0) (at head 1)) rules (replicate (length nodes) 6 ++ (replicate (length edges) 2 ++ []))
+      (p .past .past .from) (p .past .from) (p .past .past .lines .stand) none₁ in
+      let (third, none₃) =
+      stand-only (nodeLine (at head 0) (at head 1)) nodes (replicate (length edges) 2 ++ []) (p .past .from) (p .from)
+      (p .past .lines .stand) none₂ in
+      let (fourth, none₄) = stand-only (edgeLine (at head 2)) edges [] (p .from) [] (p .lines .stand) none₃ in
+      first
+      ∙ ap (λ (l : List ℕ). writeLines 74 (head ∷ []) ++ l)
+      (second
+      ∙ ap (λ (l : List ℕ). writeLines 82 rules ++ l) (third ∙ ap (λ (l : List ℕ). writeLines 80 nodes ++ l) fourth))
+      ∙ file-form
+
+  -- the bytes of a file of good lines alone
+  pub past-length
+      : {f : List ℕ} → PastEdges f head rules nodes edges []
+      → length f
+      ≡ 1 * 26
+      + (length rules * lineLength (at head 1 + 2) + (length nodes * 38 + (length edges * 14 + 0)))
+  past-length {f} p =
+      stand-length headLine (head ∷ []) f (p .past .past .from) (p .past .past .past .lines .stand)
+      ∙ rw (
+        stand-length (ruleLine (at head 0) (at head 1)) rules (p .past .past .from) (p .past .from) (p .past .past .lines .stand),
+        stand-length (nodeLine (at head 0) (at head 1)) nodes (p .past .from) (p .from) (p .past .lines .stand),
+        stand-length (edgeLine (at head 2)) edges (p .from) [] (p .lines .stand),
+      )
+
+  -- two files of the same good lines
+  module _ {f g : List ℕ} (p : PastEdges f head rules nodes edges []) (q : PastEdges g head rules nodes edges []) where
+    -- are alike
+    pub past-alike : AlikeOver (allCounts (at head 1) rules nodes edges) f g
+    past-alike =
+        alike-stand headLine (head ∷ [])
+        (replicate (length rules) (at head 1 + 2) ++ (replicate (length nodes) 6 ++ (replicate (length edges) 2 ++ []))) f g
+        (p .past .past .from) (q .past .past .from) (p .past .past .past .lines .stand) (q .past .past .past .lines .stand)
+        (alike-stand (ruleLine (at head 0) (at head 1)) rules (replicate (length nodes) 6 ++ (replicate (length edges) 2 ++ []))
+        (p .past .past .from) (q .past .past .from) (p .past .from) (q .past .from) (p .past .past .lines .stand) (q .past .past .lines .stand)
+        (alike-stand (nodeLine (at head 0) (at head 1)) nodes (replicate (length edges) 2 ++ []) (p .past .from) (q .past .from) (p .from)
+        (q .from) (p .past .lines .stand) (q .past .lines .stand)
+        (alike-stand (edgeLine (at head 2)) edges [] (p .from) (q .from) [] [] (p .lines .stand) (q .lines .stand) refl)))
 
 -- the bytes of the file of good lines
 pub file-length

@@ -4,18 +4,13 @@
 use mathlib.Core.Path.{_≡_}
 use mathlib.Core.List.{List, [], _∷_, _++_}
 use Prim.Native.Nat.{ℕ}
-use Prim.Native.Char.{code}
-use Prim.Native.String.{String, [] as no-text, _∷_ as _then_}
+use Prim.Native.String.{String}
 use lib.ListN.{replicate}
 use Rattle.planning.specs.Trials.{pair}
+use Rattle.lines.specs.FieldTrials.{bytesIn}
 use Rattle.jobfile.specs.File.{Answer, accepted, turned, readJob}
 
 -- ---- how a file is written here
-
--- the bytes of a text in ASCII
-unfoldable pub bytesIn : String → List ℕ
-bytesIn no-text = []
-bytesIn (_then_ c cs) = code c ∷ bytesIn cs
 
 -- texts, each ended by byte 10
 unfoldable pub linesIn : List String → List ℕ
@@ -58,6 +53,38 @@ unfoldable pub pairFile : List ℕ
 unfolding linesIn
 pairFile = linesIn pairLines ++ linesIn ("F     1     2" ∷ [])
 
+-- its file as a spreadsheet writes it, zeros in place of the spaces
+unfoldable pub pairWithZeros : List ℕ
+unfolding linesIn
+pairWithZeros =
+    linesIn
+    ("J000003000003000003000002"
+    ∷ "R000000000000000001000000000000"
+    ∷ "R000001000000000001000000000002"
+    ∷ "R000002000001000001000000000002"
+    ∷ "P000000000001000000000001000000000000"
+    ∷ "P000001000001000000000000000000000000"
+    ∷ "P000002000001000002000000000001000000"
+    ∷ "F000000000001"
+    ∷ "F000001000002"
+    ∷ [])
+
+-- zeros here and there
+unfoldable pub pairWithSomeZeros : List ℕ
+unfolding linesIn
+pairWithSomeZeros =
+    linesIn
+    ("J     3   003000003    02"
+    ∷ "R     0    00     1 00000000000"
+    ∷ "R  0001     0000001     0    02"
+    ∷ "R     2     1     1     0     2"
+    ∷ "P    00  0001000000     1     0 00000"
+    ∷ "P000001     1     0  0000     0     0"
+    ∷ "P     2000001     2     0     1000000"
+    ∷ "F     0  0001"
+    ∷ "F 00001     2"
+    ∷ [])
+
 -- ---- small files
 
 -- a job of one state, one symbol and one node: its J line
@@ -94,9 +121,12 @@ withEdges first second =
 
 -- files by their answers, in the order of the numbers
 unfoldable pub fileTrials : List FileTrial
-unfolding pairFile
+unfolding pairFile pairWithZeros pairWithSomeZeros
 fileTrials =
     reads pairFile (accepted pair)
+    -- the same job, with zeros before the numbers' digits
+    ∷ reads pairWithZeros (accepted pair)
+    ∷ reads pairWithSomeZeros (accepted pair)
     -- 1: too long, though it would be 4 too
     ∷ reads (replicate 49915 32) (turned 1)
     -- 3: nothing at all; nothing where an F line is due
@@ -105,21 +135,27 @@ fileTrials =
     -- 4: a line cut within, and one without its end byte
     ∷ reads (bytesIn "J     3     3") (turned 4)
     ∷ reads (linesIn pairLines ++ bytesIn "F     1     2") (turned 4)
-    -- 4: another letter; a leading zero; zeros for spaces; no digit; a space at the end, or within; a sign; a tab; a carriage
-    -- return
+    -- 4: another letter; no digit; a space at the end, or within; a sign; a tab; a carriage return
     ∷ reads (withHead "j     1     1     1     0") (turned 4)
-    ∷ reads (withHead "J    01     1     1     0") (turned 4)
-    ∷ reads (withHead "J000001     1     1     0") (turned 4)
     ∷ reads (withHead "J           1     1     0") (turned 4)
     ∷ reads (withHead "J    1      1     1     0") (turned 4)
     ∷ reads (withHead "J   1 1     1     1     0") (turned 4)
     ∷ reads (withHead "J    +1     1     1     0") (turned 4)
     ∷ reads (withHead "J\t    1     1     1     0") (turned 4)
     ∷ reads (withHead "J     1     1     1     0\r") (turned 4)
-    -- 5: S of 17, of 0, of 65,537; A of 0 and of 17; E of 2,049; N of 0 and of 513
+    -- 4: a space after a zero: before the number, between zeros, at the end; a sign after zeros; also in a number that would be 5
+    ∷ reads (withHead "J0    1     1     1     0") (turned 4)
+    ∷ reads (withHead "J   0 0     1     1     0") (turned 4)
+    ∷ reads (withHead "J00001      1     1     0") (turned 4)
+    ∷ reads (withHead "J000+01     1     1     0") (turned 4)
+    ∷ reads (withHead "J00 017     1     1     0") (turned 4)
+    -- 5: S of 17, of 0, of 65,537, also with zeros; A of 0 and of 17; E of 2,049; N of 0 and of 513
     ∷ reads (withHead "J    17     1     1     0") (turned 5)
     ∷ reads (withHead "J     0     1     1     0") (turned 5)
     ∷ reads (withHead "J 65537     1     1     0") (turned 5)
+    ∷ reads (withHead "J000017     1     1     0") (turned 5)
+    ∷ reads (withHead "J000000     1     1     0") (turned 5)
+    ∷ reads (withHead "J065537     1     1     0") (turned 5)
     ∷ reads (withHead "J     1     0     1     0") (turned 5)
     ∷ reads (withHead "J     1    17     1     0") (turned 5)
     ∷ reads (withHead "J     1     1     1  2049") (turned 5)

@@ -4,6 +4,7 @@ pub mod File
 pub mod FileTrials
 pub mod ListingLines
 pub mod ListingTrials
-pub mod Spellable
 pub mod Refusal
+pub mod Alike
+pub mod Spellable
 pub mod ListingFits

@@ -8,6 +8,7 @@ use Prim.Native.Nat.{ℕ, _≤_, _<_}
 use lib.ListN.{length, getD}
 use Rattle.job.specs.Job.{Edge, Job, WellFormedJob, nodeAt}
 use Rattle.jobfile.specs.File.{maxFile, accepted, readJob, writeJob}
+use Rattle.jobfile.specs.Alike.{Alike, WithoutZeros}
 
 -- "ascending by from, then to"
 abbrev pub Before : Edge → Edge → Type 0
@@ -32,13 +33,14 @@ pub record Spellable (j : Job) : Type 0 where
   pub afters : (n : ℕ) → nodeAt j n .exit ≡ false → nodeAt j n .after ≡ 0
   pub some-entry : (n : ℕ) × (nodeAt j n .entry ≢ 0)
 
--- the statement: a file is accepted with a job if and only if it is the file written from that job, and the job is spellable
+-- the statement: a file is accepted with a job if and only if it is alike the file written from that job, and the job is spellable
 abbrev pub ReadsWhatIsWritten : Type 0
-ReadsWhatIsWritten = (file : List ℕ) (j : Job) → (readJob file ≡ accepted j) ↔ ((file ≡ writeJob j) × Spellable j)
+ReadsWhatIsWritten = (file : List ℕ) (j : Job) → (readJob file ≡ accepted j) ↔ (Alike (writeJob j) file × Spellable j)
 
--- the statement: two accepted files with one job are equal
-abbrev pub AcceptedOnce : Type 0
-AcceptedOnce = (f g : List ℕ) (j : Job) → readJob f ≡ accepted j → readJob g ≡ accepted j → f ≡ g
+-- the statement: of all files of a job just one has no zeros before a number's digits, and it is the file written from that job
+pub record AcceptedOnce : Type 0 where
+  pub written : (j : Job) → Spellable j → WithoutZeros (writeJob j)
+  pub only : (file : List ℕ) (j : Job) → WithoutZeros file → (readJob file ≡ accepted j) ↔ ((file ≡ writeJob j) × Spellable j)
 
 -- the statement: an accepted job is well formed
 abbrev pub AcceptsWellFormed : Type 0
@@ -47,4 +49,5 @@ AcceptsWellFormed = (file : List ℕ) (j : Job) → readJob file ≡ accepted j 
 -- the statement: the longest file of a job has 49,914 bytes
 abbrev pub LongestFile : Type 0
 LongestFile =
-    ((j : Job) → Spellable j → length (writeJob j) ≤ maxFile) × ((j : Job) × Spellable j × (length (writeJob j) ≡ maxFile))
+    ((j : Job) (file : List ℕ) → Spellable j → Alike (writeJob j) file → length file ≤ maxFile)
+    × ((j : Job) × Spellable j × (length (writeJob j) ≡ maxFile))

@@ -99,10 +99,10 @@ digits-few v i at h p = lt-of-lt-of-le p (pow-le-pow-right {n = 10} (lit< tt) {j
 
 -- ---- the field
 
--- neither a space nor a zero comes first
-digit-leads : (b : ℕ) (bs : List ℕ) → (b ≡ 32 → ⊥) → (b ≡ 48 → ⊥) → fieldOf (b ∷ bs) ≡ digitsOf 0 (b ∷ bs)
+-- no space comes first
+pub digit-leads : (b : ℕ) (bs : List ℕ) → (b ≡ 32 → ⊥) → fieldOf (b ∷ bs) ≡ digitsOf 0 (b ∷ bs)
 unfolding fieldOf
-digit-leads b bs p q = simp (ne-eqb b 32 p, ne-eqb b 48 q)
+digit-leads b bs p = simp (ne-eqb b 32 p)
 
 -- nothing but spaces
 pub field-spaces : (l : List ℕ) (at r : ℕ) → r ≡ at + 6 → fieldOf (slice at (at + 6) l) ≡ fieldOf (slice r (at + 6) l)
@@ -110,26 +110,11 @@ pub field-spaces : (l : List ℕ) (at r : ℕ) → r ≡ at + 6 → fieldOf (sli
 unfolding fieldOf
 field-spaces l at r e same = sym (ap fieldOf (sym (slice-part at 6 l)) ∙ same ∙ rw (e, slice-empty (at + 6) l))
 
-module _ (l : List ℕ) (at r : ℕ) (h : r < at + 6) (k : at + 6 ≤ length l)
-    (same : fieldOf (slice at (at + 6) l) ≡ fieldOf (slice r (at + 6) l)) where
-  -- the field by its first column that is no space
-  first-column : fieldOf (take 6 (drop at l)) ≡ fieldOf (getD l r 0 ∷ slice (r + 1) (at + 6) l)
-  first-column = ap fieldOf (sym (slice-part at 6 l)) ∙ same ∙ ap fieldOf (slice-step r (at + 6) l h k)
-
-  -- digits that do not begin with 0
-  pub field-digits
-      : (getD l r 0 ≡ 32 → ⊥) → (getD l r 0 ≡ 48 → ⊥) → digitsOf 0 (slice r (at + 6) l) ≡ fieldOf (take 6 (drop at l))
-  field-digits p q =
-      sym (first-column ∙ digit-leads (getD l r 0) (slice (r + 1) (at + 6) l) p q ∙ ap (digitsOf 0) (sym (slice-step r (at + 6) l h k)))
-
-  -- "0" alone
-  pub field-zero : getD l r 0 ≡ 48 → r + 1 ≡ at + 6 → Number 0 ≡ fieldOf (take 6 (drop at l))
-  unfolding fieldOf
-  field-zero e q = sym (first-column ∙ rw (e, q, slice-empty (at + 6) l))
-
-  -- a zero before other columns
-  pub field-leading : getD l r 0 ≡ 48 → (r + 1 ≡ at + 6 → ⊥) → Malformed ≡ fieldOf (take 6 (drop at l))
-  unfolding fieldOf
-  field-leading e q =
-      let m : r + 1 < at + 6 = omega arith in
-      sym (first-column ∙ rw (e, slice-step (r + 1) (at + 6) l m k))
+-- digits past the spaces
+pub field-digits
+    : (l : List ℕ) (at r : ℕ) → r < at + 6 → at + 6 ≤ length l → fieldOf (slice at (at + 6) l) ≡ fieldOf (slice r (at + 6) l)
+    → (getD l r 0 ≡ 32 → ⊥) → digitsOf 0 (slice r (at + 6) l) ≡ fieldOf (take 6 (drop at l))
+field-digits l at r h k same p =
+    let first : slice r (at + 6) l ≡ getD l r 0 ∷ slice (r + 1) (at + 6) l = slice-step r (at + 6) l h k in
+    sym (ap fieldOf (sym (slice-part at 6 l)) ∙ same ∙ ap fieldOf first ∙ digit-leads (getD l r 0) (slice (r + 1) (at + 6) l) p
+    ∙ ap (digitsOf 0) (sym first))

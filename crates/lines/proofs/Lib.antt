@@ -6,3 +6,5 @@ pub mod LinesLaws
 pub mod SpelledField
 pub mod SpelledLine
 pub mod SpelledLines
+pub mod AlikeLaws
+pub mod FieldTrialsPass

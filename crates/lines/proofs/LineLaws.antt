@@ -29,7 +29,7 @@ past-field : (l : List ℕ) (i : ℕ) → drop 6 (drop (i * 6 + 1) l) ≡ drop (
 past-field l i = let e : i * 6 + 1 + 6 ≡ suc i * 6 + 1 = omega arith in drop-drop 6 (i * 6 + 1) l ∙ ap (λ (n : ℕ). drop n l) e
 
 -- fields that are all numbers, those of a list from its place i on
-fields-from
+pub fields-from
     : (l ns : List ℕ) (c i : ℕ) → i + c ≤ length ns → ((k : ℕ) → i ≤ k → k < i + c → fieldAt l k ≡ Number (getD ns k 0))
     → fieldsOf c (drop (i * 6 + 1) l) ≡ numbers (take c (drop i ns))
 unfolding fieldsOf

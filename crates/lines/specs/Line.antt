@@ -50,16 +50,12 @@ unfoldable pub digitsOf : ℕ → List ℕ → Field
 digitsOf v [] = Number v
 digitsOf v (b ∷ bs) = cond (isDigit b) (digitsOf (v * 10 + (b - 48)) bs) Malformed
 
--- nothing after a zero
-abbrev pub zeroAlone : List ℕ → Field
-zeroAlone [] = Number 0
-zeroAlone (b ∷ bs) = Malformed
-
--- spaces, then "0" alone or digits that begin with another
+-- a field is spaces, then one digit or more: "a field's number may now carry zeros before its digits instead of spaces, or after the
+-- spaces" (document 02, request 5)
 unfoldable pub fieldOf : List ℕ → Field
 unfolding digitsOf
 fieldOf [] = Malformed
-fieldOf (b ∷ bs) = cond (eqb b 32) (fieldOf bs) (cond (eqb b 48) (zeroAlone bs) (digitsOf 0 (b ∷ bs)))
+fieldOf (b ∷ bs) = cond (eqb b 32) (fieldOf bs) (digitsOf 0 (b ∷ bs))
 
 -- the numbers of k fields, or that one of them is none
 pub data Numbers : Type 0 where

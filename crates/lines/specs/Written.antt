@@ -1,25 +1,43 @@
--- Lines as they are written: which bytes begin with lines of a kind, and the first that is turned back. Only the two statements at the
--- end speak of reading.
+-- Fields and lines as they stand in bytes: which columns hold a number, which bytes begin with lines of a kind, and the first line that is
+-- turned back. Only the statements at the end speak of reading.
 -- Assumes nothing.
 use mathlib.Core.Path.{_≡_}
 use mathlib.Core.Logic.{_≢_, _↔_}
 use mathlib.Core.Bool.{true, false}
 use mathlib.Core.List.{List, [], _∷_, _++_}
-use Prim.Native.Nat.{ℕ, suc, _+_, _<_}
-use lib.ListN.{length, drop}
+use Prim.Native.Nat.{ℕ, suc, _+_, _*_, _<_}
+use lib.ListN.{length, take, drop, replicate}
 use Rattle.lines.specs.declared.field.Field.the-variants.{Number}
-use Rattle.lines.specs.Line.{field, line, writeLines, at, fieldOf, found, lineLength, lineOf}
+use Rattle.lines.specs.Line.{decimal, field, line, at, fieldOf, found, lineLength, lineOf}
 use Rattle.lines.specs.Lines.{LineKind}
 
 -- numbers of at most six digits; past the last one `at` is 0
 abbrev pub Fits : List ℕ → Type 0
 Fits ns = (i : ℕ) → at ns i < 1000000
 
--- the bytes begin with a line of the kind, "its letter, its fields and its end byte", and the rest follows it
-pub record LineAt (k : LineKind) (bytes ns rest : List ℕ) : Type 0 where
-  pub count : length ns ≡ k .count
-  pub fits : Fits ns
-  pub spelled : bytes ≡ line (k .letter) ns ++ rest
+-- six columns hold the number n: spaces, then zeros, then its digits
+pub record Holds (l : List ℕ) (n : ℕ) : Type 0 where
+  pub columns : length l ≡ 6
+  pub small : n < 1000000
+  pub spaces : ℕ
+  pub zeros : ℕ
+  pub spelled : l ≡ replicate spaces 32 ++ (replicate zeros 48 ++ decimal 6 n [])
+
+-- the columns of field i, in bytes that begin with a line
+abbrev pub columnsOf : ℕ → List ℕ → List ℕ
+columnsOf i bytes = take 6 (drop (i * 6 + 1) bytes)
+
+-- the bytes begin with a line of k fields with these numbers: "its letter, its fields" and "its end byte"
+pub record LineAt (letter k : ℕ) (bytes ns : List ℕ) : Type 0 where
+  pub count : length ns ≡ k
+  pub first : take 1 bytes ≡ letter ∷ []
+  pub fields : (i : ℕ) → i < k → Holds (columnsOf i bytes) (at ns i)
+  pub last : take 1 (drop (k * 6 + 1) bytes) ≡ 10 ∷ []
+
+-- the bytes begin with lines of a kind with these numbers, and the rest follows them
+abbrev pub Stand : LineKind → List ℕ → List (List ℕ) → List ℕ → Type 0
+Stand k bytes [] rest = bytes ≡ rest
+Stand k bytes (ns ∷ ls) rest = LineAt (k .letter) (k .count) bytes ns × Stand k (drop (lineLength (k .count)) bytes) ls rest
 
 -- good lines in turn, from place i on, after a line with the numbers `before`
 pub data GoodLines (k : LineKind) : ℕ → List ℕ → List (List ℕ) → Type 0 where
@@ -32,16 +50,17 @@ pub data GoodLines (k : LineKind) : ℕ → List ℕ → List (List ℕ) → Typ
 pub record LinesAt (k : LineKind) (c i : ℕ) (before bytes : List ℕ) (ls : List (List ℕ)) (rest : List ℕ) : Type 0 where
   pub count : length ls ≡ c
   pub good : GoodLines k i before ls
-  pub spelled : bytes ≡ writeLines (k .letter) ls ++ rest
+  pub stand : Stand k bytes ls rest
 
 -- why the line due at the start of the bytes is turned back
 pub data BadLine (k : LineKind) (i : ℕ) (before bytes : List ℕ) : ℕ → Type 0 where
   -- 3: "the file ends where a line is due"
   ended : bytes ≡ [] → BadLine k i before bytes 3
   -- 4: "the line due has not its letter, its fields or its end byte"
-  malformed : bytes ≢ [] → ((ns rest : List ℕ) → LineAt k bytes ns rest → ⊥) → BadLine k i before bytes 4
+  malformed : bytes ≢ [] → ((ns : List ℕ) → LineAt (k .letter) (k .count) bytes ns → ⊥) → BadLine k i before bytes 4
   -- 5 to 8, by the kind
-  outside : {ns rest : List ℕ} → LineAt k bytes ns rest → k .good i before ns ≡ false → BadLine k i before bytes (k .refusal)
+  outside
+      : {ns : List ℕ} → LineAt (k .letter) (k .count) bytes ns → k .good i before ns ≡ false → BadLine k i before bytes (k .refusal)
 
 -- the last of some lines, or the one before them
 unfoldable pub lastOf : List ℕ → List (List ℕ) → List ℕ
@@ -54,17 +73,25 @@ pub record FirstBad (k : LineKind) (c i : ℕ) (before bytes : List ℕ) (r : �
   pub due : List ℕ
   pub few : length passed < c
   pub good : GoodLines k i before passed
-  pub spelled : bytes ≡ writeLines (k .letter) passed ++ due
+  pub stand : Stand k bytes passed due
   pub bad : BadLine k (i + length passed) (lastOf before passed) due r
+
+-- ---- without zeros
+
+-- no zero stands before a number's digits: none is the first column past the spaces with a column after it
+abbrev pub NoZeros : List ℕ → Type 0
+NoZeros l = (m b : ℕ) (bs : List ℕ) → l ≡ replicate m 32 ++ (48 ∷ b ∷ bs) → ⊥
 
 -- ---- what reading says of them
 
--- the statement: six columns hold a number if and only if they are its field
-abbrev pub FieldSays : Type 0
-FieldSays = (l : List ℕ) (n : ℕ) → length l ≡ 6 → (fieldOf l ≡ Number n) ↔ ((n < 1000000) × (l ≡ field n))
+-- the statement: six columns are read as a number if and only if they hold it; the field written of a number has no zeros before its
+-- digits, and of all columns that hold the number it is the only one
+pub record FieldSays : Type 0 where
+  pub holds : (l : List ℕ) (n : ℕ) → length l ≡ 6 → (fieldOf l ≡ Number n) ↔ Holds l n
+  pub written : (n : ℕ) → n < 1000000 → Holds (field n) n × NoZeros (field n)
+  pub only : (l : List ℕ) (n : ℕ) → Holds l n → NoZeros l → l ≡ field n
 
--- the statement: a line is found if and only if it is written there
-abbrev pub LineSays : Type 0
-LineSays =
-    (letter k : ℕ) (bytes ns : List ℕ)
-    → (lineOf letter k bytes ≡ found ns) ↔ ((length ns ≡ k) × Fits ns × (bytes ≡ line letter ns ++ drop (lineLength k) bytes))
+-- the statement: a line is found if and only if it stands there, and it stands where it is written
+pub record LineSays : Type 0 where
+  pub found-there : (letter k : ℕ) (bytes ns : List ℕ) → (lineOf letter k bytes ≡ found ns) ↔ LineAt letter k bytes ns
+  pub written : (letter : ℕ) (ns rest : List ℕ) → Fits ns → LineAt letter (length ns) (line letter ns ++ rest) ns

@@ -1,4 +1,4 @@
-// Fields: six columns with a decimal number, right-justified with spaces.
+// Fields: six columns with a decimal number, right-justified, spaces or zeros before its digits.
 
 // What six columns hold.
 pub enum Field {

@@ -64,4 +64,5 @@ call-trials-pass =
     and lists-so refl refl refl (λ work. refl)
     and lists-so refl refl refl (λ work. refl)
     and lists-so refl refl refl (λ work. refl)
+    and lists-so refl refl refl (λ work. refl)
     and done

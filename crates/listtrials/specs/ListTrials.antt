@@ -10,7 +10,7 @@ use lib.ListN.{length}
 use lib.Seq.{sets}
 use Rattle.planning.specs.Trials.{turn, lastSeal, writeTwice, aroundTheRing}
 use Rattle.jobfile.specs.File.{Answer, writeJob}
-use Rattle.jobfile.specs.FileTrials.{linesIn, pairFile, smallHead, smallRule, smallNode, withNode}
+use Rattle.jobfile.specs.FileTrials.{linesIn, pairFile, pairWithZeros, smallHead, smallRule, smallNode, withNode}
 use Rattle.buffer.specs.Buffer.{workSize, cleared}
 use Rattle.admission.specs.Admission.{workAfter}
 use Rattle.listoutcome.specs.declared.list.Listed.{Listed}
@@ -62,10 +62,17 @@ loopLines =
 
 -- the table
 unfoldable pub callTrials : List CallTrial
-unfolding pairFile writeJob
+unfolding pairFile pairWithZeros writeJob
 callTrials =
     -- PAIR
     lists pairFile (Length 134)
+    ("W     0     0     1     1     1     0"
+    ∷ "W     1     0     2     2     1     1"
+    ∷ "W     2     2     2     1     0     1"
+    ∷ "T     3     2     2"
+    ∷ [])
+    -- PAIR with zeros before its numbers' digits: the same
+    ∷ lists pairWithZeros (Length 134)
     ("W     0     0     1     1     1     0"
     ∷ "W     1     0     2     2     1     1"
     ∷ "W     2     2     2     1     0     1"

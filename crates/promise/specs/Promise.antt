@@ -10,6 +10,7 @@ use Rattle.events.specs.Form.{EventForm, valueForm, lentForm}
 use Rattle.job.specs.Job.{Job}
 use Rattle.twomonitors.specs.Monitors.{AlarmsKept, PointsNeeded, ListsExist, AnyOrder}
 use Rattle.jobfile.specs.File.{accepted, writeJob}
+use Rattle.jobfile.specs.Alike.{Alike}
 use Rattle.jobfile.specs.Spellable.{Spellable}
 use Rattle.buffer.specs.Buffer.{workSize}
 use Rattle.planoutcome.specs.PlanCall.{planSize, planAnswer, planAfter}
@@ -20,11 +21,11 @@ use Rattle.eventbytes.specs.Form.{callForm}
 abbrev pub planBytes : List ℕ → List ℕ → ℕ → Job → List ℕ
 planBytes file plan size j = take (length (j .nodes)) (planAfter (planAnswer file size (length plan)) plan)
 
--- the statement: planning accepts every job that a file can spell, with buffers of the stated lengths or more
+-- the statement: planning accepts every job that a file can spell, in every file of that job, with buffers of the stated lengths or more
 abbrev pub PlanningAccepts : Type 0
 PlanningAccepts =
-    (j : Job) → Spellable j → (plan : List ℕ) (size : ℕ) → planSize ≤ length plan → workSize ≤ size
-    → planAnswer (writeJob j) size (length plan) ≡ accepted j
+    (j : Job) (file : List ℕ) → Spellable j → Alike (writeJob j) file → (plan : List ℕ) (size : ℕ) → planSize ≤ length plan
+    → workSize ≤ size → planAnswer file size (length plan) ≡ accepted j
 
 -- both halves in one form: for every file, work buffer and plan buffer that planning accepts
 abbrev pub BothHalves : EventForm → Type 0

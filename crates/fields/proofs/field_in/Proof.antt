@@ -1,9 +1,9 @@
--- `fields::field_in` meets its contract: past the spaces stand no column, "0" alone, a zero before others, or digits.
+-- `fields::field_in` meets its contract: past the spaces stand no column, or digits to the end.
 -- Assumes nothing.
 use mathlib.Core.Path.{_∙_}
 use native.Mathlib.Omega.{arith}
 use borrow.Author.Needs.{needs}
-use Rattle.lines.proofs.FieldLaws.{field-spaces, field-digits, field-zero, field-leading}
+use Rattle.lines.proofs.FieldLaws.{field-spaces, field-digits}
 use Rattle.fields.proofs.field_in.Statement.{statement}
 use Rattle.fields.proofs.field_in.Tie as tie
 
@@ -19,34 +19,15 @@ returns c =
     let p = c .before .past-spaces in
     field-spaces (x .line .now) (x .at) (p .result) (c .if1 .taken) (p .ensures .same)
 
-shared-slice-read-if2 : tie.Need-shared-slice-read-if2
-shared-slice-read-if2 c = search needs
-
 digits-in-requires : tie.Need-digits-in-requires
 digits-in-requires c κs = search needs
 
 returns-2 : tie.Need-returns-2
 returns-2 c =
-    let x = c .before .before .before .before .before .before .args in
-    let p = c .before .before .before .before .past-spaces in
+    let x = c .before .before .before .before .args in
+    let p = c .before .before .past-spaces in
     c .digits-in .ensures
-    ∙ field-digits (x .line .now) (x .at) (p .result) (omega arith) (omega arith) (p .ensures .same)
-    (p .ensures .no-space (omega arith)) (c .before .if2 .taken)
-
-add-if3 : tie.Need-add-if3
-add-if3 c = search needs
-
-returns-3 : tie.Need-returns-3
-returns-3 c =
-    let x = c .before .before .before .before .before .before .args in
-    let p = c .before .before .before .before .past-spaces in
-    field-zero (x .line .now) (x .at) (p .result) (omega arith) (omega arith) (p .ensures .same) (c .before .if2 .left) (c .if3 .taken)
-
-returns-4 : tie.Need-returns-4
-returns-4 c =
-    let x = c .before .before .before .before .before .before .args in
-    let p = c .before .before .before .before .past-spaces in
-    field-leading (x .line .now) (x .at) (p .result) (omega arith) (omega arith) (p .ensures .same) (c .before .if2 .left) (c .if3 .left)
+    ∙ field-digits (x .line .now) (x .at) (p .result) (omega arith) (omega arith) (p .ensures .same) (p .ensures .no-space (omega arith))
 
 pub field-in-spec : {M : Type 1} → statement M
 field-in-spec =
@@ -55,9 +36,5 @@ field-in-spec =
     add-end
     past-spaces-requires
     returns
-    shared-slice-read-if2
     digits-in-requires
-    returns-2
-    add-if3
-    returns-3
-    returns-4)
+    returns-2)
