@@ -1,0 +1,1 @@
+// Files alike get the same answer of every call: definitions and theorems, no code.
