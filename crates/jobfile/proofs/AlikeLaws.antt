@@ -10,7 +10,7 @@ use Rattle.lines.specs.Line.{at}
 use Rattle.lines.specs.Alike.{AlikeOver}
 use Rattle.jobfile.specs.File.{maxFile, headLine, ruleLine, nodeLine, edgeLine, Answer, accepted, turned, atEnd, readJob, jobOf}
 use Rattle.jobfile.specs.Refusal.{PastHead, PastRules, PastNodes, PastEdges, TurnedBack, too-long, at-head, at-rule, at-node, at-edge, bytes-follow, no-entry}
-use Rattle.jobfile.specs.Alike.{LinesDue, none-due, head-due, rule-due, node-due, edge-due, all-due, AlikeSays}
+use Rattle.jobfile.specs.Alike.{LinesDue, any-due, head-due, rule-due, node-due, edge-due, all-due, AlikeSays}
 use Rattle.lines.proofs.AlikeLaws.{over-same, over-turned, lines-alike, first-bad-alike}
 use Rattle.jobfile.proofs.RefusalLaws.{past-edges, turned-says, accepted-says}
 
@@ -18,7 +18,7 @@ use Rattle.jobfile.proofs.RefusalLaws.{past-edges, turned-says, accepte
 
 -- a file that is turned back
 turned-due : {file : List ℕ} {r : ℕ} → TurnedBack file r → (due : List ℕ) × LinesDue file due
-turned-due (too-long l) = (_, none-due l)
+turned-due (too-long l) = ([], any-due l)
 turned-due (at-head short bad) = (_, head-due short bad)
 turned-due (at-rule p bad) = (_, rule-due p bad)
 turned-due (at-node p bad) = (_, node-due p bad)
@@ -81,7 +81,7 @@ module _ (f g : List ℕ) (same : length f ≡ length g) where
 
   -- the other has the same lines due, and is read alike
   due-alike : {due : List ℕ} → LinesDue f due → AlikeOver due f g → LinesDue g due × (readJob f ≡ readJob g)
-  due-alike (none-due l) a = let m = rw same at l in (none-due m, both-turned 1 (too-long l) (too-long m))
+  due-alike (any-due l) a = let m = rw same at l in (any-due m, both-turned 1 (too-long l) (too-long m))
   due-alike (head-due {r} short bad) a =
       let none : length (bad .passed) ≡ 0 = omega (arith, bad .few) in
       let d = first-bad-alike headLine {g = g} bad (rw none a) .0 in

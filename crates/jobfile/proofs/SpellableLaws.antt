@@ -15,7 +15,7 @@ use Rattle.lines.specs.Line.{at}
 use Rattle.lines.specs.Alike.{NoZerosOver}
 use Rattle.jobfile.specs.File.{maxFile, ruleLine, nodeLine, edgeLine, finalsOf, ruleOf, nodeOf, edgeOf, someEntry, accepted, turned, readJob, writeJob, jobOf}
 use Rattle.jobfile.specs.Refusal.{HeadWithin, PastEdges, too-long, at-head, at-rule, at-node, at-edge}
-use Rattle.jobfile.specs.Alike.{LinesDue, none-due, head-due, rule-due, node-due, edge-due, all-due, Alike, WithoutZeros}
+use Rattle.jobfile.specs.Alike.{LinesDue, any-due, head-due, rule-due, node-due, edge-due, all-due, Alike, WithoutZeros}
 use Rattle.lines.specs.Written.{GoodLines}
 use Rattle.jobfile.specs.Spellable.{Spellable, ReadsWhatIsWritten, AcceptedOnce, AcceptsWellFormed}
 use Rattle.jobfile.proofs.SpelledRules.{ruleLines, rules-count, rules-table, finals-high, finals-same, RowsFit, rules-exact, rules-good, rows-fit}
@@ -296,7 +296,7 @@ plain-only file j w e = go (w .lines) (w .none)
     whole {head} {rules} {nodes} {edges} (b ∷ bytes) p none u t = turned-not {r = 9} (past-edges file head rules nodes edges (b ∷ bytes) p)
 
     go : {due : List ℕ} → LinesDue file due → NoZerosOver due file → (file ≡ writeJob j) × Spellable j
-    go (none-due l) none = turned-not (turned-says file 1 .1 (too-long l))
+    go (any-due l) none = turned-not (turned-says file 1 .1 (too-long l))
     go (head-due {r} short bad) none = turned-not (turned-says file r .1 (at-head short bad))
     go (rule-due {r} p bad) none = turned-not (turned-says file r .1 (at-rule p bad))
     go (node-due {r} p bad) none = turned-not (turned-says file r .1 (at-node p bad))

@@ -83,10 +83,18 @@ written-form j =
     (regroup head (writeLines 82 (ruleLines (j .rule .finals) 0 (j .rule .table))) (writeLines 80 (nodeLines 0 (j .nodes)))
     (writeLines 70 (map edgeNumbers (j .edges))))
 
--- how many fields the lines of a file have, one after the other
+-- how many fields the lines of a file have, one after the other: from the F lines on, from the P lines on, from the R lines on, all
+abbrev edgeCounts : List (List ℕ) → List ℕ
+edgeCounts edges = replicate (length edges) 2 ++ []
+
+abbrev nodeCounts : List (List ℕ) → List (List ℕ) → List ℕ
+nodeCounts nodes edges = replicate (length nodes) 6 ++ edgeCounts edges
+
+abbrev ruleCounts : ℕ → List (List ℕ) → List (List ℕ) → List (List ℕ) → List ℕ
+ruleCounts a rules nodes edges = replicate (length rules) (a + 2) ++ nodeCounts nodes edges
+
 abbrev pub allCounts : ℕ → List (List ℕ) → List (List ℕ) → List (List ℕ) → List ℕ
-allCounts a rules nodes edges =
-    4 ∷ (replicate (length rules) (a + 2) ++ (replicate (length nodes) 6 ++ (replicate (length edges) 2 ++ [])))
+allCounts a rules nodes edges = 4 ∷ ruleCounts a rules nodes edges
 
 -- the four parts of a file of good lines alone
 pub record Parts (head : List ℕ) (rules nodes edges : List (List ℕ)) : Type 0 where
@@ -182,11 +190,11 @@ module _ (head : List ℕ) (rules nodes edges : List (List ℕ)) where
       : Parts head rules nodes edges → NoZerosOver (allCounts (at head 1) rules nodes edges) (fileOf head rules nodes edges)
   file-no-zeros p =
       rw (← file-form)
-      (written-only headLine (replicate (length rules) (at head 1 + 2) ++ (replicate (length nodes) 6 ++ (replicate (length edges) 2 ++ [])))
+      (written-only headLine (ruleCounts (at head 1) rules nodes edges)
       from-rules (p .head-lines)
-      (written-only (ruleLine (at head 0) (at head 1)) (replicate (length nodes) 6 ++ (replicate (length edges) 2 ++ [])) from-nodes
+      (written-only (ruleLine (at head 0) (at head 1)) (nodeCounts nodes edges) from-nodes
       (p .rule-lines)
-      (written-only (nodeLine (at head 0) (at head 1)) (replicate (length edges) 2 ++ []) from-edges (p .node-lines)
+      (written-only (nodeLine (at head 0) (at head 1)) (edgeCounts edges) from-edges (p .node-lines)
       (written-only (edgeLine (at head 2)) [] [] (p .edge-lines) tt))))
 
   -- a file of good lines alone without zeros is the file of those lines
@@ -196,13 +204,13 @@ module _ (head : List ℕ) (rules nodes edges : List (List ℕ)) where
   past-only file p none =
       let (first, none₁) =
       stand-only headLine (head ∷ [])
-      (replicate (length rules) (at head 1 + 2) ++ (replicate (length nodes) 6 ++ (replicate (length edges) 2 ++ []))) file
+      (ruleCounts (at head 1) rules nodes edges) file
       (p .past .past .from) (p .past .past .past .lines .stand) none in
       let (second, none₂) =
-      stand-only (ruleLine (at head 0) (at head 1)) rules (replicate (length nodes) 6 ++ (replicate (length edges) 2 ++ []))
+      stand-only (ruleLine (at head 0) (at head 1)) rules (nodeCounts nodes edges)
       (p .past .past .from) (p .past .from) (p .past .past .lines .stand) none₁ in
       let (third, none₃) =
-      stand-only (nodeLine (at head 0) (at head 1)) nodes (replicate (length edges) 2 ++ []) (p .past .from) (p .from)
+      stand-only (nodeLine (at head 0) (at head 1)) nodes (edgeCounts edges) (p .past .from) (p .from)
       (p .past .lines .stand) none₂ in
       let (fourth, none₄) = stand-only (edgeLine (at head 2)) edges [] (p .from) [] (p .lines .stand) none₃ in
       first
@@ -231,11 +239,11 @@ module _ (head : List ℕ) (rules nodes edges : List (List ℕ)) where
     pub past-alike : AlikeOver (allCounts (at head 1) rules nodes edges) f g
     past-alike =
         alike-stand headLine (head ∷ [])
-        (replicate (length rules) (at head 1 + 2) ++ (replicate (length nodes) 6 ++ (replicate (length edges) 2 ++ []))) f g
+        (ruleCounts (at head 1) rules nodes edges) f g
         (p .past .past .from) (q .past .past .from) (p .past .past .past .lines .stand) (q .past .past .past .lines .stand)
-        (alike-stand (ruleLine (at head 0) (at head 1)) rules (replicate (length nodes) 6 ++ (replicate (length edges) 2 ++ []))
+        (alike-stand (ruleLine (at head 0) (at head 1)) rules (nodeCounts nodes edges)
         (p .past .past .from) (q .past .past .from) (p .past .from) (q .past .from) (p .past .past .lines .stand) (q .past .past .lines .stand)
-        (alike-stand (nodeLine (at head 0) (at head 1)) nodes (replicate (length edges) 2 ++ []) (p .past .from) (q .past .from) (p .from)
+        (alike-stand (nodeLine (at head 0) (at head 1)) nodes (edgeCounts edges) (p .past .from) (q .past .from) (p .from)
         (q .from) (p .past .lines .stand) (q .past .lines .stand)
         (alike-stand (edgeLine (at head 2)) edges [] (p .from) (q .from) [] [] (p .lines .stand) (q .lines .stand) refl)))
 

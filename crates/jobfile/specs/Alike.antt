@@ -14,8 +14,8 @@ use Rattle.jobfile.specs.Refusal.{PastHead, PastRules, PastNodes, PastEd
 -- the lines due in a file, up to the one that is turned back, by how many fields each has: 4 in a J line, A + 2 in an R line, 6 in a P
 -- line, 2 in an F line
 pub data LinesDue (file : List ℕ) : List ℕ → Type 0 where
-  -- the file is too long: no line is looked at
-  none-due : maxFile < length file → LinesDue file []
+  -- the file is too long: no line is looked at, and any lines may be taken for those due
+  any-due : {due : List ℕ} → maxFile < length file → LinesDue file due
   -- the J line is turned back
   head-due : {r : ℕ} → length file ≤ maxFile → FirstBad headLine 1 0 [] file r → LinesDue file (4 ∷ [])
   -- an R line is turned back, after those passed
