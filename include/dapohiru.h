@@ -51,7 +51,10 @@ extern "C" {
 /* The length in the answer of accepted listing. */
 #define DAPOHIRU_LENGTH(answer) ((answer) - DAPOHIRU_ACCEPTED)
 
-/* Refusals. The lowest that applies is returned; the lines of a file are tested in turn, 3 to 8 on each. */
+/*
+ * Refusals. The lowest that applies is returned; the lines of a file are tested in turn, 3 to 8 on each.
+ * A field is a number in six columns: spaces or none, then digits, of which the first may be zeros.
+ */
 #define DAPOHIRU_FILE_TOO_LONG 1     /* the file is longer than DAPOHIRU_JOB_LEN */
 #define DAPOHIRU_BUFFER_TOO_SHORT 2  /* a work, plan or listing buffer is shorter than stated above */
 #define DAPOHIRU_LINE_MISSING 3      /* the file ends where a line is due */

@@ -38,7 +38,7 @@ impl Fault {
             let columns = line.get(first..first + 6);
             if columns.and_then(reading::number).is_none() {
                 let expected = format!(
-                    "{name}: a number in six columns, right-justified with spaces, without leading zeros"
+                    "{name}: a number in six columns, right-justified, with spaces or zeros before it and no space after a digit"
                 );
                 return wrong(first + 1, first + 6, expected);
             }

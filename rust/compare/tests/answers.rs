@@ -9,9 +9,9 @@ mod jobs;
 mod stored;
 
 use dapohiru::numbers::{self, ACCEPTED};
-use dapohiru_generators::damage::damaged;
+use dapohiru_generators::damage::{damage, misnumbered};
 use dapohiru_generators::events::Call;
-use dapohiru_generators::faults::{possible, refused, NUMBERS};
+use dapohiru_generators::faults::{faulty, possible, Fault, Form, NUMBERS};
 use dapohiru_generators::large::{self, Order};
 use dapohiru_generators::mixed;
 use dapohiru_generators::random::Random;
@@ -19,6 +19,7 @@ use dapohiru_generators::rings;
 use dapohiru_generators::sized::{self, Sizes, FULL};
 use dapohiru_generators::small;
 use dapohiru_generators::spread::Spread;
+use dapohiru_generators::zeros::{filled, zero_filled};
 use dapohiru_second::job::Job;
 use dapohiru_second::reading::WORK;
 use std::collections::BTreeSet;
@@ -96,14 +97,24 @@ fn job(random: &mut Random, number: u64) -> Job {
     }
 }
 
-/// A file with damage or with a fault of its own.
+/// A file with damage or with a fault of its own, written without zeros before its numbers.
 fn damaged_file(random: &mut Random, number: u64) -> Vec<u8> {
     let job = small::job(random);
     if number.is_multiple_of(2) {
-        return damaged(random, &job);
+        let mut file = misnumbered(random, &job);
+        if random.once_in(3) {
+            damage(random, &mut file);
+        }
+        return file;
     }
     let refusal = possible(&job, NUMBERS[number as usize % 8]);
-    refused(random, &job, refusal)
+    let lines = job.lines();
+    let mut faults = Fault::all(&job);
+    faults.retain(|fault| {
+        let of_zeros = matches!(fault, Fault::Form(_, Form::ZeroBeforeSpace));
+        fault.place(&lines).1 == refusal && !of_zeros
+    });
+    faulty(&lines, &[random.pick(&faults)])
 }
 
 /// The answers to a thousand events, as a hash of their numbers and records.
@@ -118,8 +129,8 @@ fn events(number: u64) -> String {
     format!("events {number}: {:016x}", hash(&left))
 }
 
-/// Every answer, a line each.
-fn all() -> Vec<String> {
+/// Every answer, a line each. Each file is changed in this way first.
+fn all(mut changed: impl FnMut(Vec<u8>) -> Vec<u8>) -> Vec<String> {
     let names = [
         "again-edge",
         "again-sets",
@@ -134,17 +145,17 @@ fn all() -> Vec<String> {
     let every = |nodes: u32| (0..1_u32 << nodes).map(move |set| bits(set, nodes));
     let plans: Vec<_> = (0..=3).flat_map(every).collect();
     let mut lines: Vec<_> = named
-        .map(|(number, file)| answers(&format!("trial {number}"), &file, &plans))
+        .map(|(number, file)| answers(&format!("trial {number}"), &changed(file), &plans))
         .collect();
     lines.extend((0..1_000).map(|number| {
         let mut random = random(number);
         let job = job(&mut random, number);
         let plans = some_plans(&mut random, &job);
-        answers(&format!("job {number}"), &job.file(), &plans)
+        answers(&format!("job {number}"), &changed(job.file()), &plans)
     }));
     lines.extend((0..300).map(|number| {
         let file = damaged_file(&mut random(number), number);
-        answers(&format!("damaged {number}"), &file, &[])
+        answers(&format!("damaged {number}"), &changed(file), &[])
     }));
     lines.extend((0..40).map(events));
     lines
@@ -157,7 +168,7 @@ fn bits(set: u32, nodes: u32) -> Vec<u8> {
 
 #[test]
 fn answers_are_those_stored() {
-    let lines = all();
+    let lines = all(|file| file);
     let seen = Path::new(env!("CARGO_TARGET_TMPDIR")).join("answers.txt");
     fs::write(&seen, lines.join("\n") + "\n").expect("the answers are written");
     let stored = String::from_utf8(stored::file(STORED)).expect("the stored file is text");
@@ -177,6 +188,25 @@ fn answers_are_those_stored() {
         "all answers are in {}",
         seen.display()
     );
+}
+
+#[test]
+fn answers_to_files_with_zeros_are_those_stored() {
+    let stored = String::from_utf8(stored::file(STORED)).expect("the stored file is text");
+    let mut random = random(1);
+    let without_file = |line: &str| {
+        let (name, rest) = line.split_once(": ").expect("a name");
+        let answers = rest
+            .split_once(", plan ")
+            .map_or(rest, |(_, answers)| answers);
+        format!("{name}: {answers}")
+    };
+    for lines in [all(zero_filled), all(|file| filled(&mut random, file))] {
+        for (line, wanted) in lines.iter().zip(stored.lines()) {
+            assert_eq!(without_file(line), without_file(wanted));
+        }
+        assert_eq!(lines.len(), stored.lines().count());
+    }
 }
 
 #[test]

@@ -3,17 +3,18 @@
 use dapohiru_compare::wrapper::WRAPPER;
 use dapohiru_generators::random::Random;
 use dapohiru_generators::small;
+use dapohiru_generators::zeros::filled;
 use dapohiru_second::job::Job;
 use dapohiru_second::reading::WORK;
 use std::thread;
 
-/// The answers of all calls for one job, with what they write.
-fn answers(job: &Job, work: &mut [u8]) -> (Vec<u64>, Vec<u8>) {
-    let (file, mut plan, mut listing) = (job.file(), vec![7; 512], vec![7; 32_768]);
+/// The answers of all calls for one job and its file, with what they write.
+fn answers((job, file): &(Job, Vec<u8>), work: &mut [u8]) -> (Vec<u64>, Vec<u8>) {
+    let (mut plan, mut listing) = (vec![7; 512], vec![7; 32_768]);
     let mut numbers = vec![
-        (WRAPPER.plan)(&file, work, &mut plan),
-        (WRAPPER.list)(&file, work, &mut listing),
-        (WRAPPER.check)(&file, &job.plan_of(&[]), work),
+        (WRAPPER.plan)(file, work, &mut plan),
+        (WRAPPER.list)(file, work, &mut listing),
+        (WRAPPER.check)(file, &job.plan_of(&[]), work),
     ];
     let (rule, mut record) = (job.table(), [0; 16]);
     let (states, symbols, finals) = (job.states() as u64, job.symbols, job.final_set());
@@ -34,7 +35,13 @@ fn answers(job: &Job, work: &mut [u8]) -> (Vec<u64>, Vec<u8>) {
 #[test]
 fn many_threads_get_the_answers_that_one_gets() {
     let mut random = Random::fixed(21);
-    let jobs: Vec<_> = (0..300).map(|_| small::job(&mut random)).collect();
+    let jobs: Vec<_> = (0..300)
+        .map(|_| {
+            let job = small::job(&mut random);
+            let file = filled(&mut random, job.file());
+            (job, file)
+        })
+        .collect();
     let alone: Vec<_> = jobs
         .iter()
         .map(|job| answers(job, &mut [0; WORK]))

@@ -2,6 +2,7 @@
 use crate::random::Random;
 use crate::samples::pair;
 use crate::small;
+use crate::zeros::{filled, spoil};
 use dapohiru_second::job::{spell, Job};
 use dapohiru_second::reading;
 
@@ -33,9 +34,14 @@ pub fn damage(random: &mut Random, file: &mut Vec<u8>) {
     }
 }
 
-/// The file of a job with another number in some field, now and then with other bytes too.
+/// The file of a job with another number in some field and with any zeros, now and then with a zero before
+/// a space or with other bytes too.
 pub fn damaged(random: &mut Random, job: &Job) -> Vec<u8> {
-    let mut file = misnumbered(random, job);
+    let file = misnumbered(random, job);
+    let mut file = filled(random, file);
+    if random.once_in(12) {
+        spoil(random, &mut file);
+    }
     if random.once_in(3) {
         damage(random, &mut file);
     }

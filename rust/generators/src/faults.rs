@@ -1,5 +1,6 @@
 //! Faults that are put into the file of a job, alone or together.
 use crate::random::Random;
+use crate::zeros::filled;
 use dapohiru_second::job::{spell, Job, Line};
 use dapohiru_second::reading::{LONGEST, WORK};
 use std::slice::from_ref;
@@ -48,6 +49,18 @@ pub enum Form {
     Field,
     Column,
     EndByte,
+    /// Its first field has a zero before a space.
+    ZeroBeforeSpace,
+}
+
+impl Form {
+    const ALL: [Form; 5] = [
+        Form::Letter,
+        Form::Field,
+        Form::Column,
+        Form::EndByte,
+        Form::ZeroBeforeSpace,
+    ];
 }
 
 impl Fault {
@@ -59,8 +72,7 @@ impl Fault {
         faults.extend([&b"\n"[..], b"0", b"F     0     0\n"].map(Fault::Follow));
         faults.extend((0..lines.len()).map(Fault::Ends));
         for (number, line) in lines.iter().enumerate() {
-            let forms = [Form::Letter, Form::Field, Form::Column, Form::EndByte];
-            faults.extend(forms.map(|form| Fault::Form(number, form)));
+            faults.extend(Form::ALL.map(|form| Fault::Form(number, form)));
             let mut numbers = match line.letter {
                 b'J' => vec![
                     (0, 0),
@@ -164,6 +176,7 @@ pub fn faulty(lines: &[Line], faults: &[Fault]) -> Vec<u8> {
                 Form::Field => line[last - 1] = b' ',
                 Form::Column => drop(line.remove(1)),
                 Form::EndByte => line[last] = b'\r',
+                Form::ZeroBeforeSpace => line[1..3].copy_from_slice(b"0 "),
             }
         }
     }
@@ -171,10 +184,12 @@ pub fn faulty(lines: &[Line], faults: &[Fault]) -> Vec<u8> {
     [&spelled.concat()[..], follow].concat()
 }
 
-/// A file like the job's with one fault, which deserves this refusal; 8 asks for a job with an edge.
+/// A file like the job's with any zeros and one fault, which deserves this refusal; 8 asks for a job with an
+/// edge.
 pub fn refused(random: &mut Random, job: &Job, number: u64) -> Vec<u8> {
     let lines = job.lines();
     let mut faults = Fault::all(job);
     faults.retain(|fault| fault.place(&lines).1 == number);
-    faulty(&lines, &[random.pick(&faults)])
+    let file = faulty(&lines, &[random.pick(&faults)]);
+    filled(random, file)
 }

@@ -1,5 +1,6 @@
 //! What tests and benchmarks are made of, from a printed seed: random jobs, small and large, damaged
-//! files, random walks and random calls of the event step; and jobs written by hand.
+//! files, zeros before the numbers of files, random walks and random calls of the event step; and jobs
+//! written by hand.
 pub mod damage;
 pub mod events;
 pub mod faults;
@@ -16,3 +17,4 @@ pub mod spread;
 pub mod story;
 pub mod walker;
 pub mod widen;
+pub mod zeros;

@@ -1,9 +1,11 @@
-//! Milliseconds to read 300 job files of full size: the library's check of a plan of no bytes, which reads
-//! the file and no more, beside a plain Rust reader that makes the same tests on the same bytes, decodes
-//! the job and clears as many bytes. `cargo bench --offline --bench job_file` runs it.
+//! Milliseconds to read 300 job files of full size, written with spaces before the numbers and filled with
+//! zeros: the library's check of a plan of no bytes, which reads the file and no more, beside a plain Rust
+//! reader that makes the same tests on the same bytes, decodes the job and clears as many bytes.
+//! `cargo bench --offline --bench job_file` runs it.
 use dapohiru::{check, Refusal};
 use dapohiru_generators::random::Random;
 use dapohiru_generators::sized::{self, FULL};
+use dapohiru_generators::zeros::zero_filled;
 use dapohiru_plain::read::Decoded;
 use dapohiru_second::job::{Job, Node};
 use std::hint::black_box;
@@ -89,44 +91,55 @@ fn median(mut times: Vec<f64>) -> f64 {
     times[times.len() / 2]
 }
 
-fn main() {
-    let mut random = Random::of_this_run();
-    let mut work = vec![0; WORK];
-    let mut decoded = Decoded::new();
-    let mut files = Vec::new();
-    for _ in 0..FILES {
-        let job = sized::job(&mut random, FULL);
-        let file = job.file();
-        assert_eq!(plain(&file, &mut decoded, &mut work), Ok(()));
-        assert!(
-            holds(&decoded, &job),
-            "the plain reader decodes another job"
-        );
+/// Asks that the plain reader decodes this job from its file, and that the two readers are of one mind on a
+/// damaged file.
+fn agree(random: &mut Random, decoded: &mut Decoded, work: &mut [u8], file: &[u8], job: &Job) {
+    assert_eq!(plain(file, decoded, work), Ok(()));
+    assert!(holds(decoded, job), "the plain reader decodes another job");
+    let mut damaged = file.to_vec();
+    let place = random.place(damaged.len());
+    damaged[place] = random.pick(b" 0129:\n");
+    damaged.truncate(random.pick(&[place, file.len(), file.len()]));
+    let answer = plain(&damaged, decoded, work);
+    assert_eq!(read(&damaged, work), answer, "the two readers differ");
+}
 
-        // the two readers are of one mind on a damaged file too
-        let mut damaged = file.clone();
-        let place = random.place(damaged.len());
-        damaged[place] = random.pick(b" 0129:\n");
-        damaged.truncate(random.pick(&[place, file.len(), file.len()]));
-        let answer = plain(&damaged, &mut decoded, &mut work);
-        assert_eq!(read(&damaged, &mut work), answer, "the two readers differ");
-        files.push(file);
-    }
-    let bytes: usize = files.iter().map(Vec::len).sum();
-
+/// Times both readers on these files, in turn, and prints the medians and their ratio.
+fn print(what: &str, files: &[Vec<u8>], decoded: &mut Decoded, work: &mut [u8]) {
     let (mut ours, mut theirs) = (Vec::new(), Vec::new());
     for _ in 0..REPETITIONS {
-        ours.push(time(&files, |file| read(file, black_box(&mut work))));
-        theirs.push(time(&files, |file| {
-            let answer = plain(file, black_box(&mut decoded), black_box(&mut work));
+        ours.push(time(files, |file| read(file, black_box(&mut *work))));
+        theirs.push(time(files, |file| {
+            let answer = plain(file, black_box(decoded), black_box(work));
             black_box(&decoded);
             answer
         }));
     }
     let (ours, theirs) = (median(ours), median(theirs));
     println!(
+        "  {what:<18} {ours:>14.2}   {theirs:>10.2}   {:>5.2}",
+        ours / theirs
+    );
+}
+
+fn main() {
+    let mut random = Random::of_this_run();
+    let mut work = vec![0; WORK];
+    let mut decoded = Decoded::new();
+    let (mut spaced, mut filled) = (Vec::new(), Vec::new());
+    for _ in 0..FILES {
+        let job = sized::job(&mut random, FULL);
+        spaced.push(job.file());
+        filled.push(zero_filled(job.file()));
+        for file in [&spaced, &filled].map(|files| &files[files.len() - 1]) {
+            agree(&mut random, &mut decoded, &mut work, file, &job);
+        }
+    }
+    let bytes: usize = spaced.iter().map(Vec::len).sum();
+    println!(
         "milliseconds for {FILES} files of full size ({bytes} bytes), median of {REPETITIONS} repetitions"
     );
-    println!("  dapohiru_check   plain Rust   ratio");
-    println!("{ours:>16.2}   {theirs:>10.2}   {:>5.2}", ours / theirs);
+    println!("{:<20} dapohiru_check   plain Rust   ratio", "");
+    print("with spaces", &spaced, &mut decoded, &mut work);
+    print("filled with zeros", &filled, &mut decoded, &mut work);
 }

@@ -168,11 +168,11 @@ fn take(rest: &mut &[u8], letter: u8, numbers: &mut [u32]) -> Result<(), u64> {
     Ok(())
 }
 
-/// The number in six columns.
+/// The number in six columns: spaces, then digits.
 fn field(columns: &[u8]) -> Option<u32> {
     let spaces = columns.iter().take_while(|&&byte| byte == b' ').count();
     let digits = &columns[spaces..];
-    if digits.is_empty() || (digits[0] == b'0' && digits.len() > 1) {
+    if digits.is_empty() {
         return None;
     }
     let mut number = 0;

@@ -5,6 +5,7 @@ use dapohiru_compare::library::CALLS;
 use dapohiru_generators::events::Call;
 use dapohiru_generators::random::Random;
 use dapohiru_generators::samples::pair;
+use dapohiru_generators::zeros::zero_filled;
 use dapohiru_second::reading::{LONGEST, WORK};
 use dapohiru_second::serving::Service;
 use dapohiru_second::step::{Answer, Second};
@@ -26,7 +27,8 @@ fn same(number: u64, wanted: u64, what: &str) -> Result<(), String> {
 pub fn run(calls: &mut Calls, random: &mut Random) -> Result<(), String> {
     plan_and_listing_buffers(calls)?;
     plans(calls)?;
-    files(calls)?;
+    files(calls, &pair().file())?;
+    files(calls, &zero_filled(pair().file()))?;
     rules_and_records(calls)?;
     events(calls, random, Second { slip: None })
 }
@@ -66,12 +68,11 @@ fn plans(calls: &mut Calls) -> Result<(), String> {
     Ok(())
 }
 
-/// Files, cut short or with bytes past their last line.
-fn files(calls: &mut Calls) -> Result<(), String> {
-    let whole = pair().file();
+/// A file of PAIR, cut short or with bytes past its last line.
+fn files(calls: &mut Calls, whole: &[u8]) -> Result<(), String> {
     let around = LONGEST - 1..=LONGEST + 1;
     for len in LENGTHS.into_iter().chain(around).chain(0..=whole.len()) {
-        let mut file = whole.clone();
+        let mut file = whole.to_vec();
         file.resize(len, b'\n');
         let wanted = match len {
             _ if len > LONGEST => 1,

@@ -8,9 +8,10 @@ use dapohiru_generators::damage::{damage, damaged};
 use dapohiru_generators::random::Random;
 use dapohiru_generators::sized::{self, Sizes, FULL};
 use dapohiru_generators::small;
+use dapohiru_generators::zeros::{filled, spoil};
 use std::io::{self, Write};
 
-/// A file: mostly a damaged one, of a small job or of one of other sizes.
+/// A file with any zeros: mostly a damaged one, of a small job or of one of other sizes.
 fn file(random: &mut Random) -> Vec<u8> {
     let job = match random.below(4) {
         0 => {
@@ -20,10 +21,13 @@ fn file(random: &mut Random) -> Vec<u8> {
         _ => small::job(random),
     };
     match random.below(8) {
-        0 => job.file(),
+        0 => filled(random, job.file()),
         1..=3 => {
-            let mut file = job.file();
-            damage(random, &mut file);
+            let mut file = filled(random, job.file());
+            match random.below(6) {
+                0 => spoil(random, &mut file),
+                _ => damage(random, &mut file),
+            }
             file
         }
         _ => damaged(random, &job),
@@ -37,6 +41,7 @@ pub fn run(seed: u64, files: u64, out: &mut impl Write) -> io::Result<Found> {
     let mut random = Random(seed);
     let mut found = lengths::run(&mut calls, &mut random);
     let longest = sized::job(&mut random, FULL).file();
+    let longest = filled(&mut random, longest);
     // the longest file, whole and cut at its end
     for len in longest.len() - 2..=longest.len() {
         found = found.and_then(|()| calls.file(&mut random, &longest[..len]));

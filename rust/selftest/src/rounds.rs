@@ -15,6 +15,7 @@ use dapohiru_generators::random::Random;
 use dapohiru_generators::sized::{self, FULL};
 use dapohiru_generators::small;
 use dapohiru_generators::spread::Spread;
+use dapohiru_generators::zeros::filled;
 use dapohiru_second::job::Job;
 use dapohiru_second::serving::{Given, Service};
 use dapohiru_second::step::Second;
@@ -132,7 +133,7 @@ impl Rounds {
     /// Both halves of the third promise on the plan that the library writes.
     fn walk(&mut self, random: &mut Random) -> Result<(), String> {
         let job = mixed::job(random);
-        let file = job.file();
+        let file = filled(random, job.file());
         let said = |why: String| format!("{why}; job:\n{}", String::from_utf8_lossy(&file));
         let mut plan = [7; dapohiru::PLAN_LEN];
         let number = (GUARDED.plan)(&file, &mut [0; dapohiru::WORK_LEN], &mut plan);
@@ -159,7 +160,7 @@ impl Rounds {
         let small = small::job(random);
         let nodes = random.pick(&[16, 17, 64, 65, 255, 256, 257, 511, 512]);
         let job = Spread::random(random, &small, nodes).job;
-        self.whole(&job)
+        self.whole(random, &job)
     }
 
     /// A job of 512 nodes with long loops, or of the longest file, in all three calls.
@@ -169,15 +170,15 @@ impl Rounds {
             1 => large::job(random, Order::Flow),
             _ => large::job(random, Order::Parts),
         };
-        self.whole(&job)
+        self.whole(random, &job)
     }
 
     /// Planning, listing, and the check of the plan and of two others.
-    fn whole(&mut self, job: &Job) -> Result<(), String> {
-        let both = Service::BOTH.map(|service| serving::Case::of(service, job));
+    fn whole(&mut self, random: &mut Random, job: &Job) -> Result<(), String> {
+        let both = Service::BOTH.map(|service| serving::Case::of(service, job).with_zeros(random));
         let given = self.serve_cases(job, &both)?;
         let plans = [given.planned.plan, job.all_watched(), job.plan_of(&[])];
-        let cases = plans.map(|plan| checking::Case::of(job, plan));
+        let cases = plans.map(|plan| checking::Case::of(job, plan).with_zeros(random));
         self.check_cases(job, &cases)
     }
 }

@@ -39,10 +39,16 @@ static int all(const uint8_t *bytes, size_t len, uint8_t value)
     return 1;
 }
 
+/* What stands before the numbers of the file: spaces, or zeros. */
+static char lead = ' ';
+
 /* PAIR as the file, and buffers that hold other bytes. */
 static void fresh(void)
 {
-    memcpy(file, PAIR, PAIR_LEN);
+    size_t k;
+
+    for (k = 0; k < PAIR_LEN; k++)
+        file[k] = (uint8_t)(PAIR[k] == ' ' ? lead : PAIR[k]);
     memset(work, FILL, sizeof work);
     memset(plan, FILL, sizeof plan);
     memset(listing, FILL, sizeof listing);
@@ -133,6 +139,8 @@ static void files_and_buffers_are_refused_by_number(void)
     fresh();
     refused(DAPOHIRU_LINE_MALFORMED, PAIR_LEN - 1, sizeof work);
     refused_with(DAPOHIRU_LINE_MALFORMED, r, 'Q');
+    /* a zero before a space */
+    refused_with(DAPOHIRU_LINE_MALFORMED, 2, lead == ' ' ? '0' : ' ');
     refused_with(DAPOHIRU_BAD_SIZES, 6, '0');
     refused_with(DAPOHIRU_BAD_RULE_LINE, r + 12, '2');
     refused_with(DAPOHIRU_BAD_NODE_LINE, p + 12, '3');
@@ -215,6 +223,10 @@ static void events_move_the_record_and_count_alarms(void)
 
 int main(void)
 {
+    lead = '0';
+    pair_is_planned_listed_and_checked();
+    files_and_buffers_are_refused_by_number();
+    lead = ' ';
     pair_is_planned_listed_and_checked();
     files_and_buffers_are_refused_by_number();
     plans_are_refused_by_number();

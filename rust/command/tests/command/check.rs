@@ -1,6 +1,7 @@
 //! The command `check`.
 use crate::program::{example, file, folder, pair_with, run, PAIR};
 use dapohiru_generators::random::Random;
+use dapohiru_generators::zeros::filled;
 use dapohiru_second::search::difference;
 use dapohiru_second::walk::Walks;
 
@@ -27,7 +28,7 @@ fn verdicts_are_those_of_the_walks() {
     for _ in 0..20 {
         let job = dapohiru_generators::small::job(&mut random);
         let walks = Walks::new(&job, None);
-        let name = file(&folder, "job", &job.file());
+        let name = file(&folder, "job", &filled(&mut random, job.file()));
         for plan in dapohiru_generators::small::plans(&mut random, &job)
             .into_iter()
             .take(3)

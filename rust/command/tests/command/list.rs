@@ -1,6 +1,7 @@
 //! The command `list`.
 use crate::program::{example, file, folder, run, PAIR};
 use dapohiru_generators::random::Random;
+use dapohiru_generators::zeros::filled;
 use dapohiru_second::listing::listing;
 
 #[test]
@@ -42,7 +43,7 @@ fn explained_listing_has_the_numbers_of_the_listing() {
     let mut random = Random::of_this_run();
     for _ in 0..40 {
         let job = dapohiru_generators::small::job(&mut random);
-        let file = String::from_utf8(job.file()).unwrap();
+        let file = String::from_utf8(filled(&mut random, job.file())).unwrap();
         let (status, printed, wrong) = run(&["list", "-", "--explain"], &file);
         assert_eq!((status, wrong.as_str()), (0, ""));
         let listing = String::from_utf8(listing(&job)).unwrap();

@@ -11,3 +11,4 @@ mod release;
 mod stop;
 mod watch;
 mod words;
+mod zeros;

@@ -1,8 +1,10 @@
 //! The place of a refusal: every fault that a file can have, beside the second implementation.
-use crate::program::{pair_with, run};
+use crate::program::{pair_with, run, run_bytes};
+use dapohiru_generators::damage::Damaged;
 use dapohiru_generators::faults::{faulty, Fault, Form};
 use dapohiru_generators::random::Random;
 use dapohiru_generators::samples::{one_seal, pair};
+use dapohiru_generators::zeros::filled;
 use dapohiru_second::job::Job;
 
 /// The columns where a fault is seen; of F lines that do not ascend either node may be named.
@@ -13,7 +15,7 @@ fn columns(fault: Fault, letters: &[u8], fields: usize) -> Option<String> {
             Some("column 1".to_string())
         }
         Fault::Form(_, Form::Field) => Some(field(fields - 1)),
-        Fault::Form(_, Form::Column) => Some(field(0)),
+        Fault::Form(_, Form::Column | Form::ZeroBeforeSpace) => Some(field(0)),
         Fault::Form(_, Form::EndByte) => Some(format!("column {}", 6 * fields + 2)),
         Fault::Number(line, ..) if letters[line] == b'F' => None,
         Fault::Number(_, number, _) => Some(field(number)),
@@ -21,14 +23,14 @@ fn columns(fault: Fault, letters: &[u8], fields: usize) -> Option<String> {
     }
 }
 
-/// Every fault of a job's file is told with its number and its place.
-fn faults_are_told(job: &Job) -> usize {
+/// Every fault of a job's file, which has any zeros, is told with its number and its place.
+fn faults_are_told(random: &mut Random, job: &Job) -> usize {
     let lines = job.lines();
     let letters: Vec<_> = lines.iter().map(|line| line.letter).collect();
     let faults = Fault::all(job);
     for &fault in &faults {
         let (line, number) = fault.place(&lines);
-        let text = String::from_utf8(faulty(&lines, &[fault])).unwrap();
+        let text = String::from_utf8(filled(random, faulty(&lines, &[fault]))).unwrap();
         let (status, printed, wrong) = run(&["plan", "-"], &text);
         assert_eq!((status, printed.as_str()), (2, ""), "{fault:?}");
         let begins = format!("dapohiru: standard input: refused {number}: ");
@@ -47,11 +49,37 @@ fn faults_are_told(job: &Job) -> usize {
 #[test]
 fn every_fault_is_told_with_its_number_line_and_columns() {
     let mut random = Random::of_this_run();
-    let mut told = faults_are_told(&pair()) + faults_are_told(&one_seal(4));
+    let mut told = 0;
+    for job in [pair(), pair(), one_seal(4)] {
+        told += faults_are_told(&mut random, &job);
+    }
     for _ in 0..3 {
-        told += faults_are_told(&dapohiru_generators::small::job(&mut random));
+        let job = dapohiru_generators::small::job(&mut random);
+        told += faults_are_told(&mut random, &job);
     }
     println!("{told} faults");
+}
+
+#[test]
+fn refusal_of_any_damaged_file_is_told_with_what_was_expected() {
+    let mut random = Random::of_this_run();
+    let mut told = [0; 11];
+    for _ in 0..400 {
+        let Damaged { file, unread, .. } = Damaged::random(&mut random);
+        let (status, printed, wrong) = run_bytes(&["plan", "-"], &file);
+        let Some(number) = unread else {
+            assert_eq!(status, 0, "{}", file.escape_ascii());
+            continue;
+        };
+        assert_eq!((status, printed.as_str()), (2, ""));
+        // the place is told where the second reader finds the library's number
+        let begins = format!("dapohiru: standard input: refused {number}: ");
+        assert!(wrong.starts_with(&begins), "{wrong}");
+        assert!(wrong.contains("\n  expected: "), "{wrong}");
+        told[number as usize] += 1;
+    }
+    println!("refusals by number: {told:?}");
+    assert!(told[4..=8].iter().all(|&count| count > 0), "{told:?}");
 }
 
 #[test]
@@ -61,25 +89,140 @@ fn what_was_expected_is_told() {
     let r = "R     2     1     1     0     2\n";
     let p = "P     2     1     2     0     1     0\n";
     let set = "a set of symbols, 0 to 7 (of symbols 0 to 2)";
+    let field = "a number in six columns, right-justified, with spaces or zeros before it and no space after a digit";
     for (job, place, expected) in [
-        (" ".repeat(49_915), "found a longer file", "at most 49914 bytes".to_string()),
-        (" ".repeat(49_914), "line 1, column 1: found ` `", "the letter J".to_string()),
-        (with(j, "J    17     3     3     2\n"), "line 1, columns 2 to 7: found 17", "S, the number of states, 1 to 16".to_string()),
-        (with(j, "J     3     3     3  2049\n"), "line 1, columns 20 to 25: found 2049", "E, the number of edges, 0 to 2048".to_string()),
-        (with(j, "J    03     3     3     2\n"), "line 1, columns 2 to 7: found `    03`", "S, the number of states: a number in six columns, right-justified with spaces, without leading zeros".to_string()),
-        (with(j, "J     3     3\n"), "line 1, columns 14 to 19: found the end of the line", "N, the number of nodes: a number in six columns, right-justified with spaces, without leading zeros".to_string()),
-        (with(j, "J     3     3     3     2\r\n"), "line 1, column 26: found `\\r`", "the end of the line (byte 10)".to_string()),
-        (with(r, "R     3     1     1     0     2\n"), "line 4, columns 2 to 7: found 3", "the state, 2 in this line".to_string()),
-        (with(r, "R     2     1     1     0     3\n"), "line 4, columns 26 to 31: found 3", "the next state on symbol 2, 0 to 2".to_string()),
-        (with(p, "P     2     3     2     0     1     0\n"), "line 7, columns 8 to 13: found 3", "the kind, 0 plain, 1 event or 2 call".to_string()),
-        (with(p, "P     2     1     3     0     1     0\n"), "line 7, columns 14 to 19: found 3", "the symbol of an event node, 0 to 2".to_string()),
-        (with(p, "P     2     0     2     0     1     0\n"), "line 7, columns 14 to 19: found 2", "the value of a plain node, 0".to_string()),
-        (with(p, "P     2     2     8     0     1     0\n"), "line 7, columns 14 to 19: found 8", format!("the call's set, {set}")),
-        (with(p, "P     2     1     2     0     1     8\n"), "line 7, columns 32 to 37: found 8", format!("the after set, {set}")),
-        (with(p, "P     2     1     2     0     0     1\n"), "line 7, columns 32 to 37: found 1", "the after set, 0 where the exit mark is 0".to_string()),
-        (with("F     1     2\n", "F     0     1\n"), "line 9, columns 8 to 13: found 1", "an edge after 0 to 1, since edges ascend by the first node and then by the second".to_string()),
-        (with("F     1     2\n", "F     1     3\n"), "line 9, columns 8 to 13: found 3", "the node that it goes to, 0 to 2".to_string()),
-        (with("P     0     1     0     1", "P     0     1     0     0"), "found no node with an entry set", "a set of start states above 0 in columns 20 to 25 of one of the lines 5 to 7".to_string()),
+        (
+            " ".repeat(49_915),
+            "found a longer file",
+            "at most 49914 bytes".to_string(),
+        ),
+        (
+            " ".repeat(49_914),
+            "line 1, column 1: found ` `",
+            "the letter J".to_string(),
+        ),
+        (
+            with(j, "J    17     3     3     2\n"),
+            "line 1, columns 2 to 7: found 17",
+            "S, the number of states, 1 to 16".to_string(),
+        ),
+        (
+            with(j, "J     3     3     3  2049\n"),
+            "line 1, columns 20 to 25: found 2049",
+            "E, the number of edges, 0 to 2048".to_string(),
+        ),
+        (
+            with(j, "J000017     3     3     2\n"),
+            "line 1, columns 2 to 7: found 17",
+            "S, the number of states, 1 to 16".to_string(),
+        ),
+        (
+            with(j, "J    00     3     3     2\n"),
+            "line 1, columns 2 to 7: found 0",
+            "S, the number of states, 1 to 16".to_string(),
+        ),
+        (
+            with(j, "J0    3     3     3     2\n"),
+            "line 1, columns 2 to 7: found `0    3`",
+            format!("S, the number of states: {field}"),
+        ),
+        (
+            with(j, "J3          3     3     2\n"),
+            "line 1, columns 2 to 7: found `3     `",
+            format!("S, the number of states: {field}"),
+        ),
+        (
+            with(j, "J     3   3 3     3     2\n"),
+            "line 1, columns 8 to 13: found `   3 3`",
+            format!("A, the number of symbols: {field}"),
+        ),
+        (
+            with(j, "J     3           3     2\n"),
+            "line 1, columns 8 to 13: found `      `",
+            format!("A, the number of symbols: {field}"),
+        ),
+        (
+            with(j, "J     3     3-00003     2\n"),
+            "line 1, columns 14 to 19: found `-00003`",
+            format!("N, the number of nodes: {field}"),
+        ),
+        (
+            with(j, "J0000003     3     3     2\n"),
+            "line 1, columns 8 to 13: found `3     `",
+            format!("A, the number of symbols: {field}"),
+        ),
+        (
+            with(j, "J     3     3\n"),
+            "line 1, columns 14 to 19: found the end of the line",
+            format!("N, the number of nodes: {field}"),
+        ),
+        (
+            with(j, "J     3     3     3     2\r\n"),
+            "line 1, column 26: found `\\r`",
+            "the end of the line (byte 10)".to_string(),
+        ),
+        (
+            with(r, "R     3     1     1     0     2\n"),
+            "line 4, columns 2 to 7: found 3",
+            "the state, 2 in this line".to_string(),
+        ),
+        (
+            with(r, "R     2     1     1     0     3\n"),
+            "line 4, columns 26 to 31: found 3",
+            "the next state on symbol 2, 0 to 2".to_string(),
+        ),
+        (
+            with(r, "R     2000001000001     0000003\n"),
+            "line 4, columns 26 to 31: found 3",
+            "the next state on symbol 2, 0 to 2".to_string(),
+        ),
+        (
+            with(p, "P     2     3     2     0     1     0\n"),
+            "line 7, columns 8 to 13: found 3",
+            "the kind, 0 plain, 1 event or 2 call".to_string(),
+        ),
+        (
+            with(p, "P     2     1     3     0     1     0\n"),
+            "line 7, columns 14 to 19: found 3",
+            "the symbol of an event node, 0 to 2".to_string(),
+        ),
+        (
+            with(p, "P     2     0     2     0     1     0\n"),
+            "line 7, columns 14 to 19: found 2",
+            "the value of a plain node, 0".to_string(),
+        ),
+        (
+            with(p, "P     2     2     8     0     1     0\n"),
+            "line 7, columns 14 to 19: found 8",
+            format!("the call's set, {set}"),
+        ),
+        (
+            with(p, "P     2     1     2     0     1     8\n"),
+            "line 7, columns 32 to 37: found 8",
+            format!("the after set, {set}"),
+        ),
+        (
+            with(p, "P     2     1     2     0     0     1\n"),
+            "line 7, columns 32 to 37: found 1",
+            "the after set, 0 where the exit mark is 0".to_string(),
+        ),
+        (
+            with("F     1     2\n", "F     0     1\n"),
+            "line 9, columns 8 to 13: found 1",
+            "an edge after 0 to 1, since edges ascend by the first node and then by the second"
+                .to_string(),
+        ),
+        (
+            with("F     1     2\n", "F     1     3\n"),
+            "line 9, columns 8 to 13: found 3",
+            "the node that it goes to, 0 to 2".to_string(),
+        ),
+        (
+            with("P     0     1     0     1", "P     0     1     0     0"),
+            "found no node with an entry set",
+            "a set of start states above 0 in columns 20 to 25 of one of the lines 5 to 7"
+                .to_string(),
+        ),
     ] {
         let (_, _, wrong) = run(&["plan", "-"], &job);
         let ends = format!("\n  {place}\n  expected: {expected}\n");

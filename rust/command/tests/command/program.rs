@@ -61,9 +61,14 @@ pub fn program(words: &[&str]) -> Command {
 
 /// Runs the program to its end, with this standard input.
 pub fn run(words: &[&str], input: &str) -> Done {
+    run_bytes(words, input.as_bytes())
+}
+
+/// The same with bytes that need not be text.
+pub fn run_bytes(words: &[&str], input: &[u8]) -> Done {
     let mut child = program(words).stdin(Stdio::piped()).spawn().unwrap();
     // a program that ends early does not read its input
-    let _ = child.stdin.take().unwrap().write_all(input.as_bytes());
+    let _ = child.stdin.take().unwrap().write_all(input);
     ended(child)
 }
 

@@ -1,6 +1,7 @@
 //! The command `release`.
 use crate::program::{example, file, folder, names, run, shell, terminal, Done, PAIR};
 use dapohiru_generators::random::Random;
+use dapohiru_generators::zeros::filled;
 use dapohiru_second::planning::plan;
 use dapohiru_second::walk::Walks;
 use std::fs;
@@ -30,7 +31,8 @@ fn every_job_gets_its_plan_file_and_its_row() {
     for number in 0..30 {
         let job = dapohiru_generators::small::job(&mut random);
         let planned = plan(&Walks::new(&job, None));
-        file(&jobs, &format!("{number:02}.job"), &job.file());
+        let bytes = filled(&mut random, job.file());
+        file(&jobs, &format!("{number:02}.job"), &bytes);
         wanted.push((format!("{number:02}"), planned));
     }
     file(&jobs, "notes.txt", b"no job\n");

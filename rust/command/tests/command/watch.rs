@@ -2,6 +2,7 @@
 use crate::program::{ended, example, file, folder, pair_with, program, run, shell, PAIR};
 use dapohiru_generators::random::Random;
 use dapohiru_generators::walker::Walker;
+use dapohiru_generators::zeros::filled;
 use dapohiru_second::walk::{Event, Walks};
 use std::io::{BufRead, BufReader, Write};
 use std::process::Stdio;
@@ -208,7 +209,7 @@ fn planned_monitor_has_the_alarms_of_the_full_one_on_walks() {
                 None => break,
             }
         }
-        let name = file(&folder, "a.job", &job.file());
+        let name = file(&folder, "a.job", &filled(&mut random, job.file()));
         let plan = folder.join("a.plan").display().to_string();
         assert_eq!(run(&["plan", &name, "-o", &plan], "").0, 0);
         let full = run(&["watch", &name, &state], &events);

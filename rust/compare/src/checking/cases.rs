@@ -4,6 +4,7 @@ use crate::memory::{start_of, MOST_WORK};
 use dapohiru_generators::faults::{lengthen, possible, refused, short_work, NUMBERS};
 use dapohiru_generators::random::Random;
 use dapohiru_generators::small;
+use dapohiru_generators::zeros::filled;
 use dapohiru_second::checking::{check, Call, Outcome};
 use dapohiru_second::job::{Job, EVENT};
 use dapohiru_second::reading::WORK;
@@ -31,6 +32,12 @@ impl Case {
             plan,
             work_len: WORK,
         }
+    }
+
+    /// Puts any zeros before the numbers of the file.
+    pub fn with_zeros(mut self, random: &mut Random) -> Self {
+        self.file = filled(random, self.file);
+        self
     }
 
     /// Replaces the file by one that deserves this refusal.
@@ -128,7 +135,7 @@ pub fn cases(random: &mut Random, job: &Job) -> Vec<Case> {
     let plans = small::plans(random, job);
     let mut cases: Vec<_> = plans
         .iter()
-        .map(|plan| Case::of(job, plan.clone()))
+        .map(|plan| Case::of(job, plan.clone()).with_zeros(random))
         .collect();
     for case in &mut cases {
         if random.once_in(4) {
@@ -137,7 +144,8 @@ pub fn cases(random: &mut Random, job: &Job) -> Vec<Case> {
     }
     for _ in 0..4 {
         let plan = plans[random.place(plans.len())].clone();
-        cases.push(faulty_case(random, Case::of(job, plan)));
+        let case = Case::of(job, plan).with_zeros(random);
+        cases.push(faulty_case(random, case));
     }
     cases
 }

@@ -4,6 +4,7 @@ use crate::memory::{start_of, MOST_WORK};
 use dapohiru_generators::damage::Damaged;
 use dapohiru_generators::faults::{lengthen, possible, refused, short_work, NUMBERS};
 use dapohiru_generators::random::Random;
+use dapohiru_generators::zeros::filled;
 use dapohiru_second::job::Job;
 use dapohiru_second::reading::WORK;
 use dapohiru_second::serving::{serve, Call, Given, Service};
@@ -39,6 +40,12 @@ impl Case {
             unread: damaged.unread,
             ..Case::of(service, &damaged.job)
         }
+    }
+
+    /// Puts any zeros before the numbers of the file.
+    pub fn with_zeros(mut self, random: &mut Random) -> Self {
+        self.file = filled(random, self.file);
+        self
     }
 
     /// Gives the call the fault that this refusal names; 8 asks for a job with an edge. A fault of the
@@ -129,14 +136,17 @@ fn leaves(seen: &Seen) -> String {
 
 /// The calls of one job: both, with buffers of several lengths, and some with one fault or more.
 pub fn cases(random: &mut Random, job: &Job) -> Vec<Case> {
-    let mut cases: Vec<_> = Service::BOTH.map(|service| Case::of(service, job)).into();
+    let mut cases: Vec<_> = Service::BOTH
+        .map(|service| Case::of(service, job).with_zeros(random))
+        .into();
     for case in &mut cases {
         let least = case.lent_len;
         case.work_len = random.pick(&[WORK, WORK, WORK + 1, WORK + 64, MOST_WORK]);
         case.lent_len = random.pick(&[least, least, least + 1, least + 64, MOST_LENT]);
     }
     for service in Service::BOTH {
-        cases.push(faulty_case(random, job, Case::of(service, job)));
+        let case = Case::of(service, job).with_zeros(random);
+        cases.push(faulty_case(random, job, case));
     }
     cases
 }

@@ -6,6 +6,7 @@ use dapohiru_generators::features::{FeatureCounts, Features};
 use dapohiru_generators::mixed;
 use dapohiru_generators::random::Random;
 use dapohiru_generators::small;
+use dapohiru_generators::zeros::filled;
 use dapohiru_plain::check::Checker;
 use dapohiru_second::job::Job;
 use dapohiru_second::reading::WORK;
@@ -62,7 +63,8 @@ fn jobs_of_512_nodes_agree_with_the_walks() {
     for number in 0..JOBS {
         let job = mixed::full_job(&mut random, number, 8);
         let walks = Walks::new(&job, None);
-        let found = dapohiru_plain::plan::plan(&mut checker, &job.file()).expect("the job is read");
+        let file = filled(&mut random, job.file());
+        let found = dapohiru_plain::plan::plan(&mut checker, &file).expect("the job is read");
         let mut plans = vec![job.all_watched(), job.plan_of(&[]), found.bytes.clone()];
         // one needed point cleared, or one more watched
         for point in job.points() {
@@ -73,7 +75,8 @@ fn jobs_of_512_nodes_agree_with_the_walks() {
             }
         }
         for plan in plans {
-            let compared = Case::of(&job, plan).compare(&mut memory, &walks);
+            let case = Case::of(&job, plan).with_zeros(&mut random);
+            let compared = case.compare(&mut memory, &walks);
             counts.agree(format_args!("job {number}"), compared, |seen| seen.said);
         }
     }
@@ -89,7 +92,7 @@ fn plain_check_and_planner_of_the_benchmark_agree_with_the_walks() {
     let mut plans = 0;
     for number in 0..1_000 {
         let job = small::job(&mut random);
-        let file = job.file();
+        let file = filled(&mut random, job.file());
         let walks = Walks::new(&job, None);
         for plan in small::plans(&mut random, &job) {
             let faithful = checker.check(&file, &plan, &mut vec![0; WORK]);

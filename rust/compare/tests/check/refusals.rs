@@ -42,7 +42,7 @@ fn lower_of_two_faults_decides() {
             (one..=12).filter(|&other| !(from_file(one) && from_file(other) && one != other))
         {
             for _ in 0..40 {
-                let mut case = Case::of(&job, vec![1, 1, 1, 0]);
+                let mut case = Case::of(&job, vec![1, 1, 1, 0]).with_zeros(&mut random);
                 let mut faults = vec![one, other];
                 faults.sort_by_key(|&number| (!from_file(number), number == 12));
                 faults.dedup();
@@ -105,7 +105,7 @@ fn plan_byte_above_1_or_1_at_no_event_is_12_at_every_node() {
         let walks = Walks::new(&job, None);
         for node in 0..job.nodes.len() {
             for byte in 0..=255 {
-                let mut case = Case::of(&job, job.all_watched());
+                let mut case = Case::of(&job, job.all_watched()).with_zeros(&mut random);
                 case.plan[node] = byte;
                 match case.compare(&mut memory, &walks) {
                     Ok(seen) => {

@@ -5,6 +5,7 @@ use dapohiru_compare::wrapper::{check, WRAPPER};
 use dapohiru_generators::random::Random;
 use dapohiru_generators::small;
 use dapohiru_generators::walker::Walker;
+use dapohiru_generators::zeros::filled;
 use dapohiru_second::reading::WORK;
 use dapohiru_second::search::{difference, Difference};
 use dapohiru_second::walk::{Place, Walks};
@@ -16,8 +17,9 @@ fn each_plan(found: Verdict, mut take: impl FnMut(&mut Random, &Walks, &[u8])) {
     for _ in 0..1_500 {
         let job = small::job(&mut random);
         let walks = Walks::new(&job, None);
+        let file = filled(&mut random, job.file());
         for plan in small::plans(&mut random, &job) {
-            if check(&job.file(), &plan, &mut work) == Ok(found) {
+            if check(&file, &plan, &mut work) == Ok(found) {
                 take(&mut random, &walks, &plan);
             }
         }

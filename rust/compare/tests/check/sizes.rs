@@ -8,6 +8,7 @@ use dapohiru_generators::samples::{event, PLAIN_NODE};
 use dapohiru_generators::shape::Shape;
 use dapohiru_generators::small;
 use dapohiru_generators::spread::Spread;
+use dapohiru_generators::zeros::filled;
 use dapohiru_second::job::{Job, Node};
 use dapohiru_second::reading::WORK;
 use dapohiru_second::search::difference;
@@ -23,7 +24,7 @@ fn small_jobs_spread_over_many_nodes_keep_their_verdicts() {
         let job = small::job(&mut random);
         let walks = Walks::new(&job, None);
         let spread = Spread::any(&mut random, &job);
-        let file = spread.job.file();
+        let file = filled(&mut random, spread.job.file());
         let mut plans = small::plans(&mut random, &job);
         plans.truncate(16);
         for plan in plans {

@@ -2,9 +2,10 @@
 use crate::cases::Cases;
 use crate::memory::{Memory, Seen};
 use dapohiru_compare::memory::Counts;
+use dapohiru_generators::damage::Damaged;
 use dapohiru_generators::random::Random;
 use dapohiru_plain::read::Decoded;
-use dapohiru_second::reading::{self, Reader, Slip};
+use dapohiru_second::reading::{self, Reader, Slip, WORK};
 
 #[test]
 fn random_files_agree_with_the_second_reader() {
@@ -65,6 +66,29 @@ fn every_slip_of_the_second_reader_is_noticed() {
     }
     println!("{} slips, {} not noticed", Slip::ALL.len(), left.len());
     assert!(left.is_empty(), "not noticed in {LIMIT} files: {left:?}");
+}
+
+#[test]
+fn damaged_files_of_the_generators_show_every_slip_on_zeros() {
+    const FILES: u64 = 12_000;
+    let mut random = Random::of_this_run();
+    let slips = [
+        Slip::LeadingZeroRefused,
+        Slip::LeadingZeroOctal,
+        Slip::SpaceAfterZeroAccepted,
+        Slip::SpaceBetweenZerosAccepted,
+        Slip::SevenDigitsAccepted,
+    ];
+    let mut noticed = [0; 5];
+    for _ in 0..FILES {
+        let Damaged { file, unread, .. } = Damaged::random(&mut random);
+        for (slip, noticed) in slips.into_iter().zip(&mut noticed) {
+            let outcome = Reader { slip: Some(slip) }.read(&file, WORK);
+            *noticed += u64::from(Seen::of(&outcome).refused != unread);
+        }
+    }
+    println!("of {FILES} files show the slips {slips:?}: {noticed:?}");
+    assert!(noticed.iter().all(|&count| count >= 5), "{noticed:?}");
 }
 
 #[test]

@@ -4,8 +4,8 @@ use dapohiru_compare::memory::PAST_FILE;
 use dapohiru_generators::faults::short_work;
 use dapohiru_generators::random::Random;
 use dapohiru_generators::sized::{self, Sizes, FULL};
+use dapohiru_generators::zeros::{filled, spoil};
 use dapohiru_second::job::{spell, Line};
-use std::slice::from_ref;
 
 /// One call: a file, the bytes that stand past it in memory, and the length of the work buffer.
 #[derive(Clone, Debug)]
@@ -75,7 +75,7 @@ impl Cases {
 
     /// A file near the greatest length: the longest job with bytes after it, or any bytes.
     fn long(&mut self) -> Vec<u8> {
-        let mut file = spell(&self.full);
+        let mut file = filled(&mut self.random, spell(&self.full));
         let len = self.random.between(49_912, 49_917) as usize;
         if self.random.once_in(3) {
             let any = self.random.between(0, 60_000) as usize;
@@ -87,17 +87,22 @@ impl Cases {
         file
     }
 
-    /// Faults, mostly none, one or two: in the lines, then in the bytes that spell them.
+    /// Any zeros, and faults, mostly none, one or two: in the lines, then in the bytes that spell them.
     fn damage(&mut self, mut lines: Vec<Line>, case: &mut Case) {
         for _ in 0..self.random.pick(&[0, 0, 1, 1, 1, 2, 3]) {
             self.damage_lines(&mut lines);
         }
-        let mut spelled: Vec<_> = lines.iter().map(|line| spell(from_ref(line))).collect();
+        let file = filled(&mut self.random, spell(&lines));
+        let spelled = file.split_inclusive(|&byte| byte == b'\n');
+        let mut spelled: Vec<_> = spelled.map(<[u8]>::to_vec).collect();
         if self.random.once_in(8) {
             let line = self.random.place(lines.len());
             self.damage_form(&lines[line].numbers, &mut spelled[line]);
         }
         case.file = spelled.concat();
+        if self.random.once_in(32) {
+            spoil(&mut self.random, &mut case.file);
+        }
         for _ in 0..self.random.pick(&[0, 0, 0, 0, 1, 1, 2]) {
             self.damage_bytes(case);
         }

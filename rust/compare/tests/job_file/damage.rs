@@ -128,14 +128,27 @@ pub fn numbers_replaced(lines: &[Line]) -> Vec<Vec<u8>> {
     files
 }
 
-/// Other ways to spell a number in a field: zeros in front, not right-justified, empty, signed,
-/// with tabs, as hexadecimal, with a point, or in another width.
-pub fn misspelled(number: u64) -> [String; 23] {
+/// Other ways to spell a number in a field: with zeros in front, which is a field too where it has six
+/// columns; with spaces after zeros, not right-justified, empty, signed, with tabs, as octal or hexadecimal,
+/// with a point, or in another width.
+pub fn misspelled(number: u64) -> [String; 36] {
     [
         format!("{number:06}"),
         format!("{number:05}"),
+        format!("{number:07}"),
+        format!("{number:012}"),
+        format!(" {number:06}"),
         format!("{:>6}", format!("0{number}")),
         format!("{:>6}", format!("00{number}")),
+        format!("0{number:>5}"),
+        format!("00{number:>4}"),
+        format!("0 0{number:>3}"),
+        format!("{:>6}", format!("0 {number}")),
+        format!("{:>6}", format!("00 0{number}")),
+        format!("{number:05} "),
+        format!("{:>6}", format!("-0{number}")),
+        format!("0{number:\t>5}"),
+        format!("0{number:\0>5}"),
         format!("{number:<6}"),
         format!("{number:^6}"),
         format!("{number:>5} "),
@@ -148,6 +161,7 @@ pub fn misspelled(number: u64) -> [String; 23] {
         format!("+{number:>5}"),
         format!("{:>6}", format!("{number}.")),
         format!("{:>6}", format!("0x{number:x}")),
+        format!("{:>6}", format!("0o{number:o}")),
         format!("{:>6}", format!("{number} {number}")),
         "      ".to_string(),
         "     -".to_string(),

@@ -2,10 +2,10 @@
 use crate::cases::Case;
 use crate::damage;
 use crate::memory::{compare_all, Memory};
-use crate::samples::{answer, least, small};
+use crate::samples::{answer, least, small, spelled};
 use dapohiru::Refusal;
 use dapohiru_compare::memory::Counts;
-use dapohiru_second::job::{spell, Line};
+use dapohiru_second::job::Line;
 use dapohiru_second::reading::WORK;
 
 /// Asks that the small files agree under every damage of a kind, and that each of these refusals comes
@@ -21,8 +21,8 @@ fn agree_with(damage: fn(&[Line]) -> Vec<Vec<u8>>, refusals: &[u64]) {
 fn cut_at_every_byte_is_refused_as_3_or_4() {
     let mut memory = Memory::new();
     let mut counts = Counts::default();
-    for (what, lines) in small() {
-        let whole = spell(&lines);
+    let spelled = small().map(|(what, lines)| spelled(&lines).map(|file| (what, file)));
+    for (what, whole) in spelled.into_iter().flatten() {
         for cut in 0..whole.len() {
             let (file, past) = whole.split_at(cut);
             let case = Case {
@@ -44,17 +44,21 @@ fn every_byte_replaced_by_any_other_agrees() {
     let all: Vec<u8> = (0..=255).collect();
     for (what, lines) in small() {
         let with = if what == "PAIR" { &all } else { damage::BYTES };
-        let counts = compare_all(what, damage::bytes_replaced(&spell(&lines), with));
-        counts.came([Some(4), Some(5)]);
+        for file in spelled(&lines) {
+            let counts = compare_all(what, damage::bytes_replaced(&file, with));
+            counts.came([Some(4), Some(5)]);
+        }
     }
 }
 
 #[test]
 fn bytes_put_in_or_taken_out_agree() {
     for (what, lines) in small() {
-        let counts = compare_all(what, damage::bytes_moved(&spell(&lines), damage::BYTES));
-        assert_eq!(counts.of(None), 0);
-        counts.came([Some(4), Some(9)]);
+        for file in spelled(&lines) {
+            let counts = compare_all(what, damage::bytes_moved(&file, damage::BYTES));
+            assert_eq!(counts.of(None), 0);
+            counts.came([Some(4), Some(9)]);
+        }
     }
 }
 
@@ -92,9 +96,11 @@ fn well_formed_number_is_never_taken_modulo_a_power_of_two() {
                         (b'P', _) => 7,
                         _ => 8,
                     };
-                    let answer = answer(&spell(&damaged));
-                    assert_eq!(answer, Err(Refusal(refused)), "{what}, {:?}", damaged[line]);
-                    files += 1;
+                    for file in spelled(&damaged) {
+                        let answer = answer(&file);
+                        assert_eq!(answer, Err(Refusal(refused)), "{what}, {:?}", damaged[line]);
+                        files += 1;
+                    }
                 }
             }
         }

@@ -3,7 +3,8 @@ use crate::cases::Case;
 use dapohiru::Refusal;
 use dapohiru_compare::memory::{start_of, Buffers, Counts};
 use dapohiru_compare::wrapper::check;
-use dapohiru_generators::random;
+use dapohiru_generators::random::{self, Random};
+use dapohiru_generators::zeros::filled;
 use dapohiru_second::reading::{Answer, Outcome, Reader};
 
 /// Whether a file is a job, or its refusal: the check of a plan of no bytes, on guarded buffers too. Every
@@ -81,13 +82,18 @@ pub fn words(case: &Case) -> String {
     )
 }
 
-/// Compares all of these files, and says and gives the counts.
+/// Compares all of these files, each as it is and with any zeros, and says and gives the counts.
 pub fn compare_all(what: &str, files: impl IntoIterator<Item = Vec<u8>>) -> Counts<Option<u64>> {
+    let mut random = Random(random::seed());
     let mut memory = Memory::new();
     let mut counts = Counts::default();
     for (number, file) in files.into_iter().enumerate() {
-        let name = format_args!("{what}, file {number}");
-        counts.agree(name, memory.compare(&Case::of(file)), |&refused| refused);
+        let with_zeros = filled(&mut random, file.clone());
+        let answers = [file, with_zeros].map(|file| {
+            let name = format_args!("{what}, file {number}");
+            counts.agree(name, memory.compare(&Case::of(file)), |&refused| refused)
+        });
+        assert_eq!(answers[0], answers[1], "{what}, file {number} with zeros");
     }
     counts.print(what);
     counts

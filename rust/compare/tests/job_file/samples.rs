@@ -1,7 +1,8 @@
 //! Small jobs by hand, and what the two readers say of one file.
 use crate::memory::read;
 use dapohiru::Refusal;
-use dapohiru_second::job::{Job, Line, Node};
+use dapohiru_generators::zeros::zero_filled;
+use dapohiru_second::job::{spell, Job, Line, Node};
 use dapohiru_second::reading;
 use dapohiru_second::reading::WORK;
 
@@ -83,6 +84,11 @@ pub fn small() -> [(&'static str, Vec<Line>); 3] {
         ("PAIR", second_job(PAIR.as_bytes()).lines()),
         ("a job with all kinds", rich().lines()),
     ]
+}
+
+/// The file of these lines, with spaces before its numbers and with zeros.
+pub fn spelled(lines: &[Line]) -> [Vec<u8>; 2] {
+    [spell(lines), zero_filled(spell(lines))]
 }
 
 /// A job with two states, three nodes and four edges.

@@ -5,8 +5,9 @@ use crate::samples::{answer, least, rich, second_job, PAIR};
 use dapohiru::Refusal;
 use dapohiru_generators::random::Random;
 use dapohiru_generators::sized::{self, Sizes, FULL};
+use dapohiru_generators::zeros::filled;
 use dapohiru_second::job::Job;
-use dapohiru_second::reading::LONGEST;
+use dapohiru_second::reading::{self, LONGEST};
 
 #[test]
 fn pair_is_accepted() {
@@ -23,6 +24,91 @@ fn empty_file_is_refused_as_3() {
 fn cut_line_is_refused_as_4() {
     for cut in [1, 13, 25, 27, PAIR.len() - 2, PAIR.len() - 1] {
         assert_eq!(answer(&PAIR.as_bytes()[..cut]), Err(Refusal(4)), "{cut}");
+    }
+}
+
+/// PAIR with these columns for one of the J line's numbers: S, A, N or E.
+fn with_size(place: usize, columns: &str) -> Vec<u8> {
+    let mut file = PAIR.as_bytes().to_vec();
+    let first = 1 + 6 * place;
+    file.splice(first..first + 6, columns.bytes());
+    file
+}
+
+#[test]
+fn field_is_spaces_and_then_digits_and_zeros_may_be_the_first_of_them() {
+    for (columns, number) in [
+        ("     3", Some(3)),
+        ("    03", Some(3)),
+        ("  0003", Some(3)),
+        ("000003", Some(3)),
+        ("    12", Some(12)),
+        ("  0012", Some(12)),
+        ("000012", Some(12)),
+        ("     0", Some(0)),
+        ("    00", Some(0)),
+        ("000000", Some(0)),
+        ("000010", Some(10)),
+        ("000008", Some(8)),
+        ("000017", Some(17)),
+        ("065539", Some(65_539)),
+        ("099999", Some(99_999)),
+        ("999999", Some(999_999)),
+        ("0    3", None),
+        ("0   12", None),
+        ("0 0  1", None),
+        ("00 012", None),
+        ("00000 ", None),
+        ("0     ", None),
+        ("0    0", None),
+        ("   0 0", None),
+        ("   0 3", None),
+        ("   5 3", None),
+        ("3     ", None),
+        ("00003 ", None),
+        ("      ", None),
+        ("0000+3", None),
+        ("+00003", None),
+        ("-00003", None),
+        ("0000-3", None),
+        ("0003.0", None),
+        ("0x0003", None),
+        ("0o0003", None),
+        ("\t00003", None),
+        ("0\t0003", None),
+        ("0000:3", None),
+        ("0000/3", None),
+        ("\x0000003", None),
+    ] {
+        assert_eq!(reading::number(columns.as_bytes()), number, "{columns:?}");
+        // PAIR has three states, three symbols, three nodes and two edges
+        for (place, of_pair, limits) in [
+            (0, 3, 1..=16),
+            (1, 3, 1..=16),
+            (2, 3, 1..=512),
+            (3, 2, 0..=2048),
+        ] {
+            let answer = answer(&with_size(place, columns));
+            match number {
+                None => assert_eq!(answer, Err(Refusal(4)), "{columns:?}"),
+                Some(number) if number == of_pair => assert_eq!(answer, Ok(()), "{columns:?}"),
+                Some(number) if limits.contains(&number) => {
+                    assert_ne!(answer, Ok(()), "{columns:?}");
+                    assert_ne!(answer, Err(Refusal(5)), "{columns:?}");
+                }
+                Some(_) => assert_eq!(answer, Err(Refusal(5)), "{columns:?}"),
+            }
+        }
+    }
+}
+
+#[test]
+fn field_of_five_or_seven_digits_is_refused_as_4() {
+    for columns in ["00003", "0000003", " 000003", "0000017", "3", "0000000003"] {
+        for place in 0..4 {
+            let answer = answer(&with_size(place, columns));
+            assert_eq!(answer, Err(Refusal(4)), "{columns:?}");
+        }
     }
 }
 
@@ -78,7 +164,8 @@ fn same_edge_twice_is_refused_as_8() {
 fn longest_file_is_accepted_and_one_byte_more_refused_as_1() {
     let mut random = Random::of_this_run();
     for _ in 0..20 {
-        let mut file = sized::job(&mut random, FULL).file();
+        let file = sized::job(&mut random, FULL).file();
+        let mut file = filled(&mut random, file);
         assert_eq!(file.len(), LONGEST);
         assert_eq!(answer(&file), Ok(()));
         file.push(b'\n');
@@ -115,7 +202,7 @@ fn jobs_at_every_limit_are_accepted() {
                         edges: edges.min(nodes * nodes),
                     };
                     let job = sized::job(&mut random, sizes);
-                    let file = job.file();
+                    let file = filled(&mut random, job.file());
                     assert_eq!(answer(&file), Ok(()), "{sizes:?}");
                     assert_eq!(second_job(&file), job);
                     jobs += 1;
@@ -175,7 +262,7 @@ fn random_jobs_are_accepted_and_read_back_by_the_second_reader() {
     for _ in 0..JOBS {
         let sizes = Sizes::random(&mut random);
         let job = sized::job(&mut random, sizes);
-        let file = job.file();
+        let file = filled(&mut random, job.file());
         assert_eq!(answer(&file), Ok(()), "{}", words(&Case::of(file)));
         assert_eq!(second_job(&file), job);
         longest = longest.max(file.len());

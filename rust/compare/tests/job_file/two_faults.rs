@@ -7,12 +7,14 @@ use dapohiru_compare::memory::Counts;
 use dapohiru_generators::faults::{faulty, Fault};
 use dapohiru_generators::random::Random;
 use dapohiru_generators::sized::{self, FULL};
+use dapohiru_generators::zeros::filled;
 use dapohiru_second::job::{spell, Line};
 use dapohiru_second::reading::LONGEST;
 use std::collections::BTreeMap;
 
 #[test]
 fn first_of_two_faults_decides_line_by_line_and_then_by_number() {
+    let mut random = Random::of_this_run();
     let lines = little().lines();
     let faults = Fault::all(&little());
     let mut memory = Memory::new();
@@ -20,7 +22,7 @@ fn first_of_two_faults_decides_line_by_line_and_then_by_number() {
     assert_eq!(answer(&spell(&lines)), Ok(()));
     for &one in &faults {
         let (line, number) = one.place(&lines);
-        let case = Case::of(faulty(&lines, &[one]));
+        let case = Case::of(filled(&mut random, faulty(&lines, &[one])));
         assert_eq!(memory.compare(&case), Ok(Some(number)), "{one:?}");
         for &other in &faults {
             let (other_line, other_number) = other.place(&lines);
@@ -29,7 +31,7 @@ fn first_of_two_faults_decides_line_by_line_and_then_by_number() {
             }
             let first = (line, number) < (other_line, other_number);
             let wanted = if first { number } else { other_number };
-            let case = Case::of(faulty(&lines, &[one, other]));
+            let case = Case::of(filled(&mut random, faulty(&lines, &[one, other])));
             let compared = memory.compare(&case);
             assert_eq!(compared, Ok(Some(wanted)), "{one:?} and {other:?}");
             wins.entry((number, other_number)).or_default()[usize::from(!first)] += 1;
@@ -66,7 +68,7 @@ fn too_long_a_file_is_refused_as_1_whatever_else_it_has() {
     });
     for fault in faults {
         let (_, number) = fault.place(&lines);
-        let mut file = faulty(&lines, &[fault]);
+        let mut file = filled(&mut random, faulty(&lines, &[fault]));
         if file.len() <= LONGEST {
             let compared = memory.compare(&Case::of(file.clone()));
             assert_eq!(compared, Ok(Some(number)), "{fault:?}");
@@ -91,13 +93,14 @@ fn too_long_a_file_is_refused_as_1_whatever_else_it_has() {
 
 #[test]
 fn too_short_a_work_buffer_is_refused_as_2_before_the_file_is_looked_at() {
+    let mut random = Random::of_this_run();
     let lines = little().lines();
     let mut memory = Memory::new();
     let mut files = vec![spell(&lines)];
     files.extend(
         Fault::all(&little())
             .iter()
-            .map(|&fault| faulty(&lines, &[fault])),
+            .map(|&fault| filled(&mut random, faulty(&lines, &[fault]))),
     );
     files.push(vec![b' '; LONGEST]);
     for file in files {

@@ -7,6 +7,7 @@ use dapohiru_compare::memory::Counts;
 use dapohiru_generators::faults::{faulty, Fault};
 use dapohiru_generators::random::Random;
 use dapohiru_generators::sized::{self, FULL};
+use dapohiru_generators::zeros::filled;
 use dapohiru_second::job::spell;
 use dapohiru_second::reading::WORK;
 
@@ -20,7 +21,7 @@ fn work_buffer_is_unchanged_after_1_and_2_and_else_zero_in_its_first_65536_bytes
     files.extend(
         Fault::all(&little())
             .iter()
-            .map(|&fault| faulty(&lines, &[fault])),
+            .map(|&fault| filled(&mut random, faulty(&lines, &[fault]))),
     );
     let mut counts = Counts::default();
     for file in &files {

@@ -97,7 +97,7 @@ fn plan_is_faithful_and_loses_that_with_any_watched_point() {
     for number in 0..2_000 {
         let job = small::job(&mut random);
         let walks = Walks::new(&job, None);
-        let plan = plan_of(&job);
+        let plan = plan_of(&mut random, &job);
         assert_eq!(difference(&walks, &plan), None, "job {number}");
         plans += 1;
         for point in (0..plan.len()).filter(|&node| plan[node] == 1) {

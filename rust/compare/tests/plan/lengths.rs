@@ -5,6 +5,7 @@ use dapohiru_compare::wrapper::WRAPPER;
 use dapohiru_generators::random::Random;
 use dapohiru_generators::samples::{in_loop, pair};
 use dapohiru_generators::small;
+use dapohiru_generators::zeros::filled;
 use dapohiru_second::reading::{LONGEST, WORK};
 use dapohiru_second::serving::{Given, Service};
 use dapohiru_second::walk::Walks;
@@ -86,7 +87,7 @@ fn answer_does_not_depend_on_what_the_buffers_hold() {
     let mut any = vec![0; WORK];
     for _ in 0..100 {
         let job = small::job(&mut random);
-        let file = job.file();
+        let file = filled(&mut random, job.file());
         for service in Service::BOTH {
             random.fill(&mut any);
             let fills = [vec![0; WORK], vec![1; WORK], vec![255; WORK], any.clone()];

@@ -5,14 +5,16 @@ use dapohiru_compare::wrapper::{plan, WRAPPER};
 use dapohiru_generators::large::{self, Order};
 use dapohiru_generators::mixed;
 use dapohiru_generators::random::Random;
+use dapohiru_generators::zeros::filled;
 use dapohiru_second::job::Job;
 use dapohiru_second::reading::WORK;
 use dapohiru_second::walk::Walks;
 
-/// The plan that the library writes for a job.
-pub fn plan_of(job: &Job) -> Vec<u8> {
+/// The plan that the library writes for a job, whose file has any zeros.
+pub fn plan_of(random: &mut Random, job: &Job) -> Vec<u8> {
     let mut bytes = vec![7; 512];
-    plan(&job.file(), &mut [0; WORK], &mut bytes).expect("the job is planned");
+    let file = filled(random, job.file());
+    plan(&file, &mut [0; WORK], &mut bytes).expect("the job is planned");
     bytes.truncate(job.nodes.len());
     bytes
 }
@@ -82,7 +84,8 @@ fn two_records_alarm_alike_on_many_walks_of_small_jobs() {
     let mut totals = Totals::default();
     for _ in 0..4_000 {
         let job = mixed::job(&mut random);
-        totals.walk(&mut random, &job, &plan_of(&job), 4, 300);
+        let plan = plan_of(&mut random, &job);
+        totals.walk(&mut random, &job, &plan, 4, 300);
     }
     totals.print("small jobs");
     totals.same_alarms();
@@ -101,7 +104,7 @@ fn two_records_alarm_alike_on_walks_of_a_million_events() {
             break;
         }
         let job = mixed::job(&mut random);
-        let plan = plan_of(&job);
+        let plan = plan_of(&mut random, &job);
         // jobs whose loops have alarms and points that are skipped
         let mut first = Totals::default();
         first.walk(&mut random, &job, &plan, 1, 2_000);
@@ -125,7 +128,8 @@ fn two_records_alarm_alike_on_walks_of_512_nodes() {
     let mut totals = Totals::default();
     for number in 0..8 {
         let job = large::job(&mut random, Order::in_turn(number));
-        totals.walk(&mut random, &job, &plan_of(&job), 4, 50_000);
+        let plan = plan_of(&mut random, &job);
+        totals.walk(&mut random, &job, &plan, 4, 50_000);
     }
     totals.print("large jobs");
     totals.same_alarms();
@@ -141,7 +145,7 @@ fn with_one_needed_byte_cleared_the_two_records_differ() {
             break;
         }
         let job = mixed::job(&mut random);
-        let mut plan = plan_of(&job);
+        let mut plan = plan_of(&mut random, &job);
         let watched: Vec<_> = (0..plan.len()).filter(|&node| plan[node] == 1).collect();
         if watched.is_empty() {
             continue;

@@ -27,7 +27,8 @@ fn all_needed(
     let (mut points, mut longest) = (0, 0);
     for number in 0..jobs {
         let job = job(&mut random, number);
-        let found = needed(&mut random, &job, &plan_of(&job), one_in).unwrap();
+        let plan = plan_of(&mut random, &job);
+        let found = needed(&mut random, &job, &plan, one_in).unwrap();
         points += found.points;
         longest = longest.max(found.longest);
     }

@@ -18,7 +18,7 @@ fn lower_of_two_faults_decides() {
         for one in 1..=10 {
             for other in (1..=2).filter(|&other| other <= one) {
                 for _ in 0..30 {
-                    let mut case = Case::of(service, &job);
+                    let mut case = Case::of(service, &job).with_zeros(&mut random);
                     for number in if one == other {
                         vec![one]
                     } else {
@@ -47,7 +47,8 @@ fn every_refusal_leaves_plan_and_listing_buffer() {
                 if fault == 8 && job.edges.is_empty() {
                     continue;
                 }
-                let case = Case::of(service, &job).with_fault(&mut random, &job, fault);
+                let case = Case::of(service, &job).with_zeros(&mut random);
+                let case = case.with_fault(&mut random, &job, fault);
                 let seen = calls.agree(format_args!("job {number}"), &given, &case);
                 assert_eq!(seen.number, fault, "job {number}");
                 assert_eq!(seen.written, vec![], "job {number}");

@@ -18,7 +18,8 @@ fn small_jobs_spread_over_many_nodes_agree_with_the_walks() {
         let job = small::job(&mut random);
         let job = Spread::any(&mut random, &job).job;
         let given = Given::of(&Walks::new(&job, None));
-        for case in Service::BOTH.map(|service| Case::of(service, &job)) {
+        for service in Service::BOTH {
+            let case = Case::of(service, &job).with_zeros(&mut random);
             calls.agree(format_args!("job {number}"), &given, &case);
         }
     }
@@ -53,7 +54,8 @@ fn longest_listing_fits() {
     assert_eq!(job.file().len(), dapohiru_second::reading::LONGEST);
     let given = Given::of(&Walks::new(&job, None));
     assert_eq!(given.listing.len(), 512 * 38 + 20);
-    for case in Service::BOTH.map(|service| Case::of(service, &job)) {
+    for service in Service::BOTH {
+        let case = Case::of(service, &job).with_zeros(&mut random);
         calls.agree("the longest listing", &given, &case);
     }
 }

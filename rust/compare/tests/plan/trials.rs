@@ -7,6 +7,7 @@ use dapohiru_generators::samples::{
     event, in_loop, one_seal, pair, turn, two_writes, PAIR, PLAIN_NODE, REOPEN, SEAL, WRITE,
 };
 use dapohiru_generators::sized::{self, Sizes, FULL};
+use dapohiru_generators::zeros::filled;
 use dapohiru_second::job::Job;
 use dapohiru_second::listing::listing;
 use dapohiru_second::reading::WORK;
@@ -136,6 +137,7 @@ fn sizes_at_the_limits_are_accepted_and_past_them_refused_as_5() {
         FULL,
     ] {
         let file = sized::job(&mut random, sizes).file();
+        let file = filled(&mut random, file);
         assert!(plan(&file, &mut [0; WORK], &mut [0; 512]).is_ok());
         assert!(list(&file, &mut [0; WORK], &mut [0; 32_768]).is_ok());
     }
@@ -150,7 +152,8 @@ fn sizes_at_the_limits_are_accepted_and_past_them_refused_as_5() {
     ] {
         let mut lines = sized::job(&mut random, small).lines();
         lines[0].numbers[field] = value;
-        refused(&dapohiru_second::job::spell(&lines), 5);
+        let file = dapohiru_second::job::spell(&lines);
+        refused(&filled(&mut random, file), 5);
     }
 }
 

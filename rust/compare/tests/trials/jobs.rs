@@ -1,4 +1,5 @@
 //! Jobs of files, and the large jobs of the program `trials`.
+use dapohiru_generators::zeros::spaced;
 use dapohiru_second::job::{Job, Node, EVENT, PLAIN};
 use dapohiru_second::reading;
 
@@ -12,7 +13,7 @@ pub fn job_of(file: &[u8]) -> Job {
     let job = reading::job(file).expect("the file spells a job");
     assert_eq!(
         job.file(),
-        file,
+        spaced(file.to_vec()),
         "the job is not the one that the file spells"
     );
     job

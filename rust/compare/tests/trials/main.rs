@@ -3,6 +3,8 @@
 mod jobs;
 mod stored;
 
+use dapohiru_generators::random::Random;
+use dapohiru_generators::zeros::{filled, zero_filled};
 use dapohiru_second::checking::{check, Answer, Call};
 use dapohiru_second::job::{spell, Line};
 use dapohiru_second::listing::listing;
@@ -113,6 +115,18 @@ fn printed(file: &[u8]) -> Vec<u8> {
 fn the_listing_program_prints_what_the_walks_say_of_every_trial_job() {
     for trial in trials() {
         assert_eq!(printed(&trial.file), listed(&trial.file), "{}", trial.title);
+    }
+}
+
+#[test]
+fn the_listing_program_prints_for_a_file_with_zeros_what_it_prints_without() {
+    let mut random = Random::of_this_run();
+    for trial in trials() {
+        let wanted = printed(&trial.file);
+        let some = filled(&mut random, trial.file.clone());
+        for file in [zero_filled(trial.file), some] {
+            assert_eq!(printed(&file), wanted, "{}", trial.title);
+        }
     }
 }
 

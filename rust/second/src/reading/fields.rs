@@ -2,7 +2,7 @@
 use super::{Reader, Slip};
 
 impl Reader {
-    /// The number in a field of six columns.
+    /// The number in a field of six columns: spaces, none or more, and then digits to the end.
     pub(super) fn number(self, field: &[u8]) -> Option<u64> {
         let is_space = |byte: u8| {
             byte == b' '
@@ -20,18 +20,26 @@ impl Reader {
         if digits.is_empty() {
             return self.slips(Slip::EmptyFieldAccepted).then_some(0);
         }
-        let leading_zero = digits.len() > 1 && digits[0] == b'0';
-        if leading_zero && !self.slips(Slip::LeadingZeroAccepted) {
-            return None;
+        let mut base = 10;
+        if digits.len() > 1 && digits[0] == b'0' {
+            match self.slip {
+                Some(Slip::LeadingZeroRefused) => return None,
+                Some(Slip::LeadingZeroOctal) => base = 8,
+                Some(Slip::SpaceAfterZeroAccepted) => digits = past_zeros(digits),
+                Some(Slip::SpaceBetweenZerosAccepted) if are_zeros(digits) => return Some(0),
+                _ => {}
+            }
         }
         let mut number = 0;
         for &digit in digits {
-            number = match digit {
-                b'0'..=b'9' => 10 * number + u64::from(digit - b'0'),
-                b':' if self.slips(Slip::ColonAccepted) => 10 * number + 10,
-                b'/' if self.slips(Slip::SlashAccepted) => 10 * number,
+            let digit = match digit {
+                b'8' | b'9' if base == 8 => return None,
+                b'0'..=b'9' => u64::from(digit - b'0'),
+                b':' if self.slips(Slip::ColonAccepted) => 10,
+                b'/' if self.slips(Slip::SlashAccepted) => 0,
                 _ => return None,
             };
+            number = base * number + digit;
         }
         match self.slip {
             Some(Slip::LargeNumberAs4) if number > 65_535 => None,
@@ -145,4 +153,20 @@ impl Reader {
             _ => (from, to),
         }
     }
+}
+
+/// What follows the zeros at the start of these bytes and the spaces after them; all of the bytes where
+/// nothing does.
+fn past_zeros(bytes: &[u8]) -> &[u8] {
+    let zeros = bytes.iter().take_while(|&&byte| byte == b'0').count();
+    let spaces = bytes[zeros..].iter().take_while(|&&byte| byte == b' ');
+    match &bytes[zeros + spaces.count()..] {
+        [] => bytes,
+        rest => rest,
+    }
+}
+
+/// Whether these bytes are zeros and spaces, a zero the last of them.
+fn are_zeros(bytes: &[u8]) -> bool {
+    bytes.ends_with(b"0") && bytes.iter().all(|byte| b" 0".contains(byte))
 }

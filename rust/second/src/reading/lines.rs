@@ -123,11 +123,18 @@ impl<'a> Lines<'a> {
         (self.due, self.line) = (self.due + 1, self.rest);
         let line = self.next_line(letter, fields)?;
         let mut numbers = Vec::with_capacity(fields);
-        for field in line[1..].chunks(6).take(fields) {
+        let mut columns = &line[1..];
+        while numbers.len() < fields {
+            let width = self.width(columns, fields - numbers.len());
+            let (field, rest) = columns.split_at(width);
+            columns = rest;
             numbers.push(self.reader.number(field).ok_or(4_u64)?);
             if self.slips(Slip::FieldByField) && fault(&numbers) {
                 return Err(refusal);
             }
+        }
+        if self.slips(Slip::SevenDigitsAccepted) && !columns.is_empty() {
+            return Err(4);
         }
         if fault(&numbers) {
             match self.reader.slip {
@@ -143,6 +150,14 @@ impl<'a> Lines<'a> {
             }
         }
         Ok(numbers)
+    }
+
+    /// How many of a line's columns the next field takes, where so many fields are due in them.
+    fn width(&self, columns: &[u8], fields: usize) -> usize {
+        let is_longer = self.slips(Slip::SevenDigitsAccepted)
+            && columns.len() > 6 * fields
+            && columns[..7].iter().all(u8::is_ascii_digit);
+        6 + usize::from(is_longer)
     }
 
     /// The line due without its end byte, of the right letter and length.
@@ -162,7 +177,9 @@ impl<'a> Lines<'a> {
         }
         let length = 1 + 6 * fields;
         let longer = match self.reader.slip {
-            Some(Slip::ByteAfterFieldsAccepted) => line.len() == length + 1,
+            Some(Slip::ByteAfterFieldsAccepted | Slip::SevenDigitsAccepted) => {
+                line.len() == length + 1
+            }
             Some(Slip::ExtraFieldAccepted) => line.len() == length + 6,
             _ => false,
         };

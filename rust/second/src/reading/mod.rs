@@ -1,5 +1,6 @@
-//! Reading a job file a second time (document 01, "The job file" and "Turned back, by number"), by itself
-//! and as a call with a work buffer. A slip can be switched on, to see that a comparison notices it.
+//! Reading a job file a second time (document 01, "The job file" and "Turned back, by number"; document 02,
+//! "Zero-filled columns"), by itself and as a call with a work buffer. A slip can be switched on, to see that
+//! a comparison notices it.
 mod fields;
 mod lines;
 mod slip;
@@ -52,7 +53,7 @@ pub fn stop(file: &[u8]) -> Option<Stop<'_>> {
     })
 }
 
-/// The number in a field of six columns, if it is spelled as document 01 has it.
+/// The number in a field of six columns, if they hold one.
 pub fn number(columns: &[u8]) -> Option<u64> {
     Reader { slip: None }.number(columns)
 }

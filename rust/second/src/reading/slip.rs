@@ -41,8 +41,16 @@ crate::slips! {
         TabAccepted,
         /// NUL is accepted in the place of a space.
         NulAccepted,
-        /// Zeros are accepted before a number.
-        LeadingZeroAccepted,
+        /// Zeros before a number are refused: `000012` is 4, and of zeros alone only a single one is 0.
+        LeadingZeroRefused,
+        /// A number with a zero before it is octal, `000012` is 10; with an 8 or a 9 in it, it is 4.
+        LeadingZeroOctal,
+        /// Spaces are accepted between zeros and the digits after them: `0   12` is 12.
+        SpaceAfterZeroAccepted,
+        /// Spaces are accepted between zeros where no other digit follows: `   0 0` is 0.
+        SpaceBetweenZerosAccepted,
+        /// A field of seven digits is accepted: it takes one column more, and its line has a byte more.
+        SevenDigitsAccepted,
         /// A field of spaces is 0.
         EmptyFieldAccepted,
         /// Spaces are accepted after a number.

@@ -1,0 +1,334 @@
+//! A file with zeros before its numbers and the same file without: every call on a file returns the same
+//! number for both and leaves the same bytes.
+use dapohiru::numbers::ACCEPTED;
+use dapohiru_compare::library::{Library, CALLS};
+use dapohiru_compare::memory::{start_of, Counts, MOST_WORK};
+use dapohiru_compare::wrapper::WRAPPER;
+use dapohiru_generators::damage::Damaged;
+use dapohiru_generators::faults::{lengthen, possible, refused, short_work, NUMBERS};
+use dapohiru_generators::mixed;
+use dapohiru_generators::random::Random;
+use dapohiru_generators::samples::{in_loop, one_seal, pair, turn};
+use dapohiru_generators::sized::{self, Sizes, FULL};
+use dapohiru_generators::small;
+use dapohiru_generators::spread::Spread;
+use dapohiru_generators::zeros::{filled, spaced, spoil, zero_filled};
+use dapohiru_second::job::Job;
+use dapohiru_second::reading::{self, WORK};
+
+/// What is lent to the calls on a file, with what stands in it before.
+struct Lent {
+    work: Vec<u8>,
+    plan: Vec<u8>,
+    listing: Vec<u8>,
+    /// A plan to be checked.
+    checked: Vec<u8>,
+}
+
+impl Lent {
+    /// Buffers that are long enough and some bytes more, and hold any bytes.
+    fn any(random: &mut Random, checked: &[u8]) -> Self {
+        let mut bytes = |least: usize, most: usize| {
+            let mut bytes = vec![0; random.between(least as u64, most as u64) as usize];
+            random.fill(&mut bytes);
+            bytes
+        };
+        Lent {
+            work: bytes(WORK + 1, MOST_WORK),
+            plan: bytes(513, 600),
+            listing: bytes(32_769, 33_000),
+            checked: checked.to_vec(),
+        }
+    }
+
+    /// The numbers that planning, listing and the check return for a file, and every byte that was lent as
+    /// each of them leaves it.
+    fn left(&self, library: Library, file: &[u8]) -> [(u64, Vec<u8>, Vec<u8>); 3] {
+        let call = |call: &dyn Fn(&mut [u8], &mut [u8]) -> u64, lent: &[u8]| {
+            let (mut work, mut lent) = (self.work.clone(), lent.to_vec());
+            let number = call(&mut work, &mut lent);
+            (number, work, lent)
+        };
+        [
+            call(&|work, plan| (library.plan)(file, work, plan), &self.plan),
+            call(
+                &|work, text| (library.list)(file, work, text),
+                &self.listing,
+            ),
+            call(
+                &|work, plan| (library.check)(file, plan, work),
+                &self.checked,
+            ),
+        ]
+    }
+
+    /// Asks that the library leaves the same for all of these files, and gives the numbers.
+    fn are_left_alike(&self, library: Library, files: &[Vec<u8>]) -> [u64; 3] {
+        let left = self.left(library, &files[0]);
+        for file in &files[1..] {
+            for (one, other) in left.iter().zip(self.left(library, file)) {
+                let why = format!("{}\nand\n{}", start_of(&files[0]), start_of(file));
+                assert_eq!(one.0, other.0, "{why}");
+                assert!(
+                    one.1 == other.1,
+                    "another work buffer after {}: {why}",
+                    one.0
+                );
+                assert!(
+                    one.2 == other.2,
+                    "another lent buffer after {}: {why}",
+                    one.0
+                );
+            }
+        }
+        left.map(|(number, ..)| number)
+    }
+}
+
+/// The file with spaces before its numbers, with zeros, and twice with any of both.
+fn alike(random: &mut Random, file: &[u8]) -> Vec<Vec<u8>> {
+    let without = spaced(file.to_vec());
+    vec![
+        without.clone(),
+        zero_filled(without.clone()),
+        filled(random, without.clone()),
+        filled(random, without),
+    ]
+}
+
+/// Calls of which the files are alike, with counts of the answers of each call; accepted ones are 0.
+struct Calls {
+    random: Random,
+    counts: [Counts<u64>; 3],
+    /// Files that have zeros.
+    zeros: u64,
+}
+
+impl Calls {
+    /// No call so far.
+    fn new() -> Self {
+        Calls {
+            random: Random::of_this_run(),
+            counts: Default::default(),
+            zeros: 0,
+        }
+    }
+
+    /// Makes all calls on files that are alike, as C calls and by the wrapper on guarded buffers too.
+    fn agree(&mut self, file: &[u8], change: impl FnOnce(&mut Random, &mut Lent), plan: &[u8]) {
+        let files = alike(&mut self.random, file);
+        let mut lent = Lent::any(&mut self.random, plan);
+        change(&mut self.random, &mut lent);
+        let numbers = lent.are_left_alike(CALLS, &files);
+        assert_eq!(numbers, lent.are_left_alike(WRAPPER, &files));
+        for (counts, number) in self.counts.iter_mut().zip(numbers) {
+            counts.add(if number < ACCEPTED { number } else { 0 });
+        }
+        self.zeros += files.iter().filter(|other| **other != files[0]).count() as u64;
+    }
+
+    /// Says the counts.
+    fn print(&self) {
+        for (counts, call) in self.counts.iter().zip(["plan", "list", "check"]) {
+            counts.print(call);
+        }
+        println!("{} files with zeros", self.zeros);
+    }
+}
+
+/// A job: a small one, one of any sizes, or a small one among many nodes.
+fn job(random: &mut Random, number: usize) -> Job {
+    match number % 8 {
+        0 => {
+            let sizes = Sizes::random(random);
+            sized::job(random, sizes)
+        }
+        1 if number % 32 == 1 => {
+            let job = small::job(random);
+            Spread::any(random, &job).job
+        }
+        _ => mixed::small_job(random),
+    }
+}
+
+/// A plan of a job: its own points, none, or any of them.
+fn plan(random: &mut Random, job: &Job) -> Vec<u8> {
+    match random.below(3) {
+        0 => job.all_watched(),
+        1 => job.plan_of(&[]),
+        _ => {
+            let mut points = job.points();
+            points.retain(|_| random.once_in(2));
+            job.plan_of(&points)
+        }
+    }
+}
+
+#[test]
+fn zeros_before_the_numbers_of_a_job_change_no_answer_and_no_byte() {
+    const JOBS: usize = 600;
+    let mut calls = Calls::new();
+    for number in 0..JOBS {
+        let job = job(&mut calls.random, number);
+        let plan = plan(&mut calls.random, &job);
+        calls.agree(&job.file(), |_, _| {}, &plan);
+    }
+    for number in 0..6 {
+        let job = mixed::full_job(&mut calls.random, number, 3);
+        calls.agree(&job.file(), |_, _| {}, &job.all_watched());
+    }
+    let longest = sized::job(&mut calls.random, FULL);
+    calls.agree(&longest.file(), |_, _| {}, &longest.all_watched());
+    calls.print();
+    for counts in &calls.counts {
+        assert_eq!(counts.of(0), JOBS as u64 + 7);
+    }
+    assert!(calls.zeros > 2 * JOBS as u64);
+}
+
+#[test]
+fn zeros_change_no_refusal_and_no_byte_after_it() {
+    const JOBS: usize = 60;
+    let mut calls = Calls::new();
+    for number in 0..JOBS {
+        let job = job(&mut calls.random, number);
+        let mut plan = plan(&mut calls.random, &job);
+        for refusal in NUMBERS {
+            let refusal = possible(&job, refusal);
+            let file = refused(&mut calls.random, &job, refusal);
+            calls.agree(&file, |_, _| {}, &plan);
+        }
+        let mut long = job.file();
+        lengthen(&mut calls.random, &mut long);
+        calls.agree(&long, |_, _| {}, &plan);
+        let short = |random: &mut Random, lent: &mut Lent| lent.work.truncate(short_work(random));
+        calls.agree(&job.file(), short, &plan);
+        let short = |random: &mut Random, lent: &mut Lent| {
+            lent.plan.truncate(random.place(512));
+            lent.listing.truncate(random.place(32_768));
+            lent.checked.push(0);
+        };
+        calls.agree(&job.file(), short, &plan);
+        let place = calls.random.place(plan.len());
+        plan[place] = 2;
+        calls.agree(&job.file(), |_, _| {}, &plan);
+    }
+    calls.print();
+    for counts in &calls.counts {
+        counts.came(1..=10);
+    }
+    calls.counts[2].came(11..=12);
+}
+
+#[test]
+fn zeros_change_no_answer_to_a_damaged_file() {
+    const FILES: usize = 600;
+    let mut calls = Calls::new();
+    for _ in 0..FILES {
+        let damaged = Damaged::random(&mut calls.random);
+        let plan = damaged.job.all_watched();
+        calls.agree(&damaged.file, |_, _| {}, &plan);
+    }
+    calls.print();
+    for counts in &calls.counts {
+        counts.came([0, 4, 5, 6, 7, 8]);
+    }
+}
+
+#[test]
+fn zero_before_a_space_is_refused_as_4_in_every_field() {
+    let mut random = Random::of_this_run();
+    let lent = Lent::any(&mut random, &[0, 1, 1]);
+    let (mut alike, mut refused) = (0, 0);
+    let pair = pair().file();
+    let columns = (0..pair.len()).filter(|&place| pair[place..].starts_with(b"     "));
+    for first in columns {
+        // every choice of a space or a zero in the five columns before the number
+        for choice in 0..32_u8 {
+            let lead: Vec<_> = (0..5)
+                .map(|column| b" 0"[usize::from(choice >> column & 1)])
+                .collect();
+            let mut file = pair.clone();
+            file[first..first + 5].copy_from_slice(&lead);
+            if lead.is_sorted() {
+                lent.are_left_alike(CALLS, &[pair.clone(), file]);
+                alike += 1;
+            } else {
+                let before = [&lent.plan, &lent.listing, &lent.checked];
+                for ((number, work, after), before) in
+                    lent.left(CALLS, &file).into_iter().zip(before)
+                {
+                    assert_eq!(number, 4, "{}", start_of(&file));
+                    assert!(work[..WORK].iter().all(|&byte| byte == 0));
+                    assert!(work[WORK..] == lent.work[WORK..] && after == *before);
+                }
+                refused += 1;
+            }
+        }
+    }
+    println!("{alike} files are read as PAIR, {refused} are refused");
+    // 41 fields; six of the 32 choices are spaces and then zeros
+    assert_eq!((alike, refused), (41 * 6, 41 * 26));
+}
+
+#[test]
+fn zeros_of_the_generators_are_in_no_field_in_all_or_in_some() {
+    let mut random = Random::of_this_run();
+    let file = pair().file();
+    let mut counts = Counts::default();
+    for _ in 0..1_000 {
+        let other = filled(&mut random, file.clone());
+        assert_eq!(spaced(other.clone()), file);
+        counts.add(match other {
+            _ if other == file => "none",
+            _ if other == zero_filled(file.clone()) => "all",
+            _ => "some",
+        });
+        let mut spoiled = other;
+        spoil(&mut random, &mut spoiled);
+        assert_eq!(reading::job(&spoiled), Err(4), "{}", start_of(&spoiled));
+    }
+    counts.print("zeros in fields");
+    for kind in ["none", "all", "some"] {
+        assert!(counts.of(kind) > 100, "{kind}");
+    }
+}
+
+#[test]
+fn files_that_are_alike_and_cut_at_the_same_byte_get_the_same_answer() {
+    let mut random = Random::of_this_run();
+    let mut counts = Counts::default();
+    let mut jobs = vec![pair(), in_loop(), turn(), one_seal(4)];
+    jobs.extend((0..12).map(|_| mixed::small_job(&mut random)));
+    for (number, job) in jobs.iter().enumerate() {
+        let lent = Lent::any(&mut random, &job.all_watched());
+        let files = alike(&mut random, &job.file());
+        // the wrapper on guarded buffers takes its time
+        let libraries = if number == 0 {
+            &[CALLS, WRAPPER][..]
+        } else {
+            &[CALLS]
+        };
+        for cut in 0..=files[0].len() {
+            let cuts: Vec<_> = files.iter().map(|file| file[..cut].to_vec()).collect();
+            let wanted = match cuts[0].last() {
+                _ if cut == files[0].len() => 0,
+                None | Some(b'\n') => 3,
+                _ => 4,
+            };
+            for &library in libraries {
+                let numbers = lent.are_left_alike(library, &cuts);
+                let answers = numbers.map(|number| if number < ACCEPTED { number } else { 0 });
+                assert_eq!(
+                    answers,
+                    [wanted; 3],
+                    "cut at {cut}: {}",
+                    start_of(&files[0])
+                );
+            }
+            counts.add(wanted);
+        }
+    }
+    counts.print(&format!("{} files, cut", jobs.len()));
+    counts.came([0, 3, 4]);
+}
