@@ -4,7 +4,7 @@ ghost use Prim.Native.Nat.{_+_, _-_, _<_, _≤_};
 ghost use lib.ListN.{length, take, drop};
 ghost use lib.Seq.{slice};
 ghost use Rattle.lines.specs.Line.{digitsOf, fieldOf};
-ghost use Rattle.lines.specs.Field.{Past};
+ghost use Rattle.lines.specs.Field.{PastSpaces};
 use lines::field::Field;
 
 // A byte as a number.
@@ -14,14 +14,14 @@ fn wide(b: u8) -> u64
     b as u64
 }
 
-// The first column from `at` up to `end` that is another byte than `b`, or `end`.
-fn past(line: &[u8], at: usize, end: usize, b: u8) -> usize
+// The first column from `at` up to `end` that is no space, or `end`.
+fn past_spaces(line: &[u8], at: usize, end: usize) -> usize
     requires { ⌜ (at ≤ end) × (end ≤ length (now line)) ⌝ }
-    ensures { λ r. ⌜ Past b (now (line .entry)) at end r ⌝ }
+    ensures { λ r. ⌜ PastSpaces (now (line .entry)) at end r ⌝ }
 {
     let mut i = at;
     while i < end {
-        if line[i] != b {
+        if line[i] != 32 {
             return i;
         }
         i += 1;
@@ -56,10 +56,9 @@ pub fn field_in(line: &[u8], at: usize) -> Field
     ensures { λ r. ⌜ r ≡ fieldOf (take 6 (drop at (now (line .entry)))) ⌝ }
 {
     let end = at + 6;
-    let first = past(line, at, end, 32);
+    let first = past_spaces(line, at, end);
     if first == end {
         return Field::Malformed;
     }
-    let digits = past(line, first, end, 48);
-    digits_in(line, digits, end)
+    digits_in(line, first, end)
 }

@@ -1,13 +1,13 @@
 -- Laws of fields, in the shape of the code that reads them.
 -- Assumes nothing.
-use mathlib.Core.Path.{_≡_, refl, sym, ap, _∙_}
-use mathlib.Core.List.{List, [], _∷_, _++_}
+use mathlib.Core.Path.{_≡_, sym, ap, _∙_}
+use mathlib.Core.List.{List, [], _∷_}
 use Prim.Native.Nat.{ℕ, zero, suc, _+_, _-_, _*_, _^_, _≤_, _<_}
 use native.Mathlib.Nat.{zero-add, suc-add, pow-suc, lt-of-lt-of-le, pow-le-pow-right}
 use lib.Dec.{lit<}
 use native.Mathlib.Numerals.{add-one}
 use native.Mathlib.Omega.{arith}
-use lib.ListN.{length, take, drop, getD, replicate}
+use lib.ListN.{length, take, drop, getD}
 use lib.Seq.{slice, slice-empty, slice-cons, take-nil}
 use borrow.Author.Tests.{le-leb, lt-leb, ne-eqb}
 use Rattle.lines.specs.declared.field.Field.{Field}
@@ -25,40 +25,19 @@ pub slice-step
     : (i end : ℕ) (l : List ℕ) → i < end → end ≤ length l → slice i end l ≡ getD l i 0 ∷ slice (i + 1) end l
 slice-step i end l h k = rw (add-one i) (slice-cons i end l 0 h k)
 
--- ---- columns that are passed over
+-- ---- spaces
 
--- one more of a byte
-repeated-more : (m b : ℕ) (l : List ℕ) → replicate (suc m) b ++ l ≡ replicate m b ++ (b ∷ l)
-repeated-more zero b l = refl
-repeated-more (suc m) b l = ap {B = List ℕ} (λ r. b ∷ r) (repeated-more m b l)
-
--- none is passed over yet
-pub past-none : (l : List ℕ) (b at end : ℕ) → slice at end l ≡ replicate (at - at) b ++ slice at end l
-past-none l b at end = let none : at - at ≡ 0 = omega arith in rw none
-
--- one more is passed over
-pub past-more
-    : (l : List ℕ) (b at i end : ℕ) → at ≤ i → i < end → end ≤ length l → getD l i 0 ≡ b
-    → slice at end l ≡ replicate (i - at) b ++ slice i end l → slice at end l ≡ replicate (i + 1 - at) b ++ slice (i + 1) end l
-past-more l b at i end a h k e same =
-    let count : suc (i - at) ≡ i + 1 - at = omega arith in
-    same
-    ∙ ap (λ (r : List ℕ). replicate (i - at) b ++ r)
-    (slice-step i end l h k ∙ ap {B = List ℕ} (λ (x : ℕ). x ∷ slice (i + 1) end l) e)
-    ∙ sym (repeated-more (i - at) b (slice (i + 1) end l))
-    ∙ ap (λ (m : ℕ). replicate m b ++ slice (i + 1) end l) count
-
--- spaces add nothing
-pub spaces-add : (m : ℕ) (l : List ℕ) → fieldOf (replicate m 32 ++ l) ≡ fieldOf l
+-- a space is passed over
+space-first : (b : ℕ) (bs : List ℕ) → b ≡ 32 → fieldOf (b ∷ bs) ≡ fieldOf bs
 unfolding fieldOf
-spaces-add zero l = refl
-spaces-add (suc m) l = spaces-add m l
+space-first b bs e = rw e
 
--- zeros before digits add nothing
-pub zeros-add : (m : ℕ) (l : List ℕ) → digitsOf 0 (replicate m 48 ++ l) ≡ digitsOf 0 l
-unfolding digitsOf
-zeros-add zero l = refl
-zeros-add (suc m) l = zeros-add m l
+-- one column more is passed over
+pub past-space
+    : (l : List ℕ) (at i end : ℕ) → i < end → end ≤ length l → getD l i 0 ≡ 32
+    → fieldOf (slice at end l) ≡ fieldOf (slice i end l) → fieldOf (slice at end l) ≡ fieldOf (slice (i + 1) end l)
+past-space l at i end h k e same =
+    same ∙ ap fieldOf (slice-step i end l h k) ∙ space-first (getD l i 0) (slice (i + 1) end l) e
 
 -- ---- digits
 
@@ -126,20 +105,16 @@ unfolding fieldOf
 digit-leads b bs p = simp (ne-eqb b 32 p)
 
 -- nothing but spaces
-pub field-spaces
-    : (l : List ℕ) (at r m : ℕ) → r ≡ at + 6 → slice at (at + 6) l ≡ replicate m 32 ++ slice r (at + 6) l
+pub field-spaces : (l : List ℕ) (at r : ℕ) → r ≡ at + 6 → fieldOf (slice at (at + 6) l) ≡ fieldOf (slice r (at + 6) l)
     → Malformed ≡ fieldOf (take 6 (drop at l))
 unfolding fieldOf
-field-spaces l at r m e passed =
-    sym (ap fieldOf (sym (slice-part at 6 l) ∙ passed) ∙ spaces-add m (slice r (at + 6) l) ∙ rw (e, slice-empty (at + 6) l))
+field-spaces l at r e same = sym (ap fieldOf (sym (slice-part at 6 l)) ∙ same ∙ rw (e, slice-empty (at + 6) l))
 
--- past the spaces and the zeros, the digits from column d on
+-- digits past the spaces
 pub field-digits
-    : (l : List ℕ) (at r d m z : ℕ) → r < at + 6 → at + 6 ≤ length l → slice at (at + 6) l ≡ replicate m 32 ++ slice r (at + 6) l
-    → (getD l r 0 ≡ 32 → ⊥) → slice r (at + 6) l ≡ replicate z 48 ++ slice d (at + 6) l
-    → digitsOf 0 (slice d (at + 6) l) ≡ fieldOf (take 6 (drop at l))
-field-digits l at r d m z h k spaces p zeros =
+    : (l : List ℕ) (at r : ℕ) → r < at + 6 → at + 6 ≤ length l → fieldOf (slice at (at + 6) l) ≡ fieldOf (slice r (at + 6) l)
+    → (getD l r 0 ≡ 32 → ⊥) → digitsOf 0 (slice r (at + 6) l) ≡ fieldOf (take 6 (drop at l))
+field-digits l at r h k same p =
     let first : slice r (at + 6) l ≡ getD l r 0 ∷ slice (r + 1) (at + 6) l = slice-step r (at + 6) l h k in
-    sym (ap fieldOf (sym (slice-part at 6 l) ∙ spaces) ∙ spaces-add m (slice r (at + 6) l) ∙ ap fieldOf first
-    ∙ digit-leads (getD l r 0) (slice (r + 1) (at + 6) l) p
-    ∙ ap (digitsOf 0) (sym first ∙ zeros) ∙ zeros-add z (slice d (at + 6) l))
+    sym (ap fieldOf (sym (slice-part at 6 l)) ∙ same ∙ ap fieldOf first ∙ digit-leads (getD l r 0) (slice (r + 1) (at + 6) l) p
+    ∙ ap (digitsOf 0) (sym first))

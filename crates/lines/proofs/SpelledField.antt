@@ -15,7 +15,7 @@ use borrow.Author.Tests.{lt-ltb, le-ltb, le-leb, leb-true, eqb-true}
 use Rattle.lines.specs.declared.field.Field.the-variants.{Number as number, Malformed as no-number}
 use Rattle.lines.specs.Line.{decimal, field, isDigit, digitsOf, fieldOf}
 use Rattle.lines.specs.Written.{Holds, NoZeros, FieldSays}
-use Rattle.lines.proofs.FieldLaws.{spaces-add, zeros-add, digit-leads}
+use Rattle.lines.proofs.FieldLaws.{digit-leads}
 
 -- ---- digits
 
@@ -103,11 +103,23 @@ decimal-first n h =
     let lead = decimal-leads 5 n [] h in
     ap fieldOf (lead .is) ∙ digit-leads (lead .first) (lead .more) (λ e. omega (arith, lead .digit)) ∙ ap (digitsOf 0) (sym (lead .is))
 
+-- zeros before digits add nothing
+zeros-add : (z : ℕ) (l : List ℕ) → digitsOf 0 (replicate z 48 ++ l) ≡ digitsOf 0 l
+unfolding digitsOf
+zeros-add zero l = refl
+zeros-add (suc z) l = zeros-add z l
+
 -- the first zero is no space
 zeros-first : (z : ℕ) (l : List ℕ) → fieldOf l ≡ digitsOf 0 l → fieldOf (replicate z 48 ++ l) ≡ digitsOf 0 l
 unfolding fieldOf
 zeros-first zero l e = e
 zeros-first (suc z) l e = zeros-add (suc z) l
+
+-- spaces are passed over
+spaces-read : (m : ℕ) (l : List ℕ) → fieldOf (replicate m 32 ++ l) ≡ fieldOf l
+unfolding fieldOf
+spaces-read zero l = refl
+spaces-read (suc m) l = spaces-read m l
 
 -- a field is spaces and digits
 field-form : (n : ℕ) → field n ≡ replicate (6 - length (decimal 6 n [])) 32 ++ decimal 6 n []
@@ -118,7 +130,7 @@ field-form n = refl
 pub holds-read : (l : List ℕ) (n : ℕ) → Holds l n → fieldOf l ≡ number n
 unfolding digitsOf
 holds-read l n h =
-    ap fieldOf (h .spelled) ∙ spaces-add (h .spaces) (replicate (h .zeros) 48 ++ decimal 6 n [])
+    ap fieldOf (h .spelled) ∙ spaces-read (h .spaces) (replicate (h .zeros) 48 ++ decimal 6 n [])
     ∙ zeros-first (h .zeros) (decimal 6 n []) (decimal-first n (h .small)) ∙ decimal-read 6 n [] (h .small)
 
 -- they hold one number

@@ -3,18 +3,19 @@
 -- Assumes nothing.
 use mathlib.Core.Path.{_≡_}
 use mathlib.Core.Bool.{cond}
-use mathlib.Core.List.{List, [], _∷_, _++_}
-use Prim.Native.Nat.{ℕ, _+_, _-_, _%_, _≤_, _<_}
+use mathlib.Core.List.{List, [], _∷_}
+use Prim.Native.Nat.{ℕ, _+_, _%_, _≤_, _<_}
 use lib.Dec.{eqb}
-use lib.ListN.{getD, replicate}
+use lib.ListN.{getD}
 use lib.Seq.{slice}
+use Rattle.lines.specs.Line.{fieldOf}
 
--- r is the first column from at up to end that is another byte than b, or end
-pub record Past (b : ℕ) (l : List ℕ) (at end r : ℕ) : Type 0 where
+-- r is a column from at up to end that is no space, or end, and the field reads from there as from at
+pub record PastSpaces (l : List ℕ) (at end r : ℕ) : Type 0 where
   pub from : at ≤ r
   pub within : r ≤ end
-  pub passed : slice at end l ≡ replicate (r - at) b ++ slice r end l
-  pub other : r < end → getD l r 0 ≡ b → ⊥
+  pub same : fieldOf (slice at end l) ≡ fieldOf (slice r end l)
+  pub no-space : r < end → getD l r 0 ≡ 32 → ⊥
 
 -- the last digit of n, or a space where n has none left
 abbrev pub columnOf : ℕ → ℕ
