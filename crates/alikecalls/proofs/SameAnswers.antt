@@ -7,16 +7,15 @@ use Prim.Native.Nat.{ℕ}
 use lib.Dec.{ltb}
 use lib.ListN.{length}
 use Rattle.jobfile.specs.File.{Answer}
-use Rattle.jobfile.specs.ListingLines.{printedFor}
 use Rattle.jobfile.specs.Alike.{Alike}
 use Rattle.jobfile.proofs.AlikeLaws.{alike-says}
 use Rattle.buffer.specs.Buffer.{workSize}
-use Rattle.admission.specs.Admission.{admitted, workAfter}
+use Rattle.admission.specs.Admission.{admitted}
 use Rattle.checking.specs.declared.check.Verdict.{Verdict}
-use Rattle.checking.specs.Checking.{answered, checked, workLeft, verdictNumber}
-use Rattle.planoutcome.specs.PlanCall.{planSize, outcomeOf, planAfter, planNumber}
-use Rattle.listoutcome.specs.ListCall.{listingSize, listedOf, listingAfter, listNumber}
-use Rattle.alikecalls.specs.SameAnswers.{PlanResult, ListResult, CheckResult, SameAnswers}
+use Rattle.checking.specs.Checking.{answered, checked}
+use Rattle.planoutcome.specs.PlanCall.{planSize}
+use Rattle.listoutcome.specs.ListCall.{listingSize}
+use Rattle.alikecalls.specs.SameAnswers.{planGives, listGives, checkGives, printGives, SameAnswers}
 
 -- what a call begins with
 admitted-alike : (f g : List ℕ) → Alike f g → (short : Bool) → admitted f short ≡ admitted g short
@@ -28,21 +27,17 @@ checked-alike : (f g : List ℕ) → Alike f g → (plan : List ℕ) (size : ℕ
 unfolding checked
 checked-alike f g a plan size = ap (λ (x : Answer). answered x plan) (admitted-alike f g a (ltb size workSize))
 
+-- all that a call gives
 pub same-answers : SameAnswers
 same-answers =
     record {
+      admission = admitted-alike;
       planning = λ f g a work plan.
-          ap {B = PlanResult}
-          (λ (x : Answer).
-          record { outcome = outcomeOf x; number = planNumber (outcomeOf x); work = workAfter x work; plan = planAfter x plan })
+          ap (λ (x : Answer). planGives x work plan)
           (admitted-alike f g a (ltb (length work) workSize || ltb (length plan) planSize));
       listing = λ f g a work listing.
-          ap {B = ListResult}
-          (λ (x : Answer).
-          record { listed = listedOf x; number = listNumber (listedOf x); work = workAfter x work; listing = listingAfter x listing })
+          ap (λ (x : Answer). listGives x work listing)
           (admitted-alike f g a (ltb (length work) workSize || ltb (length listing) listingSize));
-      checking = λ f g a plan work.
-          ap {B = CheckResult} (λ (v : Verdict). record { verdict = v; number = verdictNumber v; work = workLeft v work })
-          (checked-alike f g a plan (length work));
-      printing = λ f g a. ap printedFor (admitted-alike f g a false);
+      checking = λ f g a plan work. ap (λ (v : Verdict). checkGives v work) (checked-alike f g a plan (length work));
+      printing = λ f g a work. ap (λ (x : Answer). printGives x work) (admitted-alike f g a false);
     }

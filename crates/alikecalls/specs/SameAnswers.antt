@@ -3,10 +3,11 @@
 -- file written without zeros is alike each file of its job (`ReadsWhatIsWritten` of `Spellable.antt`).
 -- Assumes nothing.
 use mathlib.Core.Path.{_≡_}
-use mathlib.Core.Bool.{false}
+use mathlib.Core.Bool.{Bool, false}
 use mathlib.Core.List.{List}
 use Prim.Native.Nat.{ℕ}
 use lib.ListN.{length}
+use Rattle.jobfile.specs.File.{Answer}
 use Rattle.jobfile.specs.ListingLines.{printedFor}
 use Rattle.jobfile.specs.Alike.{Alike}
 use Rattle.admission.specs.Admission.{admitted, workAfter}
@@ -24,32 +25,21 @@ pub record PlanResult : Type 0 where
   pub work : List ℕ
   pub plan : List ℕ
 
-abbrev pub planned : List ℕ → List ℕ → List ℕ → PlanResult
-planned file work plan =
-    let answer = planAnswer file (length work) (length plan) in
-    record {
-      outcome = outcomeOf answer;
-      number = planNumber (outcomeOf answer);
-      work = workAfter answer work;
-      plan = planAfter answer plan;
-    }
+-- for an answer
+abbrev pub planGives : Answer → List ℕ → List ℕ → PlanResult
+planGives a work plan =
+    record { outcome = outcomeOf a; number = planNumber (outcomeOf a); work = workAfter a work; plan = planAfter a plan }
 
 -- of listing: length or refusal, its number, the work buffer, the listing buffer
 pub record ListResult : Type 0 where
-  pub listed : Listed
+  pub length : Listed
   pub number : ℕ
   pub work : List ℕ
   pub listing : List ℕ
 
-abbrev pub listed : List ℕ → List ℕ → List ℕ → ListResult
-listed file work listing =
-    let answer = listAnswer file (length work) (length listing) in
-    record {
-      listed = listedOf answer;
-      number = listNumber (listedOf answer);
-      work = workAfter answer work;
-      listing = listingAfter answer listing;
-    }
+abbrev pub listGives : Answer → List ℕ → List ℕ → ListResult
+listGives a work listing =
+    record { length = listedOf a; number = listNumber (listedOf a); work = workAfter a work; listing = listingAfter a listing }
 
 -- of the plan check: the verdict, its number, the work buffer
 pub record CheckResult : Type 0 where
@@ -57,14 +47,30 @@ pub record CheckResult : Type 0 where
   pub number : ℕ
   pub work : List ℕ
 
-abbrev pub judgedFor : List ℕ → List ℕ → List ℕ → CheckResult
-judgedFor file plan work =
-    let verdict = checked file plan (length work) in
-    record { verdict = verdict; number = verdictNumber verdict; work = workLeft verdict work }
+abbrev pub checkGives : Verdict → List ℕ → CheckResult
+checkGives v work = record { verdict = v; number = verdictNumber v; work = workLeft v work }
 
--- the statement: files alike, cut, damaged or sound, get the same of every call, and of the listing program
+-- of the listing program: what is printed, the work buffer
+pub record PrintResult : Type 0 where
+  pub text : List ℕ
+  pub work : List ℕ
+
+abbrev pub printGives : Answer → List ℕ → PrintResult
+printGives a work = record { text = printedFor a; work = workAfter a work }
+
+-- the statement: files alike, cut, damaged or sound, are admitted alike and get the same of every call
 pub record SameAnswers : Type 0 where
-  pub planning : (f g : List ℕ) → Alike f g → (work plan : List ℕ) → planned f work plan ≡ planned g work plan
-  pub listing : (f g : List ℕ) → Alike f g → (work listing : List ℕ) → listed f work listing ≡ listed g work listing
-  pub checking : (f g : List ℕ) → Alike f g → (plan work : List ℕ) → judgedFor f plan work ≡ judgedFor g plan work
-  pub printing : (f g : List ℕ) → Alike f g → printedFor (admitted f false) ≡ printedFor (admitted g false)
+  -- what every call begins with
+  pub admission : (f g : List ℕ) → Alike f g → (short : Bool) → admitted f short ≡ admitted g short
+  pub planning
+      : (f g : List ℕ) → Alike f g → (work plan : List ℕ)
+      → planGives (planAnswer f (length work) (length plan)) work plan ≡ planGives (planAnswer g (length work) (length plan)) work plan
+  pub listing
+      : (f g : List ℕ) → Alike f g → (work listing : List ℕ)
+      → listGives (listAnswer f (length work) (length listing)) work listing
+      ≡ listGives (listAnswer g (length work) (length listing)) work listing
+  pub checking
+      : (f g : List ℕ) → Alike f g → (plan work : List ℕ)
+      → checkGives (checked f plan (length work)) work ≡ checkGives (checked g plan (length work)) work
+  pub printing
+      : (f g : List ℕ) → Alike f g → (work : List ℕ) → printGives (admitted f false) work ≡ printGives (admitted g false) work

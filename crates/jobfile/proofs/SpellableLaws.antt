@@ -15,15 +15,34 @@ use Rattle.lines.specs.Line.{at}
 use Rattle.lines.specs.Alike.{NoZerosOver}
 use Rattle.jobfile.specs.File.{maxFile, ruleLine, nodeLine, edgeLine, finalsOf, ruleOf, nodeOf, edgeOf, someEntry, accepted, turned, readJob, writeJob, jobOf}
 use Rattle.jobfile.specs.Refusal.{HeadWithin, PastEdges, too-long, at-head, at-rule, at-node, at-edge}
-use Rattle.jobfile.specs.Alike.{LinesDue, any-due, head-due, rule-due, node-due, edge-due, all-due, Alike, WithoutZeros}
+use Rattle.jobfile.specs.Alike.{TurnedDue, any-due, head-due, rule-due, node-due, edge-due, LinesDue, some-due, all-due, Alike, WithoutZeros}
 use Rattle.lines.specs.Written.{GoodLines}
 use Rattle.jobfile.specs.Spellable.{Spellable, ReadsWhatIsWritten, AcceptedOnce, AcceptsWellFormed}
-use Rattle.jobfile.proofs.SpelledRules.{ruleLines, rules-count, rules-table, finals-high, finals-same, RowsFit, rules-exact, rules-good, rows-fit}
-use Rattle.jobfile.proofs.SpelledNodes.{nodeLines, nodes-count, nodes-read, NodeFits, nodes-exact, nodes-fit, nodes-good}
+use Rattle.jobfile.proofs.SpelledRules.{rules-count, rules-table, finals-high, finals-same, RowsFit, rules-exact, rules-good, rows-fit}
+use Rattle.jobfile.proofs.SpelledNodes.{nodes-count, nodes-read, NodeFits, nodes-exact, nodes-fit, nodes-good}
 use Rattle.jobfile.proofs.SpelledEdges.{edgeNumbers, edges-read, edges-exact, edges-ascend, edges-below, edges-good}
-use Rattle.jobfile.proofs.SpelledFile.{head-good, head-exact, fileOf, written-form, allCounts, Parts, parts-of, file-past, file-no-zeros, past-only, past-alike, past-length, file-length, length-limit}
+use Rattle.jobfile.proofs.SpelledFile.{head-good, head-exact, fileOf, jobHead, jobRules, jobNodes, jobEdges, written-form, allCounts, Parts, file-past, file-no-zeros, past-only, past-alike, past-length, file-length, length-limit}
 use Rattle.jobfile.proofs.RefusalLaws.{Whole, some-entry-says, past-edges, turned-says, accepted-says}
 use Rattle.jobfile.proofs.AlikeLaws.{alike-says}
+use Rattle.jobfile.specs.FileTrials.{pairWithZeros}
+use Rattle.planning.specs.Trials.{pair}
+use Rattle.jobfile.proofs.FileTrialsPass.{pair-with-zeros-read, pair-with-zeros-other}
+
+-- a file consists of the lines of a job
+abbrev OfJob : List ℕ → Job → Type 0
+OfJob file j = PastEdges file (jobHead j) (jobRules j) (jobNodes j) (jobEdges j) []
+
+-- files of one job are alike
+files-alike : (f g : List ℕ) (j : Job) → OfJob f j → OfJob g j → Alike f g
+files-alike f g j p q =
+    record {
+      long =
+          past-length (jobHead j) (jobRules j) (jobNodes j) (jobEdges j) p
+          ∙ sym (past-length (jobHead j) (jobRules j) (jobNodes j) (jobEdges j) q);
+      due = allCounts (j .rule .symbols) (jobRules j) (jobNodes j) (jobEdges j);
+      lines = all-due p;
+      over = past-alike (jobHead j) (jobRules j) (jobNodes j) (jobEdges j) p q;
+    }
 
 -- ---- from a job to its lines
 
@@ -61,27 +80,36 @@ module _ (j : Job) (spell : Spellable j) where
       }
 
   -- its R lines are good
-  rules-fine : GoodLines (ruleLine (j .rule .states) (j .rule .symbols)) 0 [] (ruleLines (j .rule .finals) 0 (j .rule .table))
+  rules-fine : GoodLines (ruleLine (j .rule .states) (j .rule .symbols)) 0 [] (jobRules j)
   rules-fine =
       let few = spell .well-formed .rule .few-states in
       rules-good (j .rule .states) (j .rule .symbols) (j .rule .finals) 0 [] (j .rule .table) (omega arith)
       (omega (arith, spell .rows)) table-fits
 
   -- its P lines are good
-  nodes-fine : GoodLines (nodeLine (j .rule .states) (j .rule .symbols)) 0 [] (nodeLines 0 (j .nodes))
+  nodes-fine : GoodLines (nodeLine (j .rule .states) (j .rule .symbols)) 0 [] (jobNodes j)
   nodes-fine =
       let w = spell .well-formed .rule in
       nodes-good (j .rule .states) (j .rule .symbols) 0 [] (j .nodes) (w .few-states) (w .few-symbols)
       (omega (arith, spell .few-nodes)) node-fits
 
   -- its F lines are good
-  edges-fine : GoodLines (edgeLine (length (j .nodes))) 0 [] (map edgeNumbers (j .edges))
+  edges-fine : GoodLines (edgeLine (length (j .nodes))) 0 [] (jobEdges j)
   edges-fine =
       edges-good (length (j .nodes)) (j .edges) (omega (arith, spell .few-nodes)) (spell .well-formed .edges) (spell .ascending)
 
-  -- one for each state
-  rules-all : length (ruleLines (j .rule .finals) 0 (j .rule .table)) ≡ j .rule .states
-  rules-all = rules-count (j .rule .finals) 0 (j .rule .table) ∙ spell .rows
+  -- the four parts of its file
+  job-parts : Parts (jobHead j) (jobRules j) (jobNodes j) (jobEdges j)
+  job-parts =
+      record {
+        head-lines = head-good (j .rule .states) (j .rule .symbols) (length (j .nodes)) (length (j .edges)) head-fits;
+        rule-lines = rules-fine;
+        rule-count = rules-count (j .rule .finals) 0 (j .rule .table) ∙ spell .rows;
+        node-lines = nodes-fine;
+        node-count = nodes-count 0 (j .nodes);
+        edge-lines = edges-fine;
+        edge-count = length-map (j .edges) edgeNumbers;
+      }
 
   -- how long the file of a job is
   pub written-length
@@ -89,10 +117,8 @@ module _ (j : Job) (spell : Spellable j) where
       ≡ 26 + j .rule .states * (j .rule .symbols * 6 + 14) + length (j .nodes) * 38 + length (j .edges) * 14
   written-length =
       ap length (written-form j)
-      ∙ file-length (j .rule .states) (j .rule .symbols) (length (j .nodes)) (length (j .edges))
-      (j .rule .states ∷ j .rule .symbols ∷ length (j .nodes) ∷ length (j .edges) ∷ [])
-      (ruleLines (j .rule .finals) 0 (j .rule .table)) (nodeLines 0 (j .nodes)) (map edgeNumbers (j .edges)) refl
-      rules-fine rules-all nodes-fine (nodes-count 0 (j .nodes)) edges-fine (length-map (j .edges) edgeNumbers)
+      ∙ file-length (j .rule .states) (j .rule .symbols) (length (j .nodes)) (length (j .edges)) (jobHead j) (jobRules j) (jobNodes j)
+      (jobEdges j) refl rules-fine (job-parts .rule-count) nodes-fine (job-parts .node-count) edges-fine (job-parts .edge-count)
 
   -- "longer than 49,914 bytes" is no file of a job
   pub longest : length (writeJob j) ≤ 49914
@@ -101,10 +127,7 @@ module _ (j : Job) (spell : Spellable j) where
       (length-limit (j .rule .states) (j .rule .symbols) (length (j .nodes)) (length (j .edges)) head-fits)
 
   -- the job of its lines
-  lines-job
-      : j
-      ≡ jobOf (j .rule .states ∷ j .rule .symbols ∷ length (j .nodes) ∷ length (j .edges) ∷ [])
-      (ruleLines (j .rule .finals) 0 (j .rule .table)) (nodeLines 0 (j .nodes)) (map edgeNumbers (j .edges))
+  lines-job : j ≡ jobOf (jobHead j) (jobRules j) (jobNodes j) (jobEdges j)
   lines-job =
       rw (
         finals-same (j .rule .finals) (j .rule .table) (λ q h. rw (spell .rows) (spell .well-formed .rule .finals-below q h)),
@@ -113,60 +136,33 @@ module _ (j : Job) (spell : Spellable j) where
         edges-read (j .edges),
       )
 
-  -- the four parts of its file
-  job-parts
-      : Parts (j .rule .states ∷ j .rule .symbols ∷ length (j .nodes) ∷ length (j .edges) ∷ [])
-      (ruleLines (j .rule .finals) 0 (j .rule .table)) (nodeLines 0 (j .nodes)) (map edgeNumbers (j .edges))
-  job-parts =
-      record {
-        head-lines = head-good (j .rule .states) (j .rule .symbols) (length (j .nodes)) (length (j .edges)) head-fits;
-        rule-lines = rules-fine;
-        rule-count = rules-all;
-        node-lines = nodes-fine;
-        node-count = nodes-count 0 (j .nodes);
-        edge-lines = edges-fine;
-        edge-count = length-map (j .edges) edgeNumbers;
-      }
-
-  -- its file consists of them
-  written-past
-      : PastEdges (writeJob j) (j .rule .states ∷ j .rule .symbols ∷ length (j .nodes) ∷ length (j .edges) ∷ [])
-      (ruleLines (j .rule .finals) 0 (j .rule .table)) (nodeLines 0 (j .nodes)) (map edgeNumbers (j .edges)) []
+  -- its file consists of its lines
+  written-past : OfJob (writeJob j) j
   written-past =
       rw (written-form j)
-      (file-past (j .rule .states ∷ j .rule .symbols ∷ length (j .nodes) ∷ length (j .edges) ∷ [])
-      (ruleLines (j .rule .finals) 0 (j .rule .table)) (nodeLines 0 (j .nodes)) (map edgeNumbers (j .edges)) job-parts
+      (file-past (jobHead j) (jobRules j) (jobNodes j) (jobEdges j) job-parts
       (subst (λ (l : List ℕ). length l ≤ maxFile) (written-form j) longest))
-
-  -- and is accepted with it
-  written-whole : Whole (writeJob j) j
-  written-whole =
-      record {
-        head = j .rule .states ∷ j .rule .symbols ∷ length (j .nodes) ∷ length (j .edges) ∷ [];
-        rules = ruleLines (j .rule .finals) 0 (j .rule .table);
-        nodes = nodeLines 0 (j .nodes);
-        edges = map edgeNumbers (j .edges);
-        past = written-past;
-        entry = rw (nodes-read 0 (j .nodes)) (some-entry-says (j .nodes) .1 (spell .some-entry));
-        job = lines-job;
-      }
 
   -- the file written from a job is read as that job
   pub written-read : readJob (writeJob j) ≡ accepted j
-  written-read = accepted-says (writeJob j) j .1 written-whole
+  written-read =
+      accepted-says (writeJob j) j .1 (record {
+        head = jobHead j;
+        rules = jobRules j;
+        nodes = jobNodes j;
+        edges = jobEdges j;
+        past = written-past;
+        entry = rw (nodes-read 0 (j .nodes)) (some-entry-says (j .nodes) .1 (spell .some-entry));
+        job = lines-job;
+      })
 
   -- it has no zeros before a number's digits
   written-plain : WithoutZeros (writeJob j)
   written-plain =
-      let rules : List (List ℕ) = ruleLines (j .rule .finals) 0 (j .rule .table) in
-      let nodes : List (List ℕ) = nodeLines 0 (j .nodes) in
-      let edges : List (List ℕ) = map edgeNumbers (j .edges) in
       record {
-        due = allCounts (j .rule .symbols) rules nodes edges;
+        due = allCounts (j .rule .symbols) (jobRules j) (jobNodes j) (jobEdges j);
         lines = all-due written-past;
-        none =
-            rw (written-form j)
-            (file-no-zeros (j .rule .states ∷ j .rule .symbols ∷ length (j .nodes) ∷ length (j .edges) ∷ []) rules nodes edges job-parts);
+        none = rw (written-form j) (file-no-zeros (jobHead j) (jobRules j) (jobNodes j) (jobEdges j) job-parts);
       }
 
 -- ---- from the lines to a job
@@ -183,19 +179,29 @@ module _
     edges-all : length (map edgeOf edges) ≡ at head 3
     edges-all = length-map edges edgeOf ∙ p .lines .count
 
+    -- its J line
+    lines-head : jobHead (jobOf head rules nodes edges) ≡ head
+    lines-head = rw (nodes-all, edges-all) (sym (head-exact head (p .past .past .past .lines .good) .0))
+
+    -- its R lines
+    lines-rules : jobRules (jobOf head rules nodes edges) ≡ rules
+    lines-rules = rules-exact (at head 0) (at head 1) (finalsOf 0 rules) (p .past .past .lines .good) (λ q l. refl)
+
+    -- its P lines
+    lines-nodes : jobNodes (jobOf head rules nodes edges) ≡ nodes
+    lines-nodes = nodes-exact (at head 0) (at head 1) (p .past .lines .good)
+
+    -- its F lines
+    lines-edges : jobEdges (jobOf head rules nodes edges) ≡ edges
+    lines-edges = edges-exact (at head 2) (p .lines .good)
+
     -- the job's file is that of the lines
     lines-written : writeJob (jobOf head rules nodes edges) ≡ fileOf head rules nodes edges
-    lines-written =
-        let whole = head-exact head (p .past .past .past .lines .good) .0 in
-        let same : at head 0 ∷ at head 1 ∷ length (map nodeOf nodes) ∷ length (map edgeOf edges) ∷ [] ≡ head =
-        rw (nodes-all, edges-all) (sym whole) in
-        written-form (jobOf head rules nodes edges)
-        ∙ rw (
-          same,
-          rules-exact (at head 0) (at head 1) (finalsOf 0 rules) (p .past .past .lines .good) (λ q l. refl),
-          nodes-exact (at head 0) (at head 1) (p .past .lines .good),
-          edges-exact (at head 2) (p .lines .good),
-        )
+    lines-written = written-form (jobOf head rules nodes edges) ∙ rw (lines-head, lines-rules, lines-nodes, lines-edges)
+
+    -- the file consists of the job's lines
+    lines-of-job : OfJob file (jobOf head rules nodes edges)
+    lines-of-job = rw (lines-head, lines-rules, lines-nodes, lines-edges) p
 
     -- the rule is well formed
     rule-fine : WellFormed (ruleOf (at head 0) (at head 1) rules)
@@ -244,30 +250,21 @@ module _
           some-entry = some-entry-says (map nodeOf nodes) .0 some;
         }
 
-    -- the file is alike the one written from that job
-    lines-alike : Alike (writeJob (jobOf head rules nodes edges)) file
-    lines-alike =
-        let j : Job = jobOf head rules nodes edges in
-        let written : PastEdges (writeJob j) head rules nodes edges [] =
-        rw lines-written
-        (file-past head rules nodes edges (parts-of p) (subst (λ (l : List ℕ). length l ≤ maxFile) lines-written (longest j lines-spellable))) in
-        record {
-          long = past-length head rules nodes edges written ∙ sym (past-length head rules nodes edges p);
-          due = allCounts (at head 1) rules nodes edges;
-          lines = all-due written;
-          over = past-alike head rules nodes edges written p;
-        }
-
 -- ---- both ways
 
--- an accepted file is alike the file written from its job, which is spellable
-pub read-written : (file : List ℕ) (j : Job) → readJob file ≡ accepted j → Alike (writeJob j) file × Spellable j
-read-written file j e =
+-- an accepted file consists of the lines of its job, which is spellable
+accepted-lines : (file : List ℕ) (j : Job) → readJob file ≡ accepted j → OfJob file j × Spellable j
+accepted-lines file j e =
     let w = accepted-says file j .0 e in
     rw (w .job) (
-      lines-alike file (w .head) (w .rules) (w .nodes) (w .edges) (w .past) (w .entry),
+      lines-of-job file (w .head) (w .rules) (w .nodes) (w .edges) (w .past) (w .entry),
       lines-spellable file (w .head) (w .rules) (w .nodes) (w .edges) (w .past) (w .entry),
     )
+
+-- it is alike the file written from its job
+pub read-written : (file : List ℕ) (j : Job) → readJob file ≡ accepted j → Alike (writeJob j) file × Spellable j
+read-written file j e =
+    let (lines, spell) = accepted-lines file j e in (files-alike (writeJob j) file j (written-past j spell) lines, spell)
 
 -- a file is accepted with a job exactly where it spells that job
 pub accepted-written : ReadsWhatIsWritten
@@ -295,20 +292,25 @@ plain-only file j w e = go (w .lines) (w .none)
     whole {head} {rules} {nodes} {edges} [] p none false t = turned-not {r = 10} (past-edges file head rules nodes edges [] p ∙ rw t)
     whole {head} {rules} {nodes} {edges} (b ∷ bytes) p none u t = turned-not {r = 9} (past-edges file head rules nodes edges (b ∷ bytes) p)
 
+    back : {due : List ℕ} → TurnedDue file due → (file ≡ writeJob j) × Spellable j
+    back (any-due l) = turned-not (turned-says file 1 .1 (too-long l))
+    back (head-due {r} short bad) = turned-not (turned-says file r .1 (at-head short bad))
+    back (rule-due {r} p bad) = turned-not (turned-says file r .1 (at-rule p bad))
+    back (node-due {r} p bad) = turned-not (turned-says file r .1 (at-node p bad))
+    back (edge-due {r} p bad) = turned-not (turned-says file r .1 (at-edge p bad))
+
     go : {due : List ℕ} → LinesDue file due → NoZerosOver due file → (file ≡ writeJob j) × Spellable j
-    go (any-due l) none = turned-not (turned-says file 1 .1 (too-long l))
-    go (head-due {r} short bad) none = turned-not (turned-says file r .1 (at-head short bad))
-    go (rule-due {r} p bad) none = turned-not (turned-says file r .1 (at-rule p bad))
-    go (node-due {r} p bad) none = turned-not (turned-says file r .1 (at-node p bad))
-    go (edge-due {r} p bad) none = turned-not (turned-says file r .1 (at-edge p bad))
+    go (some-due d) none = back d
     go (all-due {rest} {nodes} p) none = whole rest p none (someEntry (map nodeOf nodes)) refl
 
--- of all files of a job just one has no zeros
+-- the files of a job are alike, and just one has no zeros
 pub accepted-once : AcceptedOnce
 accepted-once =
     record {
+      alike = λ f g j d e. files-alike f g j (accepted-lines f j d .0) (accepted-lines g j e .0);
       written = written-plain;
       only = λ file j w. (plain-only file j w, λ s. rw (s .0) (written-read j (s .1)));
+      others = (pairWithZeros, pair, pair-with-zeros-read, pair-with-zeros-other);
     }
 
 -- an accepted job is well formed

@@ -12,7 +12,7 @@ use Rattle.lines.specs.Line.{line, lineLength, at, writeLines}
 use Rattle.jobfile.specs.File.{maxFile, headLine, ruleLine, nodeLine, edgeLine, writeRules, writeNodes, writeEdges, writeJob}
 use Rattle.jobfile.specs.Refusal.{HeadWithin, PastHead, PastRules, PastNodes, PastEdges}
 use Rattle.lines.specs.Written.{Fits, GoodLines, good-none, good-more}
-use Rattle.lines.specs.Alike.{AlikeOver, NoZerosOver}
+use Rattle.lines.specs.Alike.{Equal, AlikeOver, NoZerosOver}
 use Rattle.jobfile.proofs.WithinLaws.{head-says}
 use Rattle.lines.proofs.SpelledLine.{fields-length}
 use Rattle.lines.proofs.SpelledLines.{lines-length, written-stand}
@@ -53,7 +53,7 @@ abbrev pub fileOf : List ℕ → List (List ℕ) → List (List ℕ) → List (L
 fileOf head rules nodes edges = line 74 head ++ (writeLines 82 rules ++ (writeLines 80 nodes ++ writeLines 70 edges))
 
 -- one line written by itself
-pub write-one : (letter : ℕ) (ns rest : List ℕ) → writeLines letter (ns ∷ []) ++ rest ≡ line letter ns ++ rest
+write-one : (letter : ℕ) (ns rest : List ℕ) → writeLines letter (ns ∷ []) ++ rest ≡ line letter ns ++ rest
 unfolding writeLines
 write-one letter ns rest = ap (λ (l : List ℕ). l ++ rest) (append-nil (line letter ns))
 
@@ -70,12 +70,21 @@ job-form
 unfolding writeJob
 job-form j = refl
 
+-- the numbers of a job's lines
+abbrev pub jobHead : Job → List ℕ
+jobHead j = j .rule .states ∷ j .rule .symbols ∷ length (j .nodes) ∷ length (j .edges) ∷ []
+
+abbrev pub jobRules : Job → List (List ℕ)
+jobRules j = ruleLines (j .rule .finals) 0 (j .rule .table)
+
+abbrev pub jobNodes : Job → List (List ℕ)
+jobNodes j = nodeLines 0 (j .nodes)
+
+abbrev pub jobEdges : Job → List (List ℕ)
+jobEdges j = map edgeNumbers (j .edges)
+
 -- a job is written as the file of its lines
-pub written-form
-    : (j : Job)
-    → writeJob j
-    ≡ fileOf (j .rule .states ∷ j .rule .symbols ∷ length (j .nodes) ∷ length (j .edges) ∷ [])
-    (ruleLines (j .rule .finals) 0 (j .rule .table)) (nodeLines 0 (j .nodes)) (map edgeNumbers (j .edges))
+pub written-form : (j : Job) → writeJob j ≡ fileOf (jobHead j) (jobRules j) (jobNodes j) (jobEdges j)
 written-form j =
     let head : List ℕ = line 74 (j .rule .states ∷ j .rule .symbols ∷ length (j .nodes) ∷ length (j .edges) ∷ []) in
     job-form j
@@ -106,20 +115,6 @@ pub record Parts (head : List ℕ) (rules nodes edges : List (List ℕ)) : Type 
   pub edge-lines : GoodLines (edgeLine (at head 2)) 0 [] edges
   pub edge-count : length edges ≡ at head 3
 
--- those of a file
-pub parts-of
-    : {file head rest : List ℕ} {rules nodes edges : List (List ℕ)} → PastEdges file head rules nodes edges rest → Parts head rules nodes edges
-parts-of p =
-    record {
-      head-lines = p .past .past .past .lines .good;
-      rule-lines = p .past .past .lines .good;
-      rule-count = p .past .past .lines .count;
-      node-lines = p .past .lines .good;
-      node-count = p .past .lines .count;
-      edge-lines = p .lines .good;
-      edge-count = p .lines .count;
-    }
-
 module _ (head : List ℕ) (rules nodes edges : List (List ℕ)) where
   -- what follows the J line, the R lines and the P lines
   abbrev from-edges : List ℕ
@@ -132,7 +127,7 @@ module _ (head : List ℕ) (rules nodes edges : List (List ℕ)) where
   from-rules = writeLines 82 rules ++ from-nodes
 
   -- the file, line by line
-  pub file-form : writeLines 74 (head ∷ []) ++ from-rules ≡ fileOf head rules nodes edges
+  file-form : writeLines 74 (head ∷ []) ++ from-rules ≡ fileOf head rules nodes edges
   file-form =
       write-one 74 head from-rules
       ∙ ap (λ (l : List ℕ). line 74 head ++ (writeLines 82 rules ++ (writeLines 80 nodes ++ l))) (append-nil (writeLines 70 edges))
@@ -238,14 +233,14 @@ module _ (head : List ℕ) (rules nodes edges : List (List ℕ)) where
     -- are alike
     pub past-alike : AlikeOver (allCounts (at head 1) rules nodes edges) f g
     past-alike =
-        alike-stand headLine (head ∷ [])
+        alike-stand Equal headLine (head ∷ [])
         (ruleCounts (at head 1) rules nodes edges) f g
         (p .past .past .from) (q .past .past .from) (p .past .past .past .lines .stand) (q .past .past .past .lines .stand)
-        (alike-stand (ruleLine (at head 0) (at head 1)) rules (nodeCounts nodes edges)
+        (alike-stand Equal (ruleLine (at head 0) (at head 1)) rules (nodeCounts nodes edges)
         (p .past .past .from) (q .past .past .from) (p .past .from) (q .past .from) (p .past .past .lines .stand) (q .past .past .lines .stand)
-        (alike-stand (nodeLine (at head 0) (at head 1)) nodes (edgeCounts edges) (p .past .from) (q .past .from) (p .from)
+        (alike-stand Equal (nodeLine (at head 0) (at head 1)) nodes (edgeCounts edges) (p .past .from) (q .past .from) (p .from)
         (q .from) (p .past .lines .stand) (q .past .lines .stand)
-        (alike-stand (edgeLine (at head 2)) edges [] (p .from) (q .from) [] [] (p .lines .stand) (q .lines .stand) refl)))
+        (alike-stand Equal (edgeLine (at head 2)) edges [] (p .from) (q .from) [] [] (p .lines .stand) (q .lines .stand) refl)))
 
 -- the bytes of the file of good lines
 pub file-length

@@ -132,8 +132,11 @@ fileTrials =
     -- 3: nothing at all; nothing where an F line is due
     ∷ reads [] (turned 3)
     ∷ reads (linesIn pairLines) (turned 3)
+    -- with zeros, nothing where an R line is due
+    ∷ reads (linesIn ("J000001000001000001000000" ∷ [])) (turned 3)
     -- 4: a line cut within, and one without its end byte
     ∷ reads (bytesIn "J     3     3") (turned 4)
+    ∷ reads (bytesIn "J000003000003") (turned 4)
     ∷ reads (linesIn pairLines ++ bytesIn "F     1     2") (turned 4)
     -- 4: another letter; no digit; a space at the end, or within; a sign; a tab; a carriage return
     ∷ reads (withHead "j     1     1     1     0") (turned 4)
@@ -167,6 +170,9 @@ fileTrials =
     ∷ reads (withRule "R     0     0     1") (turned 6)
     ∷ reads (withRule "R     0     0   256") (turned 6)
     ∷ reads (linesIn (smallHead ∷ "R     0     0     1" ∷ [])) (turned 6)
+    -- with zeros, a state out of order and a next state of S
+    ∷ reads (withRule "R000001000000000000") (turned 6)
+    ∷ reads (withRule "R     0000000000001") (turned 6)
     -- 7: a node out of order; a kind of 3; a value at kind 0; a symbol of A; a call set, entry set or after set past what the job
     -- has; an exit mark of 2; an after set without exit
     ∷ reads (withNode "P     1     0     0     1     0     0") (turned 7)
@@ -179,14 +185,21 @@ fileTrials =
     ∷ reads (withNode "P     0     0     0     1     1     2") (turned 7)
     ∷ reads (withNode "P     0     0     0     1     2     0") (turned 7)
     ∷ reads (withNode "P     0     0     0     1     0     1") (turned 7)
+    -- with zeros, a kind of 3 and a symbol of A
+    ∷ reads (withNode "P000000000003000000000001000000000000") (turned 7)
+    ∷ reads (withNode "P     0000001    01     1    00     0") (turned 7)
     -- 8: the same edge twice; one that descends; a node of N
     ∷ reads (withEdges "F     0     1" "F     0     1") (turned 8)
     ∷ reads (withEdges "F     1     0" "F     0     1") (turned 8)
     ∷ reads (withEdges "F     0     1" "F     0     2") (turned 8)
     ∷ reads (withEdges "F     0     1" "F   256     0") (turned 8)
+    -- with zeros, the same edge twice, once with spaces
+    ∷ reads (withEdges "F     0     1" "F000000  0001") (turned 8)
     -- 9: bytes after the last line, also where no node is an entry
     ∷ reads (pairFile ++ (10 ∷ [])) (turned 9)
+    ∷ reads (pairWithZeros ++ (48 ∷ [])) (turned 9)
     ∷ reads (withNode "P     0     0     0     0     0     0" ++ (10 ∷ [])) (turned 9)
     -- 10: no entry
     ∷ reads (withNode "P     0     0     0     0     0     0") (turned 10)
+    ∷ reads (withNode "P000000000000000000000000000000000000") (turned 10)
     ∷ []

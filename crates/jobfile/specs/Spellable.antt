@@ -37,10 +37,13 @@ pub record Spellable (j : Job) : Type 0 where
 abbrev pub ReadsWhatIsWritten : Type 0
 ReadsWhatIsWritten = (file : List ℕ) (j : Job) → (readJob file ≡ accepted j) ↔ (Alike (writeJob j) file × Spellable j)
 
--- the statement: of all files of a job just one has no zeros before a number's digits, and it is the file written from that job
+-- the statement: the files of a job are alike, and just one has no zeros before a number's digits, the file written from that job, which
+-- is accepted as any file without zeros; an accepted file need not be the written one
 pub record AcceptedOnce : Type 0 where
+  pub alike : (f g : List ℕ) (j : Job) → readJob f ≡ accepted j → readJob g ≡ accepted j → Alike f g
   pub written : (j : Job) → Spellable j → WithoutZeros (writeJob j)
   pub only : (file : List ℕ) (j : Job) → WithoutZeros file → (readJob file ≡ accepted j) ↔ ((file ≡ writeJob j) × Spellable j)
+  pub others : (file : List ℕ) × (j : Job) × (readJob file ≡ accepted j) × (file ≢ writeJob j)
 
 -- the statement: an accepted job is well formed
 abbrev pub AcceptsWellFormed : Type 0

@@ -9,12 +9,12 @@ use native.Mathlib.Nat.{zero-add, suc-mul, zero-mul}
 use native.Mathlib.Omega.{arith}
 use lib.ListN.{length, take, drop, replicate, length-drop}
 use Rattle.lines.specs.Line.{line, writeLines, at, lineLength}
-use Rattle.lines.specs.Lines.{LineKind}
+use Rattle.lines.specs.Lines.{LineKind, Lines, lines, refused, linesOf}
 use Rattle.lines.specs.Written.{Holds, columnsOf, LineAt, Stand, GoodLines, good-none, good-more, LinesAt, BadLine, ended, malformed, outside, FirstBad}
-use Rattle.lines.specs.Alike.{AlikeColumns, equal, one-number, AlikeLine, AlikeOver, NoZerosOver}
+use Rattle.lines.specs.Alike.{AlikeColumns, equal, one-number, AlikeLine, AlikeThen, Equal, AlikeOver, AlikeUpTo, NoZerosOver, KindDue, all-good, one-bad, LinesSayAlike}
 use Rattle.lines.proofs.SpelledField.{holds-one}
 use Rattle.lines.proofs.SpelledLine.{line-long, line-only, written-no-zeros}
-use Rattle.lines.proofs.SpelledLines.{write-cons, written-past}
+use Rattle.lines.proofs.SpelledLines.{write-cons, written-past, lines-says, refused-says}
 
 -- ---- one line
 
@@ -28,11 +28,11 @@ alike-turned : {l m : List ℕ} → AlikeColumns l m → AlikeColumns m l
 alike-turned (equal e) = equal (sym e)
 alike-turned (one-number p q) = one-number q p
 
-pub line-turned : {k : ℕ} {f g : List ℕ} → AlikeLine k f g → AlikeLine k g f
+line-turned : {k : ℕ} {f g : List ℕ} → AlikeLine k f g → AlikeLine k g f
 line-turned a = record { first = sym (a .first); fields = λ i h. alike-turned (a .fields i h); last = sym (a .last) }
 
 -- a line that stands in one stands in the other
-pub line-alike : {letter k : ℕ} {f g ns : List ℕ} → AlikeLine k f g → LineAt letter k f ns → LineAt letter k g ns
+line-alike : {letter k : ℕ} {f g ns : List ℕ} → AlikeLine k f g → LineAt letter k f ns → LineAt letter k g ns
 line-alike {f} {g} {ns} a l =
     record {
       count = l .count;
@@ -42,7 +42,7 @@ line-alike {f} {g} {ns} a l =
     }
 
 -- lines of the same numbers are alike
-pub same-alike : {letter k : ℕ} {f g ns : List ℕ} → LineAt letter k f ns → LineAt letter k g ns → AlikeLine k f g
+same-alike : {letter k : ℕ} {f g ns : List ℕ} → LineAt letter k f ns → LineAt letter k g ns → AlikeLine k f g
 same-alike l m =
     record { first = l .first ∙ sym (m .first); fields = λ i h. one-number (l .fields i h) (m .fields i h); last = l .last ∙ sym (m .last) }
 
@@ -52,7 +52,7 @@ none-alike f [] e n = refl
 none-alike f (b ∷ g) e n = let z : _≡_ {A = ℕ} 0 1 = cc in absurd (omega arith)
 
 -- a line that is turned back in one is turned back in the other
-pub bad-alike
+bad-alike
     : {k : LineKind} {i r : ℕ} {before f g : List ℕ} → AlikeLine (k .count) f g → BadLine k i before f r → BadLine k i before g r
 bad-alike {f} {g} a (ended none) = ended (none-alike f g (a .first) none)
 bad-alike {f} {g} a (malformed some none) =
@@ -72,15 +72,20 @@ pub over-turned : (ks f g : List ℕ) → AlikeOver ks f g → AlikeOver ks g f
 over-turned [] f g a = sym a
 over-turned (k ∷ ks) f g a = (line-turned (a .0), over-turned ks (drop (lineLength k) f) (drop (lineLength k) g) (a .1))
 
-module _ (k : LineKind) where
-  -- so many fields each, for so many lines
-  abbrev counts : List (List ℕ) → List ℕ → List ℕ
-  counts ls ks = replicate (length ls) (k .count) ++ ks
+-- whatever is past the lines
+pub over-up-to : (ks f g : List ℕ) → AlikeOver ks f g → AlikeUpTo ks f g
+over-up-to [] f g a = tt
+over-up-to (k ∷ ks) f g a = (a .0, over-up-to ks (drop (lineLength k) f) (drop (lineLength k) g) (a .1))
 
+-- so many fields each, for so many lines
+abbrev counts : LineKind → List (List ℕ) → List ℕ → List ℕ
+counts k ls ks = replicate (length ls) (k .count) ++ ks
+
+module _ (Past : List ℕ → List ℕ → Type 0) (k : LineKind) where
   -- lines that stand in one stand in the other, and what follows is alike
-  pub stand-alike
-      : (ls : List (List ℕ)) (ks f g rest : List ℕ) → Stand k f ls rest → AlikeOver (counts ls ks) f g
-      → (other : List ℕ) × Stand k g ls other × AlikeOver ks rest other
+  stand-alike
+      : (ls : List (List ℕ)) (ks f g rest : List ℕ) → Stand k f ls rest → AlikeThen Past (counts k ls ks) f g
+      → (other : List ℕ) × Stand k g ls other × AlikeThen Past ks rest other
   stand-alike [] ks f g rest s a = (g, refl, rw (← s) a)
   stand-alike (ns ∷ ls) ks f g rest s a =
       let (other, stand, more) =
@@ -90,33 +95,24 @@ module _ (k : LineKind) where
   -- good lines of the one are good lines of the other
   pub lines-alike
       : {c i : ℕ} {before f g rest : List ℕ} {ls : List (List ℕ)} (ks : List ℕ) → LinesAt k c i before f ls rest
-      → AlikeOver (counts ls ks) f g → (other : List ℕ) × LinesAt k c i before g ls other × AlikeOver ks rest other
+      → AlikeThen Past (counts k ls ks) f g → (other : List ℕ) × LinesAt k c i before g ls other × AlikeThen Past ks rest other
   lines-alike {f} {g} {rest} {ls} ks l a =
       let (other, stand, more) = stand-alike ls ks f g rest (l .stand) a in
       (other, record { count = l .count; good = l .good; stand = stand }, more)
 
   -- lines of the same numbers before what is alike
   pub alike-stand
-      : (ls : List (List ℕ)) (ks f g rest other : List ℕ) → Stand k f ls rest → Stand k g ls other → AlikeOver ks rest other
-      → AlikeOver (counts ls ks) f g
+      : (ls : List (List ℕ)) (ks f g rest other : List ℕ) → Stand k f ls rest → Stand k g ls other → AlikeThen Past ks rest other
+      → AlikeThen Past (counts k ls ks) f g
   alike-stand [] ks f g rest other s t a = rw (s, t) a
   alike-stand (ns ∷ ls) ks f g rest other s t a = (
     same-alike (s .0) (t .0),
     alike-stand ls ks (drop (lineLength (k .count)) f) (drop (lineLength (k .count)) g) rest other (s .1) (t .1) a,
   )
 
-  -- the bytes of lines that stand
-  pub stand-length
-      : (ls : List (List ℕ)) (f rest : List ℕ) → Stand k f ls rest → length f ≡ length ls * lineLength (k .count) + length rest
-  stand-length [] f rest s = rw (zero-mul (lineLength (k .count)), zero-add (length rest)) (ap length s)
-  stand-length (ns ∷ ls) f rest s =
-      let long = line-long (s .0) in
-      let more = stand-length ls (drop (lineLength (k .count)) f) rest (s .1) in
-      rw (suc-mul (length ls) (lineLength (k .count))) (omega (arith, more, length-drop (lineLength (k .count)) f))
-
   -- the first line that is turned back is that of the other too
   pub first-bad-alike
-      : {c i r : ℕ} {before f g : List ℕ} (b : FirstBad k c i before f r) → AlikeOver (counts (b .passed) (k .count ∷ [])) f g
+      : {c i r : ℕ} {before f g : List ℕ} (b : FirstBad k c i before f r) → AlikeThen Past (counts k (b .passed) (k .count ∷ [])) f g
       → (d : FirstBad k c i before g r) × (d .passed ≡ b .passed)
   first-bad-alike {f} {g} b a =
       let (other, stand, more) = stand-alike (b .passed) (k .count ∷ []) f g (b .due) (b .stand) a in (
@@ -131,17 +127,47 @@ module _ (k : LineKind) where
         refl,
       )
 
+module _ (k : LineKind) where
+  -- the bytes of lines that stand
+  pub stand-length
+      : (ls : List (List ℕ)) (f rest : List ℕ) → Stand k f ls rest → length f ≡ length ls * lineLength (k .count) + length rest
+  stand-length [] f rest s = rw (zero-mul (lineLength (k .count)), zero-add (length rest)) (ap length s)
+  stand-length (ns ∷ ls) f rest s =
+      let long = line-long (s .0) in
+      let more = stand-length ls (drop (lineLength (k .count)) f) rest (s .1) in
+      rw (suc-mul (length ls) (lineLength (k .count))) (omega (arith, more, length-drop (lineLength (k .count)) f))
+
+  -- ---- as they are read
+
+  -- good lines, or the first that is turned back
+  due-read
+      : (c i : ℕ) (before f g due : List ℕ) → KindDue k c i before f due → AlikeOver due f g
+      → linesOf k c i before f ≡ linesOf k c i before g
+  due-read c i before f g due (all-good {ls} {rest} l) a =
+      let (other, m, same) = lines-alike Equal k [] l a in
+      lines-says k c i before f ls rest .1 l ∙ ap (lines ls) same ∙ sym (lines-says k c i before g ls other .1 m)
+  due-read c i before f g due (one-bad {r} b) a =
+      refused-says k c i before f r .1 b ∙ sym (refused-says k c i before g r .1 (first-bad-alike Equal k b a .0))
+
+  -- any bytes have their lines due
+  kind-due : (c i : ℕ) (before f : List ℕ) → (due : List ℕ) × KindDue k c i before f due
+  kind-due c i before f = go (linesOf k c i before f) refl
+    where
+      go : (x : Lines) → linesOf k c i before f ≡ x → (due : List ℕ) × KindDue k c i before f due
+      go (lines ls rest) e = (_, all-good (lines-says k c i before f ls rest .0 e))
+      go (refused r) e = (_, one-bad (refused-says k c i before f r .0 e))
+
   -- ---- without zeros
 
   -- lines without zeros are as they are written
   pub stand-only
-      : (ls : List (List ℕ)) (ks f rest : List ℕ) → Stand k f ls rest → NoZerosOver (counts ls ks) f
+      : (ls : List (List ℕ)) (ks f rest : List ℕ) → Stand k f ls rest → NoZerosOver (counts k ls ks) f
       → (f ≡ writeLines (k .letter) ls ++ rest) × NoZerosOver ks rest
   unfolding writeLines
   stand-only [] ks f rest s none = (s, rw (← s) none)
   stand-only (ns ∷ ls) ks f rest s none =
       let (whole, past) = stand-only ls ks (drop (lineLength (k .count)) f) rest (s .1) (none .1) in (
-        line-only (k .letter) (k .count) f ns (s .0) (none .0)
+        line-only (k .letter) (k .count) f ns (s .0) (λ i h. none .0 i (at ns i) h (s .0 .fields i h))
             ∙ ap (λ (l : List ℕ). line (k .letter) ns ++ l) whole ∙ sym (write-cons k ns ls rest),
         past,
       )
@@ -149,12 +175,16 @@ module _ (k : LineKind) where
   -- good lines that are written have no zeros
   pub written-only
       : {i : ℕ} {before : List ℕ} {ls : List (List ℕ)} (ks rest : List ℕ) → GoodLines k i before ls → NoZerosOver ks rest
-      → NoZerosOver (counts ls ks) (writeLines (k .letter) ls ++ rest)
+      → NoZerosOver (counts k ls ks) (writeLines (k .letter) ls ++ rest)
   unfolding writeLines
   written-only ks rest good-none none = none
   written-only ks rest (good-more {ns} {ls} count fit good more) none =
       let after : List ℕ = writeLines (k .letter) ls ++ rest in
       rw (write-cons k ns ls rest) (
-        λ i h. written-no-zeros (k .letter) ns after fit i (omega (arith, count)),
+        λ i n h held. written-no-zeros (k .letter) ns after fit i (omega (arith, count)),
         rw (written-past k ns after count) (written-only ks rest more none),
       )
+
+-- lines of a kind alike are read alike
+pub lines-say-alike : LinesSayAlike
+lines-say-alike = record { some-due = kind-due; read-alike = due-read }

@@ -128,7 +128,7 @@ line-drop letter ns rest = drop-at (line letter ns) rest (lineLength (length ns)
 -- ---- a byte by its place
 
 -- the byte at a place that the bytes have
-pub byte-at : (l : List ℕ) (p b : ℕ) → take 1 (drop p l) ≡ b ∷ [] → (p < length l) × (getD l p 0 ≡ b)
+byte-at : (l : List ℕ) (p b : ℕ) → take 1 (drop p l) ≡ b ∷ [] → (p < length l) × (getD l p 0 ≡ b)
 byte-at [] zero b e = let z : _≡_ {A = ℕ} 0 1 = cc in absurd (omega arith)
 byte-at [] (suc p) b e = let z : _≡_ {A = ℕ} 0 1 = cc in absurd (omega arith)
 byte-at (x ∷ xs) zero b e = (omega arith, cc)
@@ -258,6 +258,7 @@ line-says =
     record {
       found-there = λ letter k bytes ns. (found-line letter k bytes ns, line-found letter k bytes ns);
       written = line-written;
+      only = line-only;
     }
 
 -- the bytes end where a line is due exactly where there is none

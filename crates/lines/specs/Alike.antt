@@ -1,30 +1,62 @@
 -- Files alike (document 02, request 5): "a file with them", zeros before a number's digits, "must give the same answer as the file written
--- without". What is said here of lines of any kind is said of job files in `jobfile`'s `Alike.antt`.
+-- without". Here for lines of any kind; job files are `jobfile`'s `Alike.antt`.
 -- Assumes nothing.
 use mathlib.Core.Path.{_≡_}
-use mathlib.Core.List.{List, [], _∷_}
+use mathlib.Core.List.{List, [], _∷_, _++_}
 use Prim.Native.Nat.{ℕ, _+_, _*_, _<_}
-use lib.ListN.{take, drop}
+use lib.ListN.{length, take, drop, replicate}
 use Rattle.lines.specs.Line.{lineLength}
-use Rattle.lines.specs.Written.{Holds, columnsOf, NoZeros}
+use Rattle.lines.specs.Lines.{LineKind, linesOf}
+use Rattle.lines.specs.Written.{Holds, columnsOf, LinesAt, FirstBad, NoZeros}
 
 -- the columns of a field: equal, or both hold one number
 pub data AlikeColumns (l m : List ℕ) : Type 0 where
   equal : l ≡ m → AlikeColumns l m
   one-number : {n : ℕ} → Holds l n → Holds m n → AlikeColumns l m
 
--- where a line of k fields is due: alike fields, and one byte in the letter's place and in the end byte's
+-- where a line of k fields is due: alike fields, and the same byte in the letter's place and in the end byte's
 pub record AlikeLine (k : ℕ) (f g : List ℕ) : Type 0 where
   pub first : take 1 f ≡ take 1 g
   pub fields : (i : ℕ) → i < k → AlikeColumns (columnsOf i f) (columnsOf i g)
   pub last : take 1 (drop (k * 6 + 1) f) ≡ take 1 (drop (k * 6 + 1) g)
 
--- where lines of so many fields each are due, one after the other: alike lines, and equal bytes past them
-abbrev pub AlikeOver : List ℕ → List ℕ → List ℕ → Type 0
-AlikeOver [] f g = f ≡ g
-AlikeOver (k ∷ ks) f g = AlikeLine k f g × AlikeOver ks (drop (lineLength k) f) (drop (lineLength k) g)
+-- where lines of so many fields each are due, one after the other: alike lines, and past them what `Past` says of the bytes
+abbrev pub AlikeThen : (List ℕ → List ℕ → Type 0) → List ℕ → List ℕ → List ℕ → Type 0
+AlikeThen Past [] f g = Past f g
+AlikeThen Past (k ∷ ks) f g = AlikeLine k f g × AlikeThen Past ks (drop (lineLength k) f) (drop (lineLength k) g)
 
--- no zeros before the digits in the fields of such lines
+-- equal bytes past them
+abbrev pub Equal : List ℕ → List ℕ → Type 0
+Equal f g = f ≡ g
+
+abbrev pub AlikeOver : List ℕ → List ℕ → List ℕ → Type 0
+AlikeOver = AlikeThen Equal
+
+-- any bytes past them
+abbrev pub Anything : List ℕ → List ℕ → Type 0
+Anything f g = Unit
+
+abbrev pub AlikeUpTo : List ℕ → List ℕ → List ℕ → Type 0
+AlikeUpTo = AlikeThen Anything
+
+-- no zeros before a number's digits in the fields of such lines
 abbrev pub NoZerosOver : List ℕ → List ℕ → Type 0
 NoZerosOver [] f = Unit
-NoZerosOver (k ∷ ks) f = ((i : ℕ) → i < k → NoZeros (columnsOf i f)) × NoZerosOver ks (drop (lineLength k) f)
+NoZerosOver (k ∷ ks) f =
+    ((i n : ℕ) → i < k → Holds (columnsOf i f) n → NoZeros (columnsOf i f)) × NoZerosOver ks (drop (lineLength k) f)
+
+-- of c lines of a kind due from the start of the bytes, those up to the one that is turned back, by how many fields each has
+pub data KindDue (k : LineKind) (c i : ℕ) (before bytes : List ℕ) : List ℕ → Type 0 where
+  all-good
+      : {ls : List (List ℕ)} {rest : List ℕ} → LinesAt k c i before bytes ls rest
+      → KindDue k c i before bytes (replicate (length ls) (k .count) ++ [])
+  one-bad
+      : {r : ℕ} (b : FirstBad k c i before bytes r)
+      → KindDue k c i before bytes (replicate (length (b .passed)) (k .count) ++ (k .count ∷ []))
+
+-- the statement: lines of a kind that are alike are read alike, with the same bytes after them
+pub record LinesSayAlike : Type 0 where
+  pub some-due : (k : LineKind) (c i : ℕ) (before f : List ℕ) → (due : List ℕ) × KindDue k c i before f due
+  pub read-alike
+      : (k : LineKind) (c i : ℕ) (before f g due : List ℕ) → KindDue k c i before f due → AlikeOver due f g
+      → linesOf k c i before f ≡ linesOf k c i before g

@@ -1,4 +1,4 @@
--- Fields with what they hold: those of document 02's request 5, then our own.
+-- Fields with what they hold (document 02, request 5).
 -- That they are read so, `AllFields fieldTrials`, is a theorem of `proofs/`.
 -- Assumes nothing.
 use mathlib.Core.Path.{_≡_}
@@ -21,8 +21,8 @@ pub record FieldTrial : Type 0 where
   pub says : Field
 
 -- a row of the table
-abbrev pub holds : String → Field → FieldTrial
-holds columns says = record { columns = columns; says = says }
+abbrev pub reads : String → Field → FieldTrial
+reads columns says = record { columns = columns; says = says }
 
 infixr 5 _and_
 -- every field of a table is read as it should be
@@ -34,32 +34,32 @@ pub data AllFields : List FieldTrial → Type 0 where
 unfoldable pub fieldTrials : List FieldTrial
 fieldTrials =
     -- zeros before the digits, in place of spaces or after them; octal digits and others
-    holds "    12" (Number 12)
-    ∷ holds "  0012" (Number 12)
-    ∷ holds "000012" (Number 12)
-    ∷ holds " 00019" (Number 19)
-    ∷ holds "000100" (Number 100)
-    ∷ holds "123456" (Number 123456)
-    ∷ holds "099999" (Number 99999)
-    ∷ holds "999999" (Number 999999)
+    reads "    12" (Number 12)
+    ∷ reads "  0012" (Number 12)
+    ∷ reads "000012" (Number 12)
+    ∷ reads " 00019" (Number 19)
+    ∷ reads "000100" (Number 100)
+    ∷ reads "123456" (Number 123456)
+    ∷ reads "099999" (Number 99999)
+    ∷ reads "999999" (Number 999999)
     -- zero
-    ∷ holds "     0" (Number 0)
-    ∷ holds "    00" (Number 0)
-    ∷ holds "000000" (Number 0)
+    ∷ reads "     0" (Number 0)
+    ∷ reads "    00" (Number 0)
+    ∷ reads "000000" (Number 0)
     -- no digit; a space after a zero, between zeros, between digits, at the end
-    ∷ holds "      " Malformed
-    ∷ holds "0   12" Malformed
-    ∷ holds " 0   0" Malformed
-    ∷ holds "00 012" Malformed
-    ∷ holds "   5 3" Malformed
-    ∷ holds "0005 3" Malformed
-    ∷ holds "00012 " Malformed
-    ∷ holds "0     " Malformed
+    ∷ reads "      " Malformed
+    ∷ reads "0   12" Malformed
+    ∷ reads " 0   0" Malformed
+    ∷ reads "00 012" Malformed
+    ∷ reads "   5 3" Malformed
+    ∷ reads "0005 3" Malformed
+    ∷ reads "00012 " Malformed
+    ∷ reads "0     " Malformed
     -- a sign, a point, a letter, a tab
-    ∷ holds "   +12" Malformed
-    ∷ holds "00-012" Malformed
-    ∷ holds "0001.2" Malformed
-    ∷ holds "0x0012" Malformed
-    ∷ holds "\t   12" Malformed
-    ∷ holds "00012\t" Malformed
+    ∷ reads "   +12" Malformed
+    ∷ reads "00-012" Malformed
+    ∷ reads "0001.2" Malformed
+    ∷ reads "0x0012" Malformed
+    ∷ reads "\t   12" Malformed
+    ∷ reads "00012\t" Malformed
     ∷ []

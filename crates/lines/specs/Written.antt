@@ -78,7 +78,7 @@ pub record FirstBad (k : LineKind) (c i : ℕ) (before bytes : List ℕ) (r : �
 
 -- ---- without zeros
 
--- no zero stands before a number's digits: none is the first column past the spaces with a column after it
+-- no zeros before the digits: no zero stands right after the spaces with another column after it
 abbrev pub NoZeros : List ℕ → Type 0
 NoZeros l = (m b : ℕ) (bs : List ℕ) → l ≡ replicate m 32 ++ (48 ∷ b ∷ bs) → ⊥
 
@@ -91,7 +91,11 @@ pub record FieldSays : Type 0 where
   pub written : (n : ℕ) → n < 1000000 → Holds (field n) n × NoZeros (field n)
   pub only : (l : List ℕ) (n : ℕ) → Holds l n → NoZeros l → l ≡ field n
 
--- the statement: a line is found if and only if it stands there, and it stands where it is written
+-- the statement: a line is found if and only if it stands there; it stands where it is written, and of all lines with its numbers the
+-- written one is the only one whose fields have no zeros
 pub record LineSays : Type 0 where
   pub found-there : (letter k : ℕ) (bytes ns : List ℕ) → (lineOf letter k bytes ≡ found ns) ↔ LineAt letter k bytes ns
   pub written : (letter : ℕ) (ns rest : List ℕ) → Fits ns → LineAt letter (length ns) (line letter ns ++ rest) ns
+  pub only
+      : (letter k : ℕ) (bytes ns : List ℕ) → LineAt letter k bytes ns → ((i : ℕ) → i < k → NoZeros (columnsOf i bytes))
+      → bytes ≡ line letter ns ++ drop (lineLength k) bytes

@@ -1,4 +1,4 @@
-// Fields: six columns with a decimal number, right-justified, spaces or zeros before its digits.
+// Fields: six columns with a decimal number, right-justified: spaces, then zeros, then its digits.
 
 // What six columns hold.
 pub enum Field {
