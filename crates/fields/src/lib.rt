@@ -1,27 +1,20 @@
 // Reading a field: six columns with a decimal number, right-justified: spaces, then zeros, then its digits.
 ghost use mathlib.Core.Path.{_≡_};
-ghost use Prim.Native.Nat.{_+_, _-_, _<_, _≤_};
+ghost use Prim.Native.Nat.{_+_, _-_, _%_, _<_, _≤_};
 ghost use lib.ListN.{length, take, drop};
 ghost use lib.Seq.{slice};
 ghost use Rattle.lines.specs.Line.{digitsOf, fieldOf};
 ghost use Rattle.lines.specs.Field.{PastSpaces};
 use lines::field::Field;
 
-// A byte as a number.
-fn wide(b: u8) -> u64
-    ensures { λ r. ⌜ (r ≡ b) × (r < 256) ⌝ }
+// How many of the six columns from `at` on are spaces before any other byte.
+fn past_spaces(line: &[u8], at: usize) -> usize
+    requires { ⌜ at + 6 ≤ length (now line) ⌝ }
+    ensures { λ r. ⌜ PastSpaces (now (line .entry)) at r ⌝ }
 {
-    b as u64
-}
-
-// The first column from `at` up to `end` that is no space, or `end`.
-fn past_spaces(line: &[u8], at: usize, end: usize) -> usize
-    requires { ⌜ (at ≤ end) × (end ≤ length (now line)) ⌝ }
-    ensures { λ r. ⌜ PastSpaces (now (line .entry)) at end r ⌝ }
-{
-    let mut i = at;
-    while i < end {
-        if line[i] != 32 {
+    let mut i = 0;
+    while i < 6 {
+        if line[at + i] != 32 {
             return i;
         }
         i += 1;
@@ -29,25 +22,37 @@ fn past_spaces(line: &[u8], at: usize, end: usize) -> usize
     i
 }
 
-// The number whose digits stand from `at` up to `end`, at most six.
-fn digits_in(line: &[u8], at: usize, end: usize) -> Field
-    requires { ⌜ (at ≤ end) × ((end ≤ at + 6) × (end ≤ length (now line))) ⌝ }
-    ensures { λ r. ⌜ r ≡ digitsOf 0 (slice at end (now (line .entry))) ⌝ }
+// What a digit counts, and more than 9 for any other byte.
+fn digit(b: u8) -> u32
+    ensures { λ r. ⌜ ((r + 48) % 256 ≡ b) × (r < 256) ⌝ }
 {
-    let mut v: u64 = 0;
-    let mut i = at;
-    while i < end {
-        let b = wide(line[i]);
-        if b < 48 {
+    let d = std::num::wrapping_sub_u8(b, 48);
+    d as u32
+}
+
+// A number of 32 bits in 64.
+fn wide(v: u32) -> u64
+    ensures { λ r. ⌜ r ≡ v ⌝ }
+{
+    v as u64
+}
+
+// The number whose digits are the columns from `from` on, of the six from `at` on.
+fn digits_in(line: &[u8], at: usize, from: usize) -> Field
+    requires { ⌜ (from ≤ 6) × (at + 6 ≤ length (now line)) ⌝ }
+    ensures { λ r. ⌜ r ≡ digitsOf 0 (slice (at + from) (at + 6) (now (line .entry))) ⌝ }
+{
+    let mut v: u32 = 0;
+    let mut i = from;
+    while i < 6 {
+        let d = digit(line[at + i]);
+        if 9 < d {
             return Field::Malformed;
         }
-        if 57 < b {
-            return Field::Malformed;
-        }
-        v = v * 10 + (b - 48);
+        v = v * 10 + d;
         i += 1;
     }
-    Field::Number(v)
+    Field::Number(wide(v))
 }
 
 // What the six columns from `at` on hold.
@@ -55,10 +60,9 @@ pub fn field_in(line: &[u8], at: usize) -> Field
     requires { ⌜ at + 6 ≤ length (now line) ⌝ }
     ensures { λ r. ⌜ r ≡ fieldOf (take 6 (drop at (now (line .entry)))) ⌝ }
 {
-    let end = at + 6;
-    let first = past_spaces(line, at, end);
-    if first == end {
+    let spaces = past_spaces(line, at);
+    if spaces == 6 {
         return Field::Malformed;
     }
-    digits_in(line, first, end)
+    digits_in(line, at, spaces)
 }

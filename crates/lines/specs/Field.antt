@@ -10,12 +10,11 @@ use lib.ListN.{getD}
 use lib.Seq.{slice}
 use Rattle.lines.specs.Line.{fieldOf}
 
--- r is a column from at up to end that is no space, or end, and the field reads from there as from at
-pub record PastSpaces (l : List ℕ) (at end r : ℕ) : Type 0 where
-  pub from : at ≤ r
-  pub within : r ≤ end
-  pub same : fieldOf (slice at end l) ≡ fieldOf (slice r end l)
-  pub no-space : r < end → getD l r 0 ≡ 32 → ⊥
+-- of the six columns from at on, the field reads from column r as from the first; there stands no space, unless r is 6
+pub record PastSpaces (l : List ℕ) (at r : ℕ) : Type 0 where
+  pub within : r ≤ 6
+  pub same : fieldOf (slice (at + 0) (at + 6) l) ≡ fieldOf (slice (at + r) (at + 6) l)
+  pub no-space : r < 6 → getD l (at + r) 0 ≡ 32 → ⊥
 
 -- the last digit of n, or a space where n has none left
 abbrev pub columnOf : ℕ → ℕ

@@ -7,9 +7,6 @@ use Rattle.lines.proofs.FieldLaws.{field-spaces, field-digits}
 use Rattle.fields.proofs.field_in.Statement.{statement}
 use Rattle.fields.proofs.field_in.Tie as tie
 
-add-end : tie.Need-add-end
-add-end c = search needs
-
 past-spaces-requires : tie.Need-past-spaces-requires
 past-spaces-requires c κs = search needs
 
@@ -33,7 +30,6 @@ pub field-in-spec : {M : Type 1} → statement M
 field-in-spec =
     tie.close
     (tie.spec
-    add-end
     past-spaces-requires
     returns
     digits-in-requires
