@@ -6,38 +6,53 @@ use mathlib.Core.List.{List}
 use Prim.Native.Nat.{ℕ}
 use lib.Dec.{ltb}
 use lib.ListN.{length}
-use Rattle.jobfile.specs.File.{Answer}
-use Rattle.jobfile.specs.Alike.{Alike}
+use Rattle.jobfile.specs.File.{Answer, readJob}
 use Rattle.jobfile.proofs.AlikeLaws.{alike-says}
 use Rattle.buffer.specs.Buffer.{workSize}
 use Rattle.admission.specs.Admission.{admitted}
 use Rattle.checking.specs.declared.check.Verdict.{Verdict}
 use Rattle.checking.specs.Checking.{answered, checked}
-use Rattle.planoutcome.specs.PlanCall.{planSize}
-use Rattle.listoutcome.specs.ListCall.{listingSize}
-use Rattle.alikecalls.specs.SameAnswers.{planGives, listGives, checkGives, printGives, SameAnswers}
+use Rattle.planoutcome.specs.PlanCall.{planSize, planAnswer}
+use Rattle.listoutcome.specs.ListCall.{listingSize, listAnswer}
+use Rattle.alikecalls.specs.SameAnswers.{planGives, listGives, checkGives, printGives, OneAnswer, SameAnswers}
 
--- what a call begins with
-admitted-alike : (f g : List ℕ) → Alike f g → (short : Bool) → admitted f short ≡ admitted g short
-unfolding admitted
-admitted-alike f g a short = rw (a .long, alike-says .read-alike f g a)
+module _ (f g : List ℕ) (long : length f ≡ length g) (read : readJob f ≡ readJob g) where
+  -- what a call begins with
+  same-admission : (short : Bool) → admitted f short ≡ admitted g short
+  unfolding admitted
+  same-admission short = rw (long, read)
 
--- the verdict
-checked-alike : (f g : List ℕ) → Alike f g → (plan : List ℕ) (size : ℕ) → checked f plan size ≡ checked g plan size
-unfolding checked
-checked-alike f g a plan size = ap (λ (x : Answer). answered x plan) (admitted-alike f g a (ltb size workSize))
+  -- planning
+  same-plan : (work plan : ℕ) → planAnswer f work plan ≡ planAnswer g work plan
+  same-plan work plan = same-admission (ltb work workSize || ltb plan planSize)
 
--- all that a call gives
+  -- listing
+  same-list : (work listing : ℕ) → listAnswer f work listing ≡ listAnswer g work listing
+  same-list work listing = same-admission (ltb work workSize || ltb listing listingSize)
+
+  -- the verdict
+  same-verdict : (plan : List ℕ) (work : ℕ) → checked f plan work ≡ checked g plan work
+  unfolding checked
+  same-verdict plan work = ap (λ (x : Answer). answered x plan) (same-admission (ltb work workSize))
+
+  -- all that a call gives
+  one-answer : OneAnswer f g
+  one-answer =
+      record {
+        admission = same-admission;
+        plan-answer = same-plan;
+        planning = λ work plan. ap (λ (x : Answer). planGives x work plan) (same-plan (length work) (length plan));
+        list-answer = same-list;
+        listing = λ work listing. ap (λ (x : Answer). listGives x work listing) (same-list (length work) (length listing));
+        verdict = same-verdict;
+        checking = λ plan work. ap (λ (v : Verdict). checkGives v work) (same-verdict plan (length work));
+        printing = λ work. ap (λ (x : Answer). printGives x work) (same-admission false);
+      }
+
+-- files alike, or alike as far as they are looked at
 pub same-answers : SameAnswers
 same-answers =
     record {
-      admission = admitted-alike;
-      planning = λ f g a work plan.
-          ap (λ (x : Answer). planGives x work plan)
-          (admitted-alike f g a (ltb (length work) workSize || ltb (length plan) planSize));
-      listing = λ f g a work listing.
-          ap (λ (x : Answer). listGives x work listing)
-          (admitted-alike f g a (ltb (length work) workSize || ltb (length listing) listingSize));
-      checking = λ f g a plan work. ap (λ (v : Verdict). checkGives v work) (checked-alike f g a plan (length work));
-      printing = λ f g a work. ap (λ (x : Answer). printGives x work) (admitted-alike f g a false);
+      alike = λ f g a. one-answer f g (a .long) (alike-says .read-alike f g a);
+      no-further = λ f g due same d a. one-answer f g same (alike-says .no-further f g due same d a);
     }

@@ -7,9 +7,10 @@ use mathlib.Core.Bool.{Bool, false}
 use mathlib.Core.List.{List}
 use Prim.Native.Nat.{ℕ}
 use lib.ListN.{length}
+use Rattle.lines.specs.Alike.{AlikeUpTo}
 use Rattle.jobfile.specs.File.{Answer}
 use Rattle.jobfile.specs.ListingLines.{printedFor}
-use Rattle.jobfile.specs.Alike.{Alike}
+use Rattle.jobfile.specs.Alike.{TurnedDue, Alike}
 use Rattle.admission.specs.Admission.{admitted, workAfter}
 use Rattle.checking.specs.declared.check.Verdict.{Verdict}
 use Rattle.checking.specs.Checking.{checked, workLeft, verdictNumber}
@@ -58,19 +59,26 @@ pub record PrintResult : Type 0 where
 abbrev pub printGives : Answer → List ℕ → PrintResult
 printGives a work = record { text = printedFor a; work = workAfter a work }
 
--- the statement: files alike, cut, damaged or sound, are admitted alike and get the same of every call
-pub record SameAnswers : Type 0 where
+-- two files get the same of every call. Each contract names its file in `admitted`, `planAnswer`, `listAnswer` or `checked` alone, so what is
+-- said of these is said of all that a call gives
+pub record OneAnswer (f g : List ℕ) : Type 0 where
   -- what every call begins with
-  pub admission : (f g : List ℕ) → Alike f g → (short : Bool) → admitted f short ≡ admitted g short
+  pub admission : (short : Bool) → admitted f short ≡ admitted g short
+  pub plan-answer : (work plan : ℕ) → planAnswer f work plan ≡ planAnswer g work plan
   pub planning
-      : (f g : List ℕ) → Alike f g → (work plan : List ℕ)
+      : (work plan : List ℕ)
       → planGives (planAnswer f (length work) (length plan)) work plan ≡ planGives (planAnswer g (length work) (length plan)) work plan
+  pub list-answer : (work listing : ℕ) → listAnswer f work listing ≡ listAnswer g work listing
   pub listing
-      : (f g : List ℕ) → Alike f g → (work listing : List ℕ)
+      : (work listing : List ℕ)
       → listGives (listAnswer f (length work) (length listing)) work listing
       ≡ listGives (listAnswer g (length work) (length listing)) work listing
-  pub checking
-      : (f g : List ℕ) → Alike f g → (plan work : List ℕ)
-      → checkGives (checked f plan (length work)) work ≡ checkGives (checked g plan (length work)) work
-  pub printing
-      : (f g : List ℕ) → Alike f g → (work : List ℕ) → printGives (admitted f false) work ≡ printGives (admitted g false) work
+  pub verdict : (plan : List ℕ) (work : ℕ) → checked f plan work ≡ checked g plan work
+  pub checking : (plan work : List ℕ) → checkGives (checked f plan (length work)) work ≡ checkGives (checked g plan (length work)) work
+  pub printing : (work : List ℕ) → printGives (admitted f false) work ≡ printGives (admitted g false) work
+
+-- the statement: so do files alike, cut, damaged or sound; and so do files of one length that are alike in the lines up to one that is turned
+-- back, whatever follows it
+pub record SameAnswers : Type 0 where
+  pub alike : (f g : List ℕ) → Alike f g → OneAnswer f g
+  pub no-further : (f g due : List ℕ) → length f ≡ length g → TurnedDue f due → AlikeUpTo due f g → OneAnswer f g

@@ -1,6 +1,6 @@
 // Reading a field: six columns with a decimal number, right-justified: spaces, then zeros, then its digits.
 ghost use mathlib.Core.Path.{_≡_};
-ghost use Prim.Native.Nat.{_+_, _-_, _%_, _<_, _≤_};
+ghost use Prim.Native.Nat.{_+_, _%_, _<_, _≤_};
 ghost use lib.ListN.{length, take, drop};
 ghost use lib.Seq.{slice};
 ghost use Rattle.lines.specs.Line.{digitsOf, fieldOf};

@@ -119,6 +119,8 @@ pub alike-says : AlikeSays
 alike-says =
     record {
       itself = λ f. let (due, lines) = file-due f in record { long = refl; due = due; lines = lines; over = over-same due f };
+      turned = λ f g due same d a. record { long = same; due = due; lines = some-due d; over = a };
+      too-long = λ f due l. any-due l;
       either-way = λ f g a.
           record {
             long = sym (a .long);

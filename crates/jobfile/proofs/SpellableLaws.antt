@@ -22,7 +22,7 @@ use Rattle.jobfile.proofs.SpelledRules.{rules-count, rules-table, final
 use Rattle.jobfile.proofs.SpelledNodes.{nodes-count, nodes-read, NodeFits, nodes-exact, nodes-fit, nodes-good}
 use Rattle.jobfile.proofs.SpelledEdges.{edgeNumbers, edges-read, edges-exact, edges-ascend, edges-below, edges-good}
 use Rattle.jobfile.proofs.SpelledFile.{head-good, head-exact, fileOf, jobHead, jobRules, jobNodes, jobEdges, written-form, allCounts, Parts, file-past, file-no-zeros, past-only, past-alike, past-length, file-length, length-limit}
-use Rattle.jobfile.proofs.RefusalLaws.{Whole, some-entry-says, past-edges, turned-says, accepted-says}
+use Rattle.jobfile.proofs.RefusalLaws.{some-entry-says, past-edges, turned-says, accepted-says}
 use Rattle.jobfile.proofs.AlikeLaws.{alike-says}
 use Rattle.jobfile.specs.FileTrials.{pairWithZeros}
 use Rattle.planning.specs.Trials.{pair}

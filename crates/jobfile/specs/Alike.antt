@@ -56,10 +56,13 @@ pub record WithoutZeros (file : List ℕ) : Type 0 where
   pub lines : LinesDue file due
   pub none : NoZerosOver due file
 
--- the statement: every file has its lines due, and is alike itself; files alike are so either way, and they are read alike. Of a file that is
--- turned back at a line, what follows that line is not looked at
+-- the statement: every file has its lines due, and is alike itself; files that are turned back are alike by the lines up to the one turned
+-- back, and too long ones by any lines; files alike are so either way, and they are read alike. Of a file that is turned back at a line,
+-- what follows that line is not looked at
 pub record AlikeSays : Type 0 where
   pub itself : (f : List ℕ) → Alike f f
+  pub turned : (f g due : List ℕ) → length f ≡ length g → TurnedDue f due → AlikeOver due f g → Alike f g
+  pub too-long : (f due : List ℕ) → maxFile < length f → TurnedDue f due
   pub either-way : (f g : List ℕ) → Alike f g → Alike g f
   pub read-alike : (f g : List ℕ) → Alike f g → readJob f ≡ readJob g
   pub no-further : (f g due : List ℕ) → length f ≡ length g → TurnedDue f due → AlikeUpTo due f g → readJob f ≡ readJob g

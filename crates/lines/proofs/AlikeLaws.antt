@@ -9,9 +9,9 @@ use native.Mathlib.Nat.{zero-add, suc-mul, zero-mul}
 use native.Mathlib.Omega.{arith}
 use lib.ListN.{length, take, drop, replicate, length-drop}
 use Rattle.lines.specs.Line.{line, writeLines, at, lineLength}
-use Rattle.lines.specs.Lines.{LineKind, Lines, lines, refused, linesOf}
+use Rattle.lines.specs.Lines.{LineKind, lines, linesOf}
 use Rattle.lines.specs.Written.{Holds, columnsOf, LineAt, Stand, GoodLines, good-none, good-more, LinesAt, BadLine, ended, malformed, outside, FirstBad}
-use Rattle.lines.specs.Alike.{AlikeColumns, equal, one-number, AlikeLine, AlikeThen, Equal, AlikeOver, AlikeUpTo, NoZerosOver, KindDue, all-good, one-bad, LinesSayAlike}
+use Rattle.lines.specs.Alike.{AlikeColumns, equal, one-number, AlikeLine, AlikeThen, Equal, AlikeOver, Anything, AlikeUpTo, NoZerosOver, LinesSayAlike}
 use Rattle.lines.proofs.SpelledField.{holds-one}
 use Rattle.lines.proofs.SpelledLine.{line-long, line-only, written-no-zeros}
 use Rattle.lines.proofs.SpelledLines.{write-cons, written-past, lines-says, refused-says}
@@ -139,23 +139,20 @@ module _ (k : LineKind) where
 
   -- ---- as they are read
 
-  -- good lines, or the first that is turned back
-  due-read
-      : (c i : ℕ) (before f g due : List ℕ) → KindDue k c i before f due → AlikeOver due f g
-      → linesOf k c i before f ≡ linesOf k c i before g
-  due-read c i before f g due (all-good {ls} {rest} l) a =
+  -- good lines
+  good-read
+      : (c i : ℕ) (before f g : List ℕ) (ls : List (List ℕ)) (rest : List ℕ) → LinesAt k c i before f ls rest
+      → AlikeOver (counts k ls []) f g → linesOf k c i before f ≡ linesOf k c i before g
+  good-read c i before f g ls rest l a =
       let (other, m, same) = lines-alike Equal k [] l a in
       lines-says k c i before f ls rest .1 l ∙ ap (lines ls) same ∙ sym (lines-says k c i before g ls other .1 m)
-  due-read c i before f g due (one-bad {r} b) a =
-      refused-says k c i before f r .1 b ∙ sym (refused-says k c i before g r .1 (first-bad-alike Equal k b a .0))
 
-  -- any bytes have their lines due
-  kind-due : (c i : ℕ) (before f : List ℕ) → (due : List ℕ) × KindDue k c i before f due
-  kind-due c i before f = go (linesOf k c i before f) refl
-    where
-      go : (x : Lines) → linesOf k c i before f ≡ x → (due : List ℕ) × KindDue k c i before f due
-      go (lines ls rest) e = (_, all-good (lines-says k c i before f ls rest .0 e))
-      go (refused r) e = (_, one-bad (refused-says k c i before f r .0 e))
+  -- the first that is turned back
+  bad-read
+      : (c i : ℕ) (before f g : List ℕ) (r : ℕ) (b : FirstBad k c i before f r) → AlikeUpTo (counts k (b .passed) (k .count ∷ [])) f g
+      → linesOf k c i before f ≡ linesOf k c i before g
+  bad-read c i before f g r b a =
+      refused-says k c i before f r .1 b ∙ sym (refused-says k c i before g r .1 (first-bad-alike Anything k b a .0))
 
   -- ---- without zeros
 
@@ -187,4 +184,4 @@ module _ (k : LineKind) where
 
 -- lines of a kind alike are read alike
 pub lines-say-alike : LinesSayAlike
-lines-say-alike = record { some-due = kind-due; read-alike = due-read }
+lines-say-alike = record { columns = λ l m n h k. one-number h k; good = good-read; bad = bad-read }

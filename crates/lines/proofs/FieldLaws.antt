@@ -23,7 +23,7 @@ slice-part (suc f) n [] = rw (suc-add f n) (sym (take-nil n))
 slice-part (suc f) n (x ∷ xs) = rw (suc-add f n) (slice-part f n xs)
 
 -- the first column and the others, after the code's step
-pub slice-step
+slice-step
     : (i end : ℕ) (l : List ℕ) → i < end → end ≤ length l → slice i end l ≡ getD l i 0 ∷ slice (i + 1) end l
 slice-step i end l h k = rw (add-one i) (slice-cons i end l 0 h k)
 

@@ -324,7 +324,7 @@ holds-field l n h none = go (h .zeros) (h .spelled)
 pub field-says : FieldSays
 field-says =
     record {
-      holds = λ l n six. (field-exact l n six, holds-read l n);
+      holds = λ l n. (λ s. field-exact l n (s .0) (s .1), λ h. (h .columns, holds-read l n h));
       written = λ n h. (field-holds n h, field-no-zeros n h);
       only = holds-field;
     }

@@ -18,7 +18,7 @@ use Rattle.lines.proofs.SpelledLine.{line-length, line-drop, line-fits,
 
 module _ (letter k : ℕ) (bytes : List ℕ) where
   -- where bytes are left and no line stands, none is found
-  pub no-line-of : bytes ≢ [] → ((ns : List ℕ) → LineAt letter k bytes ns → ⊥) → lineOf letter k bytes ≡ no-line
+  no-line-of : bytes ≢ [] → ((ns : List ℕ) → LineAt letter k bytes ns → ⊥) → lineOf letter k bytes ≡ no-line
   no-line-of some none = go (lineOf letter k bytes) refl
     where
       go : (d : Due) → lineOf letter k bytes ≡ d → d ≡ no-line
@@ -27,7 +27,7 @@ module _ (letter k : ℕ) (bytes : List ℕ) where
       go (found ns) e = absurd (none ns (found-line letter k bytes ns e))
 
   -- where none is found, no line stands
-  pub no-line-says : lineOf letter k bytes ≡ no-line → (bytes ≢ []) × ((ns : List ℕ) → LineAt letter k bytes ns → ⊥)
+  no-line-says : lineOf letter k bytes ≡ no-line → (bytes ≢ []) × ((ns : List ℕ) → LineAt letter k bytes ns → ⊥)
   no-line-says e = (
     λ n. let z : _≡_ {A = ℕ} 0 1 = cc (ends-says letter k bytes .1 n) in omega arith,
     λ ns l. let z : _≡_ {A = ℕ} 0 1 = cc (line-found letter k bytes ns l) in omega arith,

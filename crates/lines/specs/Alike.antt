@@ -25,17 +25,19 @@ abbrev pub AlikeThen : (List ℕ → List ℕ → Type 0) → List ℕ → List 
 AlikeThen Past [] f g = Past f g
 AlikeThen Past (k ∷ ks) f g = AlikeLine k f g × AlikeThen Past ks (drop (lineLength k) f) (drop (lineLength k) g)
 
--- equal bytes past them
+-- equal bytes
 abbrev pub Equal : List ℕ → List ℕ → Type 0
 Equal f g = f ≡ g
 
+-- alike lines, and equal bytes past them
 abbrev pub AlikeOver : List ℕ → List ℕ → List ℕ → Type 0
 AlikeOver = AlikeThen Equal
 
--- any bytes past them
+-- any bytes
 abbrev pub Anything : List ℕ → List ℕ → Type 0
 Anything f g = Unit
 
+-- alike lines, whatever is past them
 abbrev pub AlikeUpTo : List ℕ → List ℕ → List ℕ → Type 0
 AlikeUpTo = AlikeThen Anything
 
@@ -45,18 +47,13 @@ NoZerosOver [] f = Unit
 NoZerosOver (k ∷ ks) f =
     ((i n : ℕ) → i < k → Holds (columnsOf i f) n → NoZeros (columnsOf i f)) × NoZerosOver ks (drop (lineLength k) f)
 
--- of c lines of a kind due from the start of the bytes, those up to the one that is turned back, by how many fields each has
-pub data KindDue (k : LineKind) (c i : ℕ) (before bytes : List ℕ) : List ℕ → Type 0 where
-  all-good
-      : {ls : List (List ℕ)} {rest : List ℕ} → LinesAt k c i before bytes ls rest
-      → KindDue k c i before bytes (replicate (length ls) (k .count) ++ [])
-  one-bad
-      : {r : ℕ} (b : FirstBad k c i before bytes r)
-      → KindDue k c i before bytes (replicate (length (b .passed)) (k .count) ++ (k .count ∷ []))
-
--- the statement: lines of a kind that are alike are read alike, with the same bytes after them
+-- the statement: columns with one number are alike. Lines of a kind that are alike are read alike: good ones with the same bytes after them;
+-- where one is turned back, whatever follows it
 pub record LinesSayAlike : Type 0 where
-  pub some-due : (k : LineKind) (c i : ℕ) (before f : List ℕ) → (due : List ℕ) × KindDue k c i before f due
-  pub read-alike
-      : (k : LineKind) (c i : ℕ) (before f g due : List ℕ) → KindDue k c i before f due → AlikeOver due f g
-      → linesOf k c i before f ≡ linesOf k c i before g
+  pub columns : (l m : List ℕ) (n : ℕ) → Holds l n → Holds m n → AlikeColumns l m
+  pub good
+      : (k : LineKind) (c i : ℕ) (before f g : List ℕ) (ls : List (List ℕ)) (rest : List ℕ) → LinesAt k c i before f ls rest
+      → AlikeOver (replicate (length ls) (k .count) ++ []) f g → linesOf k c i before f ≡ linesOf k c i before g
+  pub bad
+      : (k : LineKind) (c i : ℕ) (before f g : List ℕ) (r : ℕ) (b : FirstBad k c i before f r)
+      → AlikeUpTo (replicate (length (b .passed)) (k .count) ++ (k .count ∷ [])) f g → linesOf k c i before f ≡ linesOf k c i before g

@@ -84,10 +84,10 @@ NoZeros l = (m b : ℕ) (bs : List ℕ) → l ≡ replicate m 32 ++ (48 ∷ b �
 
 -- ---- what reading says of them
 
--- the statement: six columns are read as a number if and only if they hold it; the field written of a number has no zeros before its
--- digits, and of all columns that hold the number it is the only one
+-- the statement: columns hold a number if and only if they are six and are read as it; the field written of a number has no zeros before its
+-- digits, and of all columns that hold the number it is the only one without zeros
 pub record FieldSays : Type 0 where
-  pub holds : (l : List ℕ) (n : ℕ) → length l ≡ 6 → (fieldOf l ≡ Number n) ↔ Holds l n
+  pub holds : (l : List ℕ) (n : ℕ) → ((length l ≡ 6) × (fieldOf l ≡ Number n)) ↔ Holds l n
   pub written : (n : ℕ) → n < 1000000 → Holds (field n) n × NoZeros (field n)
   pub only : (l : List ℕ) (n : ℕ) → Holds l n → NoZeros l → l ≡ field n
 
