@@ -38,6 +38,7 @@ pub record ListResult : Type 0 where
   pub work : List ℕ
   pub listing : List ℕ
 
+-- for an answer
 abbrev pub listGives : Answer → List ℕ → List ℕ → ListResult
 listGives a work listing =
     record { length = listedOf a; number = listNumber (listedOf a); work = workAfter a work; listing = listingAfter a listing }
@@ -48,6 +49,7 @@ pub record CheckResult : Type 0 where
   pub number : ℕ
   pub work : List ℕ
 
+-- for a verdict
 abbrev pub checkGives : Verdict → List ℕ → CheckResult
 checkGives v work = record { verdict = v; number = verdictNumber v; work = workLeft v work }
 
@@ -56,6 +58,7 @@ pub record PrintResult : Type 0 where
   pub text : List ℕ
   pub work : List ℕ
 
+-- for an answer
 abbrev pub printGives : Answer → List ℕ → PrintResult
 printGives a work = record { text = printedFor a; work = workAfter a work }
 

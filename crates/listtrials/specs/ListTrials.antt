@@ -60,24 +60,23 @@ loopLines =
     ∷ "F     1     0"
     ∷ []
 
+-- PAIR's listing
+abbrev pub pairListing : List String
+pairListing =
+    "W     0     0     1     1     1     0"
+    ∷ "W     1     0     2     2     1     1"
+    ∷ "W     2     2     2     1     0     1"
+    ∷ "T     3     2     2"
+    ∷ []
+
 -- the table
 unfoldable pub callTrials : List CallTrial
 unfolding pairFile pairWithZeros writeJob
 callTrials =
     -- PAIR
-    lists pairFile (Length 134)
-    ("W     0     0     1     1     1     0"
-    ∷ "W     1     0     2     2     1     1"
-    ∷ "W     2     2     2     1     0     1"
-    ∷ "T     3     2     2"
-    ∷ [])
+    lists pairFile (Length 134) pairListing
     -- PAIR with zeros before its numbers' digits: the same
-    ∷ lists pairWithZeros (Length 134)
-    ("W     0     0     1     1     1     0"
-    ∷ "W     1     0     2     2     1     1"
-    ∷ "W     2     2     2     1     0     1"
-    ∷ "T     3     2     2"
-    ∷ [])
+    ∷ lists pairWithZeros (Length 134) pairListing
     -- LOOP
     ∷ lists (linesIn loopLines) (Length 96)
     ("W     0     0     5     2     1     0" ∷ "W     1     1     6     2     1     0" ∷ "T     2     0     3" ∷ [])
