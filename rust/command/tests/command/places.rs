@@ -16,7 +16,9 @@ fn columns(fault: Fault, letters: &[u8], fields: usize) -> Option<String> {
         }
         Fault::Form(_, Form::Field) => Some(field(fields - 1)),
         Fault::Form(_, Form::Column | Form::ZeroBeforeSpace) => Some(field(0)),
-        Fault::Form(_, Form::EndByte) => Some(format!("column {}", 6 * fields + 2)),
+        Fault::Form(_, Form::EndByte | Form::SeventhDigit) => {
+            Some(format!("column {}", 6 * fields + 2))
+        }
         Fault::Number(line, ..) if letters[line] == b'F' => None,
         Fault::Number(_, number, _) => Some(field(number)),
         Fault::NoEntry => None,
