@@ -33,21 +33,31 @@ impl Fault {
         if line[0] != letter as u8 {
             return wrong(1, 1, format!("the letter {letter}"));
         }
+        let (columns_due, columns) = (1 + 6 * fields, line_len(line));
+        let mut whole =
+            format!("{letter} and {fields} fields of six columns, {columns_due} columns in all");
+        if columns != columns_due {
+            whole += &format!("; this line has {columns}");
+        }
         for (field, name) in names.iter().enumerate() {
             let first = 1 + 6 * field;
-            let columns = line.get(first..first + 6);
-            if columns.and_then(reading::number).is_none() {
-                let expected = format!(
+            let number = line.get(first..first + 6).and_then(reading::number);
+            if number.is_none() {
+                let mut expected = format!(
                     "{name}: a number in six columns, right-justified, with spaces or zeros before it and no space after a digit"
                 );
+                // a column too many or too few shifts the fields after it
+                if columns != columns_due {
+                    expected += &format!(", in a line of {whole}");
+                }
                 return wrong(first + 1, first + 6, expected);
             }
         }
-        let end = 1 + 6 * fields;
+        let end = columns_due + 1;
         wrong(
-            end + 1,
-            end + 1,
-            "the end of the line (byte 10)".to_string(),
+            end,
+            end,
+            format!("the end of the line (byte 10) after {whole}"),
         )
     }
 
@@ -60,6 +70,12 @@ impl Fault {
             expected,
         }
     }
+}
+
+/// How many columns the first line of these bytes has.
+fn line_len(bytes: &[u8]) -> usize {
+    let end = bytes.iter().position(|&byte| byte == b'\n');
+    end.unwrap_or(bytes.len())
 }
 
 /// What stands in so many bytes, for a message; it ends with the line or the file.

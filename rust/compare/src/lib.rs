@@ -4,6 +4,7 @@ pub mod checking;
 pub mod guarded;
 pub mod library;
 pub mod memory;
+pub mod on_file;
 pub mod promise;
 pub mod records;
 pub mod serving;

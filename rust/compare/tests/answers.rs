@@ -9,9 +9,9 @@ mod jobs;
 mod stored;
 
 use dapohiru::numbers::{self, ACCEPTED};
-use dapohiru_generators::damage::{damage, misnumbered};
+use dapohiru_generators::damage::damaged_without_zeros;
 use dapohiru_generators::events::Call;
-use dapohiru_generators::faults::{faulty, possible, Fault, Form, NUMBERS};
+use dapohiru_generators::faults::{possible, refused_with_forms, Form, NUMBERS};
 use dapohiru_generators::large::{self, Order};
 use dapohiru_generators::mixed;
 use dapohiru_generators::random::Random;
@@ -101,20 +101,10 @@ fn job(random: &mut Random, number: u64) -> Job {
 fn damaged_file(random: &mut Random, number: u64) -> Vec<u8> {
     let job = small::job(random);
     if number.is_multiple_of(2) {
-        let mut file = misnumbered(random, &job);
-        if random.once_in(3) {
-            damage(random, &mut file);
-        }
-        return file;
+        return damaged_without_zeros(random, &job);
     }
     let refusal = possible(&job, NUMBERS[number as usize % 8]);
-    let lines = job.lines();
-    let mut faults = Fault::all(&job);
-    faults.retain(|fault| {
-        let of_zeros = matches!(fault, Fault::Form(_, Form::ZeroBeforeSpace));
-        fault.place(&lines).1 == refusal && !of_zeros
-    });
-    faulty(&lines, &[random.pick(&faults)])
+    refused_with_forms(random, &job, refusal, &Form::WITHOUT_ZEROS)
 }
 
 /// The answers to a thousand events, as a hash of their numbers and records.

@@ -1,11 +1,15 @@
 //! A file with zeros before its numbers and the same file without: every call on a file returns the same
 //! number for both and leaves the same bytes.
 use dapohiru::numbers::ACCEPTED;
+use dapohiru_compare::checking;
 use dapohiru_compare::library::{Library, CALLS};
 use dapohiru_compare::memory::{start_of, Counts, MOST_WORK};
+use dapohiru_compare::serving;
 use dapohiru_compare::wrapper::WRAPPER;
 use dapohiru_generators::damage::Damaged;
-use dapohiru_generators::faults::{lengthen, possible, refused, short_work, NUMBERS};
+use dapohiru_generators::faults::{
+    faulty, lengthen, possible, refused, short_work, Fault, NUMBERS,
+};
 use dapohiru_generators::mixed;
 use dapohiru_generators::random::Random;
 use dapohiru_generators::samples::{in_loop, one_seal, pair, turn};
@@ -96,6 +100,15 @@ fn alike(random: &mut Random, file: &[u8]) -> Vec<Vec<u8>> {
     ]
 }
 
+/// The refusal that a call returns; 0 for a number of an accepted call.
+fn refusal(number: u64) -> u64 {
+    if number < ACCEPTED {
+        number
+    } else {
+        0
+    }
+}
+
 /// Calls of which the files are alike, with counts of the answers of each call; accepted ones are 0.
 struct Calls {
     random: Random,
@@ -122,7 +135,7 @@ impl Calls {
         let numbers = lent.are_left_alike(CALLS, &files);
         assert_eq!(numbers, lent.are_left_alike(WRAPPER, &files));
         for (counts, number) in self.counts.iter_mut().zip(numbers) {
-            counts.add(if number < ACCEPTED { number } else { 0 });
+            counts.add(refusal(number));
         }
         self.zeros += files.iter().filter(|other| **other != files[0]).count() as u64;
     }
@@ -218,6 +231,8 @@ fn zeros_change_no_refusal_and_no_byte_after_it() {
         counts.came(1..=10);
     }
     calls.counts[2].came(11..=12);
+    // twelve calls of each job, on three files beside the one with spaces
+    assert!(calls.zeros > 2 * 12 * JOBS as u64);
 }
 
 #[test]
@@ -233,6 +248,7 @@ fn zeros_change_no_answer_to_a_damaged_file() {
     for counts in &calls.counts {
         counts.came([0, 4, 5, 6, 7, 8]);
     }
+    assert!(calls.zeros > 2 * FILES as u64);
 }
 
 #[test]
@@ -271,14 +287,51 @@ fn zero_before_a_space_is_refused_as_4_in_every_field() {
     assert_eq!((alike, refused), (41 * 6, 41 * 26));
 }
 
+/// The file with a zero for every space.
+fn without_spaces(file: &[u8]) -> Vec<u8> {
+    let zero = |&byte: &u8| if byte == b' ' { b'0' } else { byte };
+    file.iter().map(zero).collect()
+}
+
+/// For each field of PAIR its line's letter, and what stands before its number in this file, which is PAIR
+/// with any zeros.
+fn leads(file: &[u8]) -> Vec<(char, &'static str)> {
+    let lines = file.split_inclusive(|&byte| byte == b'\n');
+    let fields = lines.flat_map(|line| line[1..].chunks_exact(6).map(|field| (line[0], field)));
+    let kind = |field: &[u8]| match &field[..5] {
+        b"     " => "spaces",
+        b"00000" => "zeros",
+        _ => "spaces, then zeros",
+    };
+    fields
+        .map(|(letter, field)| (letter.into(), kind(field)))
+        .collect()
+}
+
+#[test]
+fn zeros_stand_for_all_spaces_of_a_file_whatever_its_numbers() {
+    let mut files = vec![pair().file()];
+    for fault in Fault::all(&pair()) {
+        if let Fault::Number(..) | Fault::NoEntry | Fault::Ends(_) = fault {
+            files.push(faulty(&pair().lines(), &[fault]));
+        }
+    }
+    println!("{} files", files.len());
+    for file in files {
+        assert_eq!(zero_filled(file.clone()), without_spaces(&file));
+        assert_eq!(spaced(without_spaces(&file)), file);
+    }
+}
+
 #[test]
 fn zeros_of_the_generators_are_in_no_field_in_all_or_in_some() {
     let mut random = Random::of_this_run();
     let file = pair().file();
-    let mut counts = Counts::default();
+    let (mut counts, mut kinds) = (Counts::default(), Counts::default());
     for _ in 0..1_000 {
         let other = filled(&mut random, file.clone());
         assert_eq!(spaced(other.clone()), file);
+        leads(&other).into_iter().for_each(|lead| kinds.add(lead));
         counts.add(match other {
             _ if other == file => "none",
             _ if other == zero_filled(file.clone()) => "all",
@@ -291,6 +344,54 @@ fn zeros_of_the_generators_are_in_no_field_in_all_or_in_some() {
     counts.print("zeros in fields");
     for kind in ["none", "all", "some"] {
         assert!(counts.of(kind) > 100, "{kind}");
+    }
+    kinds.print("before numbers");
+    for letter in ['J', 'R', 'P', 'F'] {
+        for kind in ["spaces", "zeros", "spaces, then zeros"] {
+            assert!(kinds.of((letter, kind)) > 100, "{letter}: {kind}");
+        }
+    }
+}
+
+/// How many files there are, and how many of them have zeros before numbers.
+fn zeros_in(files: impl IntoIterator<Item = Vec<u8>>) -> [usize; 2] {
+    let files = files.into_iter();
+    let zeros = files.map(|file| usize::from(spaced(file.clone()) != file));
+    zeros.fold([0, 0], |[all, those], zeros| [all + 1, those + zeros])
+}
+
+#[test]
+fn most_files_of_every_generator_have_zeros() {
+    let mut random = Random::of_this_run();
+    let jobs: Vec<_> = (0..400).map(|_| small::job(&mut random)).collect();
+    let mut served: Vec<_> = jobs
+        .iter()
+        .flat_map(|job| serving::cases(&mut random, job))
+        .collect();
+    let mut checked: Vec<_> = jobs
+        .iter()
+        .flat_map(|job| checking::cases(&mut random, job))
+        .collect();
+    // of the others `refused` makes the files
+    served.retain(|case| case.unread.is_none());
+    checked.retain(|case| case.unread.is_none());
+    let refusals = NUMBERS.map(|number| {
+        let files = jobs
+            .iter()
+            .map(|job| refused(&mut random, job, possible(job, number)));
+        (format!("refused {number}"), zeros_in(files))
+    });
+    let damaged = (0..1_000).map(|_| Damaged::random(&mut random).file);
+    let damaged = ("damaged".to_string(), zeros_in(damaged));
+    let served = zeros_in(served.into_iter().map(|case| case.file));
+    let checked = zeros_in(checked.into_iter().map(|case| case.file));
+    let calls = [
+        ("served".to_string(), served),
+        ("checked".to_string(), checked),
+    ];
+    for (what, [files, zeros]) in calls.into_iter().chain(refusals).chain([damaged]) {
+        println!("{what}: {files} files, {zeros} with zeros");
+        assert!(files >= 400 && 2 * zeros > files, "{what}");
     }
 }
 
@@ -318,9 +419,8 @@ fn files_that_are_alike_and_cut_at_the_same_byte_get_the_same_answer() {
             };
             for &library in libraries {
                 let numbers = lent.are_left_alike(library, &cuts);
-                let answers = numbers.map(|number| if number < ACCEPTED { number } else { 0 });
                 assert_eq!(
-                    answers,
+                    numbers.map(refusal),
                     [wanted; 3],
                     "cut at {cut}: {}",
                     start_of(&files[0])

@@ -7,7 +7,7 @@ use dapohiru_second::job::{spell, Job};
 use dapohiru_second::reading;
 
 /// The file of a job in which some line has another number in some field.
-pub fn misnumbered(random: &mut Random, job: &Job) -> Vec<u8> {
+fn misnumbered(random: &mut Random, job: &Job) -> Vec<u8> {
     let mut lines = job.lines();
     let line = random.place(lines.len());
     let field = random.place(lines[line].numbers.len());
@@ -34,18 +34,37 @@ pub fn damage(random: &mut Random, file: &mut Vec<u8>) {
     }
 }
 
-/// The file of a job with another number in some field and with any zeros, now and then with a zero before
-/// a space or with other bytes too.
-pub fn damaged(random: &mut Random, job: &Job) -> Vec<u8> {
+/// The file of a job with another number in some field, changed in this way, and now and then with other
+/// bytes too.
+fn damaged_and(
+    random: &mut Random,
+    job: &Job,
+    change: impl FnOnce(&mut Random, Vec<u8>) -> Vec<u8>,
+) -> Vec<u8> {
     let file = misnumbered(random, job);
-    let mut file = filled(random, file);
-    if random.once_in(12) {
-        spoil(random, &mut file);
-    }
+    let mut file = change(random, file);
     if random.once_in(3) {
         damage(random, &mut file);
     }
     file
+}
+
+/// The file of a job with another number in some field, without zeros before its numbers, and now and then
+/// with other bytes too.
+pub fn damaged_without_zeros(random: &mut Random, job: &Job) -> Vec<u8> {
+    damaged_and(random, job, |_, file| file)
+}
+
+/// The file of a job with another number in some field and with any zeros, now and then with a zero before
+/// a space or with other bytes too.
+pub fn damaged(random: &mut Random, job: &Job) -> Vec<u8> {
+    damaged_and(random, job, |random, file| {
+        let mut file = filled(random, file);
+        if random.once_in(12) {
+            spoil(random, &mut file);
+        }
+        file
+    })
 }
 
 /// A damaged file of a small job, and what the second reader says of it.

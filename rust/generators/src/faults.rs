@@ -51,28 +51,40 @@ pub enum Form {
     EndByte,
     /// Its first field has a zero before a space.
     ZeroBeforeSpace,
+    /// Its last field has seven digits, zeros before the number's own.
+    SeventhDigit,
 }
 
 impl Form {
-    const ALL: [Form; 5] = [
+    /// Those that no zero before a number's digits has a part in.
+    pub const WITHOUT_ZEROS: [Form; 4] = [Form::Letter, Form::Field, Form::Column, Form::EndByte];
+
+    /// All of them.
+    pub const ALL: [Form; 6] = [
         Form::Letter,
         Form::Field,
         Form::Column,
         Form::EndByte,
         Form::ZeroBeforeSpace,
+        Form::SeventhDigit,
     ];
 }
 
 impl Fault {
     /// Every fault that these lines can have, some in more than one way.
     pub fn all(job: &Job) -> Vec<Fault> {
+        Fault::with_forms(job, &Form::ALL)
+    }
+
+    /// As [`Fault::all`], with these faults in the form of a line.
+    fn with_forms(job: &Job, forms: &[Form]) -> Vec<Fault> {
         let lines = job.lines();
         let (states, nodes) = (job.next.len(), job.nodes.len());
         let mut faults = vec![Fault::NoEntry];
         faults.extend([&b"\n"[..], b"0", b"F     0     0\n"].map(Fault::Follow));
         faults.extend((0..lines.len()).map(Fault::Ends));
         for (number, line) in lines.iter().enumerate() {
-            faults.extend(Form::ALL.map(|form| Fault::Form(number, form)));
+            faults.extend(forms.iter().map(|&form| Fault::Form(number, form)));
             let mut numbers = match line.letter {
                 b'J' => vec![
                     (0, 0),
@@ -169,6 +181,7 @@ pub fn faulty(lines: &[Line], faults: &[Fault]) -> Vec<u8> {
     let mut spelled: Vec<_> = lines.iter().map(|line| spell(from_ref(line))).collect();
     for fault in faults {
         if let Fault::Form(line, form) = *fault {
+            let number = lines[line].numbers.last();
             let line = &mut spelled[line];
             let last = line.len() - 1;
             match form {
@@ -177,6 +190,10 @@ pub fn faulty(lines: &[Line], faults: &[Fault]) -> Vec<u8> {
                 Form::Column => drop(line.remove(1)),
                 Form::EndByte => line[last] = b'\r',
                 Form::ZeroBeforeSpace => line[1..3].copy_from_slice(b"0 "),
+                Form::SeventhDigit => {
+                    let digits = format!("{:07}", number.expect("a line has fields"));
+                    line.splice(last - 6..last, digits.bytes());
+                }
             }
         }
     }
@@ -184,12 +201,18 @@ pub fn faulty(lines: &[Line], faults: &[Fault]) -> Vec<u8> {
     [&spelled.concat()[..], follow].concat()
 }
 
+/// A file like the job's with one fault, which deserves this refusal; in the form of a line it is one of
+/// these. 8 asks for a job with an edge.
+pub fn refused_with_forms(random: &mut Random, job: &Job, number: u64, forms: &[Form]) -> Vec<u8> {
+    let lines = job.lines();
+    let mut faults = Fault::with_forms(job, forms);
+    faults.retain(|fault| fault.place(&lines).1 == number);
+    faulty(&lines, &[random.pick(&faults)])
+}
+
 /// A file like the job's with any zeros and one fault, which deserves this refusal; 8 asks for a job with an
 /// edge.
 pub fn refused(random: &mut Random, job: &Job, number: u64) -> Vec<u8> {
-    let lines = job.lines();
-    let mut faults = Fault::all(job);
-    faults.retain(|fault| fault.place(&lines).1 == number);
-    let file = faulty(&lines, &[random.pick(&faults)]);
+    let file = refused_with_forms(random, job, number, &Form::ALL);
     filled(random, file)
 }

@@ -4,6 +4,7 @@ use crate::tally::Tally;
 use dapohiru::numbers::ACCEPTED;
 use dapohiru_compare::checking;
 use dapohiru_compare::library::GUARDED;
+use dapohiru_compare::on_file::OnFile;
 use dapohiru_compare::promise;
 use dapohiru_compare::serving;
 use dapohiru_compare::step::compare;

@@ -112,7 +112,8 @@ fn refused_job_comes_before_the_plan() {
         wrong,
         format!(
             "dapohiru: {job}: refused 4: the line due has not its letter, its fields or its end byte\n  \
-             line 9, column 14: found the end of the file\n  expected: the end of the line (byte 10)\n"
+             line 9, column 14: found the end of the file\n  expected: the end of the line (byte 10) \
+             after F and 2 fields of six columns, 13 columns in all\n"
         )
     );
 }

@@ -1,10 +1,10 @@
 //! Random calls: small jobs with all kinds of plans, and calls with faults.
 use super::memory::{Memory, Seen};
 use crate::memory::{start_of, MOST_WORK};
+use crate::on_file::OnFile;
 use dapohiru_generators::faults::{lengthen, possible, refused, short_work, NUMBERS};
 use dapohiru_generators::random::Random;
 use dapohiru_generators::small;
-use dapohiru_generators::zeros::filled;
 use dapohiru_second::checking::{check, Call, Outcome};
 use dapohiru_second::job::{Job, EVENT};
 use dapohiru_second::reading::WORK;
@@ -22,6 +22,12 @@ pub struct Case {
     pub work_len: usize,
 }
 
+impl OnFile for Case {
+    fn file(&mut self) -> &mut Vec<u8> {
+        &mut self.file
+    }
+}
+
 impl Case {
     /// A job and a plan, with a work buffer that is just long enough.
     pub fn of(job: &Job, plan: Vec<u8>) -> Self {
@@ -32,12 +38,6 @@ impl Case {
             plan,
             work_len: WORK,
         }
-    }
-
-    /// Puts any zeros before the numbers of the file.
-    pub fn with_zeros(mut self, random: &mut Random) -> Self {
-        self.file = filled(random, self.file);
-        self
     }
 
     /// Replaces the file by one that deserves this refusal.

@@ -1,10 +1,10 @@
 //! Random calls of planning and listing: jobs with buffers that are long enough, and calls with faults.
 use super::memory::{Memory, Said, Seen, MOST_LENT};
 use crate::memory::{start_of, MOST_WORK};
+use crate::on_file::OnFile;
 use dapohiru_generators::damage::Damaged;
 use dapohiru_generators::faults::{lengthen, possible, refused, short_work, NUMBERS};
 use dapohiru_generators::random::Random;
-use dapohiru_generators::zeros::filled;
 use dapohiru_second::job::Job;
 use dapohiru_second::reading::WORK;
 use dapohiru_second::serving::{serve, Call, Given, Service};
@@ -19,6 +19,12 @@ pub struct Case {
     pub unread: Option<u64>,
     pub work_len: usize,
     pub lent_len: usize,
+}
+
+impl OnFile for Case {
+    fn file(&mut self) -> &mut Vec<u8> {
+        &mut self.file
+    }
 }
 
 impl Case {
@@ -40,12 +46,6 @@ impl Case {
             unread: damaged.unread,
             ..Case::of(service, &damaged.job)
         }
-    }
-
-    /// Puts any zeros before the numbers of the file.
-    pub fn with_zeros(mut self, random: &mut Random) -> Self {
-        self.file = filled(random, self.file);
-        self
     }
 
     /// Gives the call the fault that this refusal names; 8 asks for a job with an edge. A fault of the

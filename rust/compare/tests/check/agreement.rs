@@ -1,6 +1,7 @@
 //! The library and the second implementation on the same calls.
 use dapohiru_compare::checking::{cases, Case, Memory, Said};
 use dapohiru_compare::memory::Counts;
+use dapohiru_compare::on_file::OnFile;
 use dapohiru_compare::wrapper::WRAPPER;
 use dapohiru_generators::features::{FeatureCounts, Features};
 use dapohiru_generators::mixed;

@@ -1,6 +1,7 @@
 //! Every refusal, alone and beside another fault.
 use dapohiru_compare::checking::{Case, Memory, Said};
 use dapohiru_compare::memory::Counts;
+use dapohiru_compare::on_file::OnFile;
 use dapohiru_compare::wrapper::WRAPPER;
 use dapohiru_generators::faults::NUMBERS;
 use dapohiru_generators::random::Random;

@@ -84,16 +84,24 @@ pub fn words(case: &Case) -> String {
 
 /// Compares all of these files, each as it is and with any zeros, and says and gives the counts.
 pub fn compare_all(what: &str, files: impl IntoIterator<Item = Vec<u8>>) -> Counts<Option<u64>> {
-    let mut random = Random(random::seed());
+    let mut random = Random::of_this_run();
     let mut memory = Memory::new();
     let mut counts = Counts::default();
     for (number, file) in files.into_iter().enumerate() {
         let with_zeros = filled(&mut random, file.clone());
-        let answers = [file, with_zeros].map(|file| {
+        let files = [file, with_zeros];
+        let answers = files.each_ref().map(|file| {
             let name = format_args!("{what}, file {number}");
-            counts.agree(name, memory.compare(&Case::of(file)), |&refused| refused)
+            let compared = memory.compare(&Case::of(file.clone()));
+            counts.agree(name, compared, |&refused| refused)
         });
-        assert_eq!(answers[0], answers[1], "{what}, file {number} with zeros");
+        assert_eq!(
+            answers[0],
+            answers[1],
+            "{what}, file {number}, without zeros and with:\n{}\nand\n{}",
+            start_of(&files[0]),
+            start_of(&files[1])
+        );
     }
     counts.print(what);
     counts

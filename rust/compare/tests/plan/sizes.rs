@@ -1,5 +1,6 @@
 //! The library and the second implementation on jobs of many nodes.
 use crate::agreement::Calls;
+use dapohiru_compare::on_file::OnFile;
 use dapohiru_compare::serving::Case;
 use dapohiru_generators::mixed;
 use dapohiru_generators::random::Random;
