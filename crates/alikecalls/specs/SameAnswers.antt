@@ -62,7 +62,7 @@ pub record PrintResult : Type 0 where
 abbrev pub printGives : Answer → List ℕ → PrintResult
 printGives a work = record { text = printedFor a; work = workAfter a work }
 
--- two files get the same of every call. Each contract names its file in `admitted`, `planAnswer`, `listAnswer` or `checked` alone, so what is
+-- two files get the same of every call. Each contract of a call names its file in `admitted`, `planAnswer`, `listAnswer` or `checked` alone, so what is
 -- said of these is said of all that a call gives
 pub record OneAnswer (f g : List ℕ) : Type 0 where
   -- what every call begins with
@@ -80,8 +80,8 @@ pub record OneAnswer (f g : List ℕ) : Type 0 where
   pub checking : (plan work : List ℕ) → checkGives (checked f plan (length work)) work ≡ checkGives (checked g plan (length work)) work
   pub printing : (work : List ℕ) → printGives (admitted f false) work ≡ printGives (admitted g false) work
 
--- the statement: so do files alike, cut, damaged or sound; and so do files of one length that are alike in the lines up to one that is turned
--- back, whatever follows it
+-- the statement: files alike, cut, damaged or sound, get the same of every call; so do files of one length that are too long, or alike in the
+-- lines up to one that is turned back, whatever follows it
 pub record SameAnswers : Type 0 where
   pub alike : (f g : List ℕ) → Alike f g → OneAnswer f g
   pub no-further : (f g due : List ℕ) → length f ≡ length g → TurnedDue f due → AlikeUpTo due f g → OneAnswer f g

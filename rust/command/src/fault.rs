@@ -34,10 +34,10 @@ impl Fault {
             return wrong(1, 1, format!("the letter {letter}"));
         }
         let (columns_due, columns) = (1 + 6 * fields, line_len(line));
-        let mut whole =
+        let mut form_due =
             format!("{letter} and {fields} fields of six columns, {columns_due} columns in all");
         if columns != columns_due {
-            whole += &format!("; this line has {columns}");
+            form_due += &format!("; this line has {columns}");
         }
         for (field, name) in names.iter().enumerate() {
             let first = 1 + 6 * field;
@@ -48,7 +48,7 @@ impl Fault {
                 );
                 // a column too many or too few shifts the fields after it
                 if columns != columns_due {
-                    expected += &format!(", in a line of {whole}");
+                    expected += &format!(", in a line of {form_due}");
                 }
                 return wrong(first + 1, first + 6, expected);
             }
@@ -57,7 +57,7 @@ impl Fault {
         wrong(
             end,
             end,
-            format!("the end of the line (byte 10) after {whole}"),
+            format!("the end of the line (byte 10) after {form_due}"),
         )
     }
 

@@ -56,11 +56,11 @@ pub enum Form {
 }
 
 impl Form {
-    /// Those that no zero before a number's digits has a part in.
+    /// Those that have nothing to do with zeros.
     pub const WITHOUT_ZEROS: [Form; 4] = [Form::Letter, Form::Field, Form::Column, Form::EndByte];
 
     /// All of them.
-    pub const ALL: [Form; 6] = [
+    const ALL: [Form; 6] = [
         Form::Letter,
         Form::Field,
         Form::Column,
