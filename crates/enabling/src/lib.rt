@@ -1,12 +1,11 @@
-// The plan with every shadow enabled, and the enabled nodes counted.
+// The plan with every shadow enabled, and how many there are.
 ghost use mathlib.Core.Path.{_≡_};
 ghost use Prim.Native.Nat.{_<_, _≤_};
 ghost use Rattle.planning.specs.Planning.{shadowByte};
 ghost use Rattle.buffer.specs.Layout.{Lent};
 ghost use Rattle.buffer.specs.Views.{nodeIn};
-ghost use Rattle.passes.specs.Passes.{enabledTotal, AllEnabled};
+ghost use Rattle.passes.specs.Passes.{AllEnabled};
 use buffer::PLAN;
-use graphreads::is_enabled;
 use nodereads::is_shadow;
 
 // The plan byte with every shadow enabled.
@@ -34,20 +33,4 @@ pub fn enable_all(work: &mut [u8], nodes: usize) -> usize
         n += 1;
     }
     count
-}
-
-// The number of enabled nodes.
-pub fn enabled_total(work: &[u8], nodes: usize) -> usize
-    requires { ⌜ (Lent (now work)) × (nodes ≤ 512) ⌝ }
-    ensures { λ r. ⌜ r ≡ enabledTotal (now (work .entry)) nodes ⌝ }
-{
-    let mut total = 0;
-    let mut n = 0;
-    while n < nodes {
-        if is_enabled(work, n) {
-            total += 1;
-        }
-        n += 1;
-    }
-    total
 }

@@ -104,7 +104,7 @@ module _ {table : List (List ℕ)} {states nodes : ℕ} {l a : List ℕ} {count 
     before-held : (j : Job) → JobHeld j l table finals states nodes → AfterHeld j l nodes → BeforeHeld j m
     before-held j h r n e =
         let job = job-kept (planning-plan (all .kept)) u h in
-        let plan = subst (λ (p : List ℕ). PlanHeld p a nodes) (all .exact j table finals states h .0) (plan-in-held a nodes) in
+        let plan = subst (λ (p : List ℕ). PlanHeld p a nodes) (all .exact j table finals states h) (plan-in-held a nodes) in
         let found = all-enabled-finds j a b answer (h .formed) (s .exact j (allEnabled j) job plan (after-kept (planning-plan (all .kept)) u h r)) in
         let here : n < nodes = omega (arith, event-node j n e, h .nodes-are) in
         stored .here n here ∙ ap (heldStates b n) (h .states-are) ∙ before-found j b n (λ q g. found .1 n q e g)

@@ -1,7 +1,7 @@
--- Laws of the plan with every point enabled in the work buffer, of the count of enabled nodes, and of planning as a whole.
+-- Laws of the plan with every point enabled in the work buffer, and of planning as a whole.
 -- Assumes nothing.
 use mathlib.Core.Path.{_≡_, refl, sym, ap, subst, _∙_}
-use mathlib.Core.Logic.{_⊎_, ⊎-elim}
+use mathlib.Core.Logic.{⊎-elim}
 use mathlib.Core.Bool.{Bool, true, false, cond}
 use mathlib.Core.List.{List}
 use Prim.Native.Nat.{ℕ, _+_, _≤_, _<_}
@@ -13,22 +13,21 @@ use lib.Seq.{getD-set-same, getD-set-other, ext-getD}
 use Rattle.buffer.proofs.KeptLaws.{kept-same, kept-then}
 use Rattle.laws.specs.Bounded.{sumBelow}
 use Rattle.laws.proofs.Bounded.{sum-none, sum-more, sum-cong}
-use Rattle.job.specs.Job.{Kind, isEvent, Node, Job, nodeAt}
-use Rattle.job.specs.Plan.{enables}
-use Rattle.planning.specs.Planning.{IsPlan, shadowByte, allEnabled, enabledCount}
+use Rattle.job.specs.Job.{Kind, isEvent, Node, Job}
+use Rattle.planning.specs.Planning.{shadowByte, allEnabled, enabledCount}
 use Rattle.planning.specs.Listing.{planOf}
-use Rattle.job.specs.Search.{faithful}
-use Rattle.planning.proofs.PlanBytes.{count-says, all-enabled-byte, all-enabled-length, all-enabled-count}
-use Rattle.planning.proofs.PlanningResult.{planned-plan}
+use Rattle.planning.proofs.PlanBytes.{count-sum, all-enabled-byte, all-enabled-length}
 use Rattle.buffer.specs.Layout.{planPart, rulePart, Lent}
-use Rattle.buffer.specs.Views.{nodeIn, enabledIn, planIn}
+use Rattle.buffer.specs.Views.{nodeIn, planIn}
 use Rattle.buffer.specs.Kept.{SameOutside}
 use Rattle.tables.specs.Held.{Usable, JobHeld, AfterHeld}
 use Rattle.passes.specs.declared.passes.Counts.{Counts}
 use Rattle.passes.specs.Counts.{countsOf}
-use Rattle.passes.specs.Passes.{PlanningKept, AllEnabled, PassesMade, enabledTotal, PlanMade}
-use Rattle.passes.proofs.PlanInLaws.{plan-in-byte, plan-in-length, plan-in-enables, planning-both, planning-plan, plan-stored}
-use Rattle.passes.proofs.PlanInLaws.{node-kept, usable-kept, job-kept, after-kept}
+use Rattle.passes.specs.Running.{Stands}
+use Rattle.passes.specs.Passes.{PlanningKept, Carried, AllEnabled, PassesMade, PlanMade}
+use Rattle.passes.proofs.PlanInLaws.{plan-in-byte, plan-in-length, planning-both, planning-plan, plan-stored}
+use Rattle.passes.proofs.PlanInLaws.{node-kept, job-kept, after-kept}
+use Rattle.passes.proofs.RunningLaws.{stands-at, stands-start}
 
 -- ---- marks of shadows
 
@@ -100,59 +99,32 @@ pub enabled-end
     → AllEnabled l m nodes count
 unfolding markIn
 enabled-end {l} {m} {n} {nodes} {count} long few is g′ =
-    let g = subst (λ (k : ℕ). EnabledSoFar l m k count) is g′ in
-    record {
-      kept = g .kept;
-      exact = λ j table finals states h.
-          let size = plan-in-length m nodes (omega (arith, g .kept .long)) few in
-          let byte : (i : ℕ) → i < nodes → markIn l i ≡ shadowByte (nodeAt j i .kind) = λ i b. ap (λ (x : Node). shadowByte (x .kind)) (h .node i b) in (
-            ext-getD 0 (planIn m nodes) (allEnabled j) (size ∙ h .nodes-are ∙ sym (all-enabled-length j))
-                (λ i b.
-                let c : i < nodes = omega (arith, size) in
-                plan-in-byte m nodes i c ∙ g .marks i c ∙ byte i c ∙ sym (all-enabled-byte j i)),
-            g .counted ∙ sum-cong nodes (markIn l) (λ n. shadowByte (nodeAt j n .kind)) byte
-                ∙ ap (λ (k : ℕ). sumBelow k (λ n. shadowByte (nodeAt j n .kind))) (h .nodes-are) ∙ sym (all-enabled-count j),
-          );
-    }
+    record { kept = g .kept; carried = carried; exact = exact; stands = λ j table finals states h. stands j table finals states h }
+  where
+    g : EnabledSoFar l m nodes count
+    g = subst (λ (k : ℕ). EnabledSoFar l m k count) is g′
 
--- ---- the enabled nodes, counted
+    size : length (planIn m nodes) ≡ nodes
+    size = plan-in-length m nodes (omega (arith, g .kept .long)) few
 
--- none
-pub total-none : (l : List ℕ) → 0 ≡ enabledTotal l 0
-unfolding enabledTotal
-total-none l = sym (sum-none (λ n. cond (enabledIn l n) 1 0))
+    byte : (i : ℕ) → i < nodes → getD (planIn m nodes) i 0 ≡ markIn l i
+    byte i b = plan-in-byte m nodes i b ∙ g .marks i b
 
--- one node more
-pub total-more
-    : (l : List ℕ) (n total next : ℕ) {enabled : Bool} → total ≤ n → total ≡ enabledTotal l n → enabled ≡ enabledIn l n
-    → ((enabled ≡ true) × (next ≡ total + 1)) ⊎ ((enabled ≡ false) × (next ≡ total)) → (next ≤ n + 1) × (next ≡ enabledTotal l (n + 1))
-unfolding enabledTotal
-total-more l n total next b e is o =
-    let more = sum-more n (λ n. cond (enabledIn l n) 1 0) in
-    ⊎-elim
-    (λ (w : (_ ≡ true) × (next ≡ total + 1)).
-    let one : _≡_ {A = ℕ} (cond (enabledIn l n) 1 0) 1 = ap (λ (b : Bool). cond b 1 0) (sym is ∙ w .0) in
-    (omega (arith, w .1), omega (arith, w .1, e, one, more)))
-    (λ (w : (_ ≡ false) × (next ≡ total)).
-    let one : _≡_ {A = ℕ} (cond (enabledIn l n) 1 0) 0 = ap (λ (b : Bool). cond b 1 0) (sym is ∙ w .0) in
-    (omega (arith, w .1), omega (arith, w .1, e, one, more)))
-    o
+    carried : Carried m nodes count
+    carried =
+        g .counted ∙ sym (sum-cong nodes (λ i. getD (planIn m nodes) i 0) (markIn l) byte)
+        ∙ ap (λ (k : ℕ). sumBelow k (λ i. getD (planIn m nodes) i 0)) (sym size) ∙ sym (count-sum (planIn m nodes))
 
--- all
-pub total-end : (l : List ℕ) {n nodes total : ℕ} → n ≡ nodes → total ≡ enabledTotal l n → total ≡ enabledTotal l nodes
-total-end l is e = e ∙ ap (enabledTotal l) is
+    exact : (j : Job) (table : List (List ℕ)) (finals states : ℕ) → JobHeld j l table finals states nodes → planIn m nodes ≡ allEnabled j
+    exact j table finals states h =
+        ext-getD 0 (planIn m nodes) (allEnabled j) (size ∙ h .nodes-are ∙ sym (all-enabled-length j))
+        (λ i b.
+        let c : i < nodes = omega (arith, size) in
+        byte i c ∙ ap (λ (x : Node). shadowByte (x .kind)) (h .node i c) ∙ sym (all-enabled-byte j i))
 
--- the total is the count of a plan of 0 and 1
-total-count
-    : (j : Job) (l plan : List ℕ) (nodes : ℕ) → Lent l → nodes ≤ 512 → IsPlan j plan → planIn l nodes ≡ plan
-    → enabledTotal l nodes ≡ enabledCount plan
-unfolding enabledTotal
-total-count j l plan nodes long few v e =
-    let size : length plan ≡ nodes = sym (ap length e) ∙ plan-in-length l nodes long few in
-    sum-cong nodes (λ n. cond (enabledIn l n) 1 0) (λ n. cond (enables plan n) 1 0)
-    (λ n h.
-    ap (λ (b : Bool). cond b 1 0) (sym (plan-in-enables l nodes n h) ∙ ap (λ (p : List ℕ). enables p n) e))
-    ∙ ap (λ (k : ℕ). sumBelow k (λ n. cond (enables plan n) 1 0)) (sym size) ∙ sym (count-says plan (v .bytes))
+    stands : (j : Job) (table : List (List ℕ)) (finals states : ℕ) → JobHeld j l table finals states nodes
+        → Stands j 0 0 (planIn m nodes) count
+    stands j table finals states h = stands-at (exact j table finals states h) carried (stands-start j)
 
 -- ---- planning
 
@@ -162,25 +134,22 @@ counts-are
     → c ≡ countsOf j
 counts-are j c s e p = λ i. record { shadows = s i; enabled = e i; passes = p i }
 
--- all points are watched, passes are made, and the watched points that are left are counted
+-- all points are watched, and passes are made
 pub plan-made
-    : {table : List (List ℕ)} {finals states nodes : ℕ} {l m k : List ℕ} {shadows count total : ℕ} → Usable l table states nodes
-    → AllEnabled l m nodes shadows → PassesMade table finals states nodes m k count → total ≡ enabledTotal k nodes
-    → PlanMade table finals states nodes l k (record { shadows = shadows; enabled = total; passes = count })
-plan-made {table} {finals} {states} {nodes} {l} {m} {k} {shadows} {count} {total} u a p e =
+    : {table : List (List ℕ)} {finals states nodes : ℕ} {l m k : List ℕ} {total : ℕ} {answer : Counts} → Usable l table states nodes
+    → AllEnabled l m nodes total → PassesMade table finals states nodes m k total answer → PlanMade table finals states nodes l k answer
+plan-made {table} {finals} {states} {nodes} {l} {m} {k} {total} {answer} u a p =
     record {
       kept = planning-both first (p .kept);
-      plan = λ j h r. plan j h r;
+      plan = plan;
       counts = λ j h r.
-          counts-are j (record { shadows = shadows; enabled = total; passes = count }) (a .exact j table finals states h .1)
-          (e
-          ∙ total-count j k (planOf j .plan) nodes (usable-kept (p .kept) (usable-kept first u) .long) (u .few-nodes) (planned-plan (faithful j) j)
-          (plan j h r))
-          (p .passes j (job-kept first u h) (after-kept first u h r) (a .exact j table finals states h .0));
+          let all = a .exact j table finals states h in
+          counts-are j answer (p .points ∙ a .carried ∙ ap enabledCount all) (p .carried ∙ ap enabledCount (plan j h r))
+          (p .passes j (job-kept first u h) (after-kept first u h r) all);
     }
   where
     first : PlanningKept l m
     first = planning-plan (a .kept)
 
     plan : (j : Job) → JobHeld j l table finals states nodes → AfterHeld j l nodes → planIn k nodes ≡ planOf j .plan
-    plan j h r = p .plan j (job-kept first u h) (after-kept first u h r) (a .exact j table finals states h .0)
+    plan j h r = p .plan j (job-kept first u h) (after-kept first u h r) (a .exact j table finals states h)

@@ -1,6 +1,7 @@
 -- The laws that the proofs of the functions cite.
 -- Assumes nothing.
 pub mod PlanInLaws
+pub mod RunningLaws
 pub mod TryLaws
 pub mod GoneLaws
 pub mod PassMadeLaws

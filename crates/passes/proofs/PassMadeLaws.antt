@@ -8,7 +8,7 @@ use native.Mathlib.Omega.{arith}
 use lib.ListN.{length, getD}
 use Rattle.laws.specs.Bytes.{AreBytes}
 use Rattle.laws.proofs.Bounded.{sum-bound}
-use Rattle.job.specs.Job.{Job}
+use Rattle.job.specs.Job.{Job, WellFormedJob}
 use Rattle.planning.specs.Planning.{passed, Planned, enabledCount, allEnabled}
 use Rattle.planning.specs.Listing.{planOf}
 use Rattle.job.specs.Search.{faithful}
@@ -18,48 +18,71 @@ use Rattle.planning.proofs.PlanningLaws.{settled, Underway, underway-start, und
 use Rattle.buffer.specs.Layout.{planPart, Lent}
 use Rattle.buffer.specs.Views.{planIn}
 use Rattle.tables.specs.Held.{Usable, JobHeld, AfterHeld}
-use Rattle.passes.specs.Passes.{PlanningKept, TriedFrom, FirstGone, LastGone, PassMade, PassesMade}
+use Rattle.passes.specs.declared.passes.Progress.{Progress}
+use Rattle.passes.specs.Running.{Stands, start}
+use Rattle.passes.specs.Passes.{PlanningKept, Carried, TriedFrom, FirstGone, LastGone, PassMade, PassesMade}
 use Rattle.passes.proofs.PlanInLaws.{plan-in-byte, plan-in-length, planning-none, planning-both, job-kept, after-kept}
+use Rattle.passes.proofs.RunningLaws.{stands-at, stands-pass, stands-unique, stands-planned}
 
 -- ---- a pass
 
+-- where planning stands after it
+pass-stands
+    : {j : Job} {k nodes total rest : ℕ} {plan left : List ℕ} → WellFormedJob j → nodes ≡ length (j .nodes)
+    → left ≡ passed (faithful j) nodes plan → rest ≡ enabledCount left → Stands j k 0 plan total → Stands j (suc k) 0 left rest
+pass-stands {j} {plan = plan} wf is e c s = stands-at (e ∙ ap (λ (n : ℕ). passed (faithful j) n plan) is) c (stands-pass wf s)
+
 -- none went
 pub pass-none
-    : {table : List (List ℕ)} {finals states nodes first : ℕ} {l m : List ℕ} {from : ℕ} → first ≤ nodes → from ≡ 0
-    → FirstGone table finals states nodes first l m from → PassMade table finals states nodes first l m 0
-pass-none {table} {finals} {states} {nodes} {first} {l} b e g =
-    let same = g .same e in
+    : {table : List (List ℕ)} {finals states nodes : ℕ} {p r : Progress} {l m : List ℕ} → p .last ≤ nodes → r .last ≡ 0
+    → FirstGone table finals states nodes p l m r → PassMade table finals states nodes p l m r
+pass-none {table} {finals} {states} {nodes} {p} {r} {l} {m} b e g =
     record {
       kept = g .kept;
-      within = zero-le;
+      carried = g .carried;
+      within = omega arith;
       same = λ z. same;
-      fewer = λ z. absurd (z refl);
-      exact = λ j h a t. same ∙ sym (whole j h a t);
-      after = λ j h a t.
-          subst (Kept (faithful j) 0 nodes) (sym same) (passed-says (faithful j) nodes (planIn l nodes) .0 (whole j h a t));
+      fewer = λ z. absurd (z e);
+      exact = exact;
+      after = λ j h a t i c.
+          subst (Kept (faithful j) 0 nodes) (sym same) (passed-says (faithful j) nodes (planIn l nodes) .0 (whole j h a t)) i zero-le;
+      stands = λ j h a t k s. pass-stands (h .formed) (h .nodes-are) (exact j h a t) (g .carried) s;
     }
   where
-    whole : (j : Job) → JobHeld j l table finals states nodes → AfterHeld j l nodes → TriedFrom j first nodes (planIn l nodes)
+    same : planIn m nodes ≡ planIn l nodes
+    same = g .same e
+
+    whole : (j : Job) → JobHeld j l table finals states nodes → AfterHeld j l nodes → TriedFrom j (p .last) nodes (planIn l nodes)
         → passed (faithful j) nodes (planIn l nodes) ≡ planIn l nodes
     whole j h a t =
-        let before = passed-says (faithful j) first (planIn l nodes) .1 (λ i z c. g .none e j h a i c) in
-        kept-passed (faithful j) first nodes (planIn l nodes) b t before
+        let before = passed-says (faithful j) (p .last) (planIn l nodes) .1 (λ i z c. g .none e j h a i c) in
+        kept-passed (faithful j) (p .last) nodes (planIn l nodes) b t before
+
+    exact : (j : Job) → JobHeld j l table finals states nodes → AfterHeld j l nodes → TriedFrom j (p .last) nodes (planIn l nodes)
+        → planIn m nodes ≡ passed (faithful j) nodes (planIn l nodes)
+    exact j h a t = same ∙ sym (whole j h a t)
 
 -- one went, and the rest was tried
 pub pass-some
-    : {table : List (List ℕ)} {finals states nodes first : ℕ} {l m k : List ℕ} {from last : ℕ} → Usable l table states nodes
-    → (from ≡ 0 → ⊥) → FirstGone table finals states nodes first l m from → LastGone table finals states nodes from m k last
-    → PassMade table finals states nodes first l k last
-pass-some {nodes = nodes} {l = l} u ne g t =
+    : {table : List (List ℕ)} {finals states nodes : ℕ} {p q r : Progress} {l m k : List ℕ} → Usable l table states nodes
+    → (q .last ≡ 0 → ⊥) → FirstGone table finals states nodes p l m q → LastGone table finals states nodes q m k r
+    → PassMade table finals states nodes p l k r
+pass-some {table} {finals} {states} {nodes} {p} {q} {r} {l} {m} {k} u ne g t =
     record {
       kept = planning-both (g .kept) (t .kept);
+      carried = t .carried;
       within = t .within;
       same = λ z. absurd (ne (omega (arith, t .least)));
       fewer = λ z. omega (arith, g .fewer ne, t .fewer);
-      exact = λ j h a f.
-          t .exact j (job-kept (g .kept) u h) (after-kept (g .kept) u h a) (planIn l nodes) (g .exact ne j h a);
+      exact = λ j h a f. exact j h a;
       after = λ j h a f. t .after j (job-kept (g .kept) u h) (after-kept (g .kept) u h a);
+      stands = λ j h a f i s. pass-stands (h .formed) (h .nodes-are) (exact j h a) (t .carried) s;
     }
+  where
+    exact : (j : Job) → JobHeld j l table finals states nodes → AfterHeld j l nodes
+        → planIn k nodes ≡ passed (faithful j) nodes (planIn l nodes)
+    exact j h a =
+        t .exact j (job-kept (g .kept) u h) (after-kept (g .kept) u h a) (planIn l nodes) (g .exact ne j h a)
 
 -- ---- passes
 
@@ -75,26 +98,30 @@ count-bounded l nodes long few bytes =
     byte : (i : ℕ) → i < length (planIn l nodes) → getD (planIn l nodes) i 0 ≤ 255
     byte i h = rw (plan-in-byte l nodes i (omega (arith, size))) (omega (arith, bytes (planPart + i) (omega (arith, size))))
 
--- passes were made, each but one that ended them with a change; `first` is one past the last node that went, 0 where none did
-pub record Passing (table : List (List ℕ)) (finals states nodes : ℕ) (l m : List ℕ) (first count : ℕ) : Type 0 where
+-- passes were made, each but one that ended them with a change; the last is one past the last node that went, 0 where none did
+pub record Passing (table : List (List ℕ)) (finals states nodes : ℕ) (l m : List ℕ) (total : ℕ) (p : Progress) (count : ℕ) : Type 0 where
   pub kept : PlanningKept l m
-  pub within : first ≤ nodes
-  pub few : (first ≡ 0 → ⊥) → count + enabledCount (planIn m nodes) ≤ enabledCount (planIn l nodes)
+  pub carried : Carried m nodes (p .enabled)
+  pub within : p .last ≤ nodes
+  pub few : (p .last ≡ 0 → ⊥) → count + p .enabled ≤ total
   pub underway
-      : (first ≡ 0 → ⊥) → (j : Job) → JobHeld j l table finals states nodes → AfterHeld j l nodes
+      : (p .last ≡ 0 → ⊥) → (j : Job) → JobHeld j l table finals states nodes → AfterHeld j l nodes
       → Underway (faithful j) nodes (planIn l nodes) (planIn m nodes) count
   pub after
-      : (first ≡ 0 → ⊥) → (j : Job) → JobHeld j l table finals states nodes → AfterHeld j l nodes → TriedFrom j first nodes (planIn m nodes)
+      : (p .last ≡ 0 → ⊥) → (j : Job) → JobHeld j l table finals states nodes → AfterHeld j l nodes
+      → TriedFrom j (p .last) nodes (planIn m nodes)
   pub ended
-      : first ≡ 0 → (j : Job) → JobHeld j l table finals states nodes → AfterHeld j l nodes
+      : p .last ≡ 0 → (j : Job) → JobHeld j l table finals states nodes → AfterHeld j l nodes
       → settled (faithful j) nodes (planIn l nodes) ≡ record { plan = planIn m nodes; passes = count }
 
 -- before the first
 pub passing-start
-    : {table : List (List ℕ)} {finals states nodes : ℕ} (l : List ℕ) → 1 ≤ nodes → Passing table finals states nodes l l nodes 0
-passing-start {nodes = nodes} l h =
+    : {table : List (List ℕ)} {finals states nodes total : ℕ} (l : List ℕ) → 1 ≤ nodes → Carried l nodes total
+    → Passing table finals states nodes l l total (record { enabled = total; last = nodes }) 0
+passing-start {nodes = nodes} l h c =
     record {
       kept = planning-none l;
+      carried = c;
       within = le-refl nodes;
       few = λ z. omega arith;
       underway = λ z j h a. underway-start (faithful j) nodes (planIn l nodes);
@@ -104,19 +131,20 @@ passing-start {nodes = nodes} l h =
 
 -- one pass more
 pub passing-more
-    : {table : List (List ℕ)} {finals states nodes : ℕ} {l m k : List ℕ} {first count last : ℕ} → Usable l table states nodes
-    → (first ≡ 0 → ⊥) → Passing table finals states nodes l m first count → PassMade table finals states nodes first m k last
-    → Passing table finals states nodes l k last (count + 1)
+    : {table : List (List ℕ)} {finals states nodes total : ℕ} {l m k : List ℕ} {p r : Progress} {count : ℕ} → Usable l table states nodes
+    → (p .last ≡ 0 → ⊥) → Passing table finals states nodes l m total p count → PassMade table finals states nodes p m k r
+    → Passing table finals states nodes l k total r (count + 1)
 passing-more {nodes = nodes} {l = l} {m = m} {k = k} {count = count} u ne g t =
     record {
       kept = planning-both (g .kept) (t .kept);
+      carried = t .carried;
       within = t .within;
       few = λ z. omega (arith, g .few ne, t .fewer z);
       underway = λ z j h a.
           let e = t .exact j (job-kept (g .kept) u h) (after-kept (g .kept) u h a) (g .after ne j h a) in
           subst (λ (p : List ℕ). Underway (faithful j) nodes (planIn l nodes) p (count + 1)) (sym e)
           (underway-more (faithful j) nodes (planIn l nodes) (planIn m nodes) count (g .underway ne j h a)
-          (λ q. omega (arith, t .fewer z, ap enabledCount (e ∙ q))));
+          (λ q. omega (arith, t .fewer z, t .carried, g .carried, ap enabledCount (e ∙ q))));
       after = λ z j h a. t .after j (job-kept (g .kept) u h) (after-kept (g .kept) u h a) (g .after ne j h a);
       ended = λ z j h a.
           let e = t .exact j (job-kept (g .kept) u h) (after-kept (g .kept) u h a) (g .after ne j h a) in
@@ -127,31 +155,37 @@ passing-more {nodes = nodes} {l = l} {m = m} {k = k} {count = count} u ne g t =
 
 -- what is left to them
 abbrev pub passesLeft : ℕ → ℕ → ℕ
-passesLeft zero c = 0
-passesLeft (suc n) c = c + 1
+passesLeft zero total = 0
+passesLeft (suc n) total = total + 1
 
 -- it falls with each pass
 pub passes-left-falls
-    : {table : List (List ℕ)} {finals states nodes first last : ℕ} {m k : List ℕ} → (first ≡ 0 → ⊥)
-    → PassMade table finals states nodes first m k last
-    → passesLeft last (enabledCount (planIn k nodes)) < passesLeft first (enabledCount (planIn m nodes))
-passes-left-falls {nodes = nodes} {first = first} {last = last} {m = m} {k = k} ne t = go first last ne (t .fewer)
+    : {table : List (List ℕ)} {finals states nodes : ℕ} {m k : List ℕ} {p r : Progress} → (p .last ≡ 0 → ⊥)
+    → PassMade table finals states nodes p m k r → passesLeft (r .last) (r .enabled) < passesLeft (p .last) (p .enabled)
+passes-left-falls {p = p} {r = r} ne t = go (p .last) (r .last) ne (t .fewer)
   where
-    go : (f r : ℕ) → (f ≡ 0 → ⊥) → ((r ≡ 0 → ⊥) → enabledCount (planIn k nodes) < enabledCount (planIn m nodes))
-        → passesLeft r (enabledCount (planIn k nodes)) < passesLeft f (enabledCount (planIn m nodes))
-    go zero r ne h = absurd (ne refl)
+    go : (f i : ℕ) → (f ≡ 0 → ⊥) → ((i ≡ 0 → ⊥) → r .enabled < p .enabled)
+        → passesLeft i (r .enabled) < passesLeft f (p .enabled)
+    go zero i ne h = absurd (ne refl)
     go (suc f) zero ne h = omega arith
-    go (suc f) (suc r) ne h = omega (arith, h (λ e. omega arith))
+    go (suc f) (suc i) ne h = omega (arith, h (λ e. omega arith))
 
 -- they end
 pub passing-end
-    : {table : List (List ℕ)} {finals states nodes : ℕ} {l m : List ℕ} {first count : ℕ} → first ≡ 0
-    → Passing table finals states nodes l m first count → PassesMade table finals states nodes l m count
-passing-end {table} {finals} {states} {nodes} {l} {m} {count = count} e g =
+    : {table : List (List ℕ)} {finals states nodes total : ℕ} {l m : List ℕ} {p : Progress} {count : ℕ} → p .last ≡ 0
+    → Passing table finals states nodes l m total p count
+    → PassesMade table finals states nodes l m total (record { shadows = total; enabled = p .enabled; passes = count })
+passing-end {table} {finals} {states} {nodes} {total} {l} {m} {p} {count} e g =
     record {
       kept = g .kept;
-      plan = λ j h a s. ap (λ (r : Planned). r .plan) (result j h a s);
-      passes = λ j h a s. ap (λ (r : Planned). r .passes) (result j h a s);
+      points = refl;
+      carried = g .carried;
+      plan = plan;
+      passes = passes;
+      stands = λ j h a s.
+          let all = stands-unique {j = j} s start .0 in
+          subst (λ (k : ℕ). Stands j k 0 (planIn m nodes) (p .enabled)) (sym (passes j h a all))
+          (stands-at (plan j h a all) (g .carried) (stands-planned j (h .formed)));
     }
   where
     result : (j : Job) → JobHeld j l table finals states nodes → AfterHeld j l nodes → planIn l nodes ≡ allEnabled j
@@ -159,3 +193,11 @@ passing-end {table} {finals} {states} {nodes} {l} {m} {count = count} e g =
     result j h a s =
         sym (g .ended e j h a) ∙ ap (settled (faithful j) nodes) s
         ∙ ap (λ (n : ℕ). settled (faithful j) n (allEnabled j)) (h .nodes-are)
+
+    plan : (j : Job) → JobHeld j l table finals states nodes → AfterHeld j l nodes → planIn l nodes ≡ allEnabled j
+        → planIn m nodes ≡ planOf j .plan
+    plan j h a s = ap (λ (r : Planned). r .plan) (result j h a s)
+
+    passes : (j : Job) → JobHeld j l table finals states nodes → AfterHeld j l nodes → planIn l nodes ≡ allEnabled j
+        → count ≡ planOf j .passes
+    passes j h a s = ap (λ (r : Planned). r .passes) (result j h a s)

@@ -4,13 +4,13 @@ use mathlib.Core.Path.{_≡_, refl, sym, ap, _∙_}
 use mathlib.Core.Logic.{inl, inr}
 use mathlib.Core.Bool.{Bool, true, false}
 use mathlib.Core.List.{List}
-use Prim.Native.Nat.{ℕ, _+_, _<_}
+use Prim.Native.Nat.{ℕ, _+_, _≤_, _<_}
 use native.Mathlib.Omega.{arith}
 use native.Mathlib.Nat.{lt-of-lt-of-le}
 use lib.ListN.{set}
 use Rattle.job.specs.Job.{Job}
 use Rattle.job.specs.Plan.{enables}
-use Rattle.planning.specs.Planning.{enabledCount}
+use Rattle.planning.specs.Planning.{tried, enabledCount}
 use Rattle.job.specs.Search.{faithful}
 use Rattle.planning.proofs.PlanBytes.{set-back, count-set}
 use Rattle.planning.proofs.PassLaws.{tried-disabled, tried-needed, tried-removed}
@@ -18,10 +18,11 @@ use Rattle.buffer.specs.Layout.{planPart}
 use Rattle.buffer.specs.Views.{enabledIn, planIn}
 use Rattle.tables.specs.Held.{Usable, JobHeld, AfterHeld}
 use Rattle.search.specs.Searched.{SearchedAt}
-use Rattle.passes.specs.Passes.{PlanningKept, TriedAt}
+use Rattle.passes.specs.Passes.{PlanningKept, Carried, TriedAt}
 use Rattle.passes.proofs.PlanInLaws.{plan-in-held, plan-in-set, plan-in-enables, plan-in-same}
 use Rattle.passes.proofs.PlanInLaws.{planning-none, planning-both, planning-search, planning-plan, plan-stored}
 use Rattle.passes.proofs.PlanInLaws.{usable-kept, job-kept, after-kept}
+use Rattle.passes.proofs.RunningLaws.{stands-at, stands-tried}
 
 module _ {table : List (List ℕ)} {states nodes n : ℕ} {l : List ℕ} (small : n < nodes) (u : Usable l table states nodes) where
   -- the store of a plan byte keeps the rest
@@ -32,67 +33,77 @@ module _ {table : List (List ℕ)} {states nodes n : ℕ} {l : List ℕ} (small 
   pub cleared-usable : Usable (set l (planPart + n) 0) table states nodes
   cleared-usable = usable-kept cleared-kept u
 
-  -- a node that is not enabled
-  pub try-disabled : {finals : ℕ} → enabledIn l n ≡ false → TriedAt table finals states nodes n l l 0
-  try-disabled w =
-      record {
-        kept = planning-none l;
-        small = omega arith;
-        exact = λ j h a. sym (tried-disabled (faithful j) n (planIn l nodes) (plan-in-enables l nodes n small ∙ w));
-        stays = λ e. refl;
-        goes = λ e. absurd (omega arith);
-      }
-
-  module _ {finals : ℕ} {m : List ℕ} {answer : Bool} (w : enabledIn l n ≡ true)
-      (s : SearchedAt table finals states nodes (set l (planPart + n) 0) m answer) where
-    -- the plan enables it
-    enabled-here : enables (planIn l nodes) n ≡ true
-    enabled-here = plan-in-enables l nodes n small ∙ w
-
-    -- the search leaves the plan without the node
-    plan-searched : planIn m nodes ≡ set (planIn l nodes) n 0
-    plan-searched =
-        plan-in-same (set l (planPart + n) 0) m nodes (s .kept .long)
-        (λ k g h. s .kept .outside k (inr (omega arith), inl (omega arith))) (cleared-usable .long) (u .few-nodes)
-        ∙ plan-in-set l nodes n 0 small
-
-    -- its answer is that of the plan without the node
-    answer-is : (j : Job) → JobHeld j l table finals states nodes → AfterHeld j l nodes → answer ≡ faithful j (set (planIn l nodes) n 0)
-    answer-is j h a =
-        s .exact j (planIn (set l (planPart + n) 0) nodes) (job-kept cleared-kept u h) (plan-in-held (set l (planPart + n) 0) nodes)
-        (after-kept cleared-kept u h a)
-        .exact
-        ∙ ap (faithful j) (plan-in-set l nodes n 0 small)
-
-    -- what the store and the search keep
-    searched-kept : PlanningKept l m
-    searched-kept = planning-both cleared-kept (planning-search (s .kept))
-
-    -- the plan without it is faithful: it goes
-    pub try-removed : answer ≡ true → TriedAt table finals states nodes n l m 1
-    try-removed t =
+  module _ {total : ℕ} (c : Carried l nodes total) where
+    -- what a try leaves, and so where planning stands
+    tried-at
+        : {finals left : ℕ} {m : List ℕ} → PlanningKept l m
+        → ((j : Job) → JobHeld j l table finals states nodes → AfterHeld j l nodes → planIn m nodes ≡ tried (faithful j) n (planIn l nodes))
+        → Carried m nodes left → (left ≡ total → planIn m nodes ≡ planIn l nodes) → ((left ≡ total → ⊥) → left + 1 ≡ total)
+        → TriedAt table finals states nodes n l m total left
+    tried-at kept exact carried stays goes =
         record {
-          kept = searched-kept;
-          small = omega arith;
-          exact = λ j h a.
-              plan-searched ∙ sym (tried-removed (faithful j) n (planIn l nodes) enabled-here (sym (answer-is j h a) ∙ t));
-          stays = λ e. absurd (omega arith);
-          goes = λ e. omega (arith, ap enabledCount plan-searched, count-set (planIn l nodes) n enabled-here);
+          kept = kept;
+          exact = exact;
+          carried = carried;
+          stays = stays;
+          goes = goes;
+          stands = λ j h a k s. stands-at (exact j h a) carried (stands-tried (h .formed) (omega (arith, h .nodes-are)) s);
         }
 
-    -- the plan with it back
-    plan-back : planIn (set m (planPart + n) 1) nodes ≡ planIn l nodes
-    plan-back =
-        plan-in-set m nodes n 1 small ∙ ap (λ (p : List ℕ). set p n 1) plan-searched ∙ set-back (planIn l nodes) n enabled-here
+    -- a node that is not enabled
+    pub try-disabled : {finals : ℕ} → enabledIn l n ≡ false → TriedAt table finals states nodes n l l total total
+    try-disabled w =
+        tried-at (planning-none l)
+        (λ j h a. sym (tried-disabled (faithful j) n (planIn l nodes) (plan-in-enables l nodes n small ∙ w))) c (λ e. refl)
+        (λ ne. absurd (ne refl))
 
-    -- it is not: the node stays
-    pub try-needed : answer ≡ false → TriedAt table finals states nodes n l (set m (planPart + n) 1) 0
-    try-needed t =
-        record {
-          kept = planning-both searched-kept (planning-plan (plan-stored m n 1 (lt-of-lt-of-le small (u .few-nodes))));
-          small = omega arith;
-          exact = λ j h a.
-              plan-back ∙ sym (tried-needed (faithful j) n (planIn l nodes) enabled-here (sym (answer-is j h a) ∙ t));
-          stays = λ e. plan-back;
-          goes = λ e. absurd (omega arith);
-        }
+    module _ (w : enabledIn l n ≡ true) where
+      -- the plan enables it
+      enabled-here : enables (planIn l nodes) n ≡ true
+      enabled-here = plan-in-enables l nodes n small ∙ w
+
+      -- so some point is watched
+      pub some-watched : 1 ≤ total
+      some-watched = omega (arith, c, count-set (planIn l nodes) n enabled-here)
+
+      module _ {finals : ℕ} {m : List ℕ} {answer : Bool} (s : SearchedAt table finals states nodes (set l (planPart + n) 0) m answer) where
+        -- the search leaves the plan without the node
+        plan-searched : planIn m nodes ≡ set (planIn l nodes) n 0
+        plan-searched =
+            plan-in-same (set l (planPart + n) 0) m nodes (s .kept .long)
+            (λ k g h. s .kept .outside k (inr (omega arith), inl (omega arith))) (cleared-usable .long) (u .few-nodes)
+            ∙ plan-in-set l nodes n 0 small
+
+        -- its answer is that of the plan without the node
+        answer-is : (j : Job) → JobHeld j l table finals states nodes → AfterHeld j l nodes → answer ≡ faithful j (set (planIn l nodes) n 0)
+        answer-is j h a =
+            s .exact j (planIn (set l (planPart + n) 0) nodes) (job-kept cleared-kept u h) (plan-in-held (set l (planPart + n) 0) nodes)
+            (after-kept cleared-kept u h a)
+            .exact
+            ∙ ap (faithful j) (plan-in-set l nodes n 0 small)
+
+        -- what the store and the search keep
+        searched-kept : PlanningKept l m
+        searched-kept = planning-both cleared-kept (planning-search (s .kept))
+
+        -- the plan without it is faithful: it goes
+        pub try-removed : {left : ℕ} → left + 1 ≡ total → answer ≡ true → TriedAt table finals states nodes n l m total left
+        try-removed e t =
+            tried-at searched-kept
+            (λ j h a.
+            plan-searched ∙ sym (tried-removed (faithful j) n (planIn l nodes) enabled-here (sym (answer-is j h a) ∙ t)))
+            (omega (arith, c, ap enabledCount plan-searched, count-set (planIn l nodes) n enabled-here)) (λ same. absurd (omega arith))
+            (λ ne. e)
+
+        -- the plan with it back
+        plan-back : planIn (set m (planPart + n) 1) nodes ≡ planIn l nodes
+        plan-back =
+            plan-in-set m nodes n 1 small ∙ ap (λ (p : List ℕ). set p n 1) plan-searched ∙ set-back (planIn l nodes) n enabled-here
+
+        -- it is not: the node stays
+        pub try-needed : answer ≡ false → TriedAt table finals states nodes n l (set m (planPart + n) 1) total total
+        try-needed t =
+            tried-at (planning-both searched-kept (planning-plan (plan-stored m n 1 (lt-of-lt-of-le small (u .few-nodes)))))
+            (λ j h a.
+            plan-back ∙ sym (tried-needed (faithful j) n (planIn l nodes) enabled-here (sym (answer-is j h a) ∙ t)))
+            (c ∙ ap enabledCount (sym plan-back)) (λ e. plan-back) (λ ne. absurd (ne refl))

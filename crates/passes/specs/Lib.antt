@@ -1,5 +1,6 @@
 -- Planning in the work buffer.
 -- Assumes nothing.
 pub mod Counts
+pub mod Running
 -- inner contracts
 pub mod Passes

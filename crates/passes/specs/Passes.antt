@@ -2,98 +2,115 @@
 -- Inner contracts: what functions ask of and leave to each other. No promise is stated in them; a reader need not believe them.
 -- Assumes nothing.
 use mathlib.Core.Path.{_≡_}
-use mathlib.Core.Bool.{cond}
 use mathlib.Core.List.{List}
-use Prim.Native.Nat.{ℕ, _≤_, _<_}
+use Prim.Native.Nat.{ℕ, suc, _+_, _≤_, _<_}
 use Rattle.job.specs.Job.{Job}
 use Rattle.planning.specs.Planning.{allEnabled, tried, passed, enabledCount}
 use Rattle.planning.specs.Listing.{planOf}
 use Rattle.job.specs.Search.{faithful}
 use Rattle.buffer.specs.Layout.{pairPart, classPart, planPart, rulePart, marksEnd}
-use Rattle.buffer.specs.Views.{enabledIn, planIn}
+use Rattle.buffer.specs.Views.{planIn}
 use Rattle.buffer.specs.Kept.{SameOutside, Kept, Outside}
-use Rattle.laws.specs.Bounded.{sumBelow}
 use Rattle.tables.specs.Held.{JobHeld, AfterHeld}
 use Rattle.passes.specs.declared.passes.Counts.{Counts}
+use Rattle.passes.specs.declared.passes.Progress.{Progress}
 use Rattle.passes.specs.Counts.{countsOf}
+use Rattle.passes.specs.Running.{Stands}
 
 -- only the rows of pairs and the bytes from the plan up to the end of the marks are touched
 abbrev pub PlanningKept : List ℕ → List ℕ → Type 0
 PlanningKept = Kept (λ k. Outside pairPart classPart k × Outside planPart marksEnd k)
 
+-- the total that is carried along: the number of watched points of the plan as it stands in the buffer
+abbrev pub Carried : List ℕ → ℕ → ℕ → Type 0
+Carried work nodes total = total ≡ enabledCount (planIn work nodes)
+
 -- "all points start watched": the plan part holds 1 at each event node and 0 at any other
 pub record AllEnabled (l m : List ℕ) (nodes count : ℕ) : Type 0 where
   pub kept : SameOutside l m planPart rulePart
+  pub carried : Carried m nodes count
   pub exact
+      : (j : Job) (table : List (List ℕ)) (finals states : ℕ) → JobHeld j l table finals states nodes → planIn m nodes ≡ allEnabled j
+  pub stands
       : (j : Job) (table : List (List ℕ)) (finals states : ℕ) → JobHeld j l table finals states nodes
-      → (planIn m nodes ≡ allEnabled j) × (count ≡ enabledCount (allEnabled j))
+      → Stands j 0 0 (planIn m nodes) count
 
--- node n was tried: 1 where it goes, 0 where it stays
-pub record TriedAt (table : List (List ℕ)) (finals states nodes n : ℕ) (l m : List ℕ) (gone : ℕ) : Type 0 where
+-- node n was tried: one less of the total is left where it goes
+pub record TriedAt (table : List (List ℕ)) (finals states nodes n : ℕ) (l m : List ℕ) (total left : ℕ) : Type 0 where
   pub kept : PlanningKept l m
-  pub small : gone ≤ 1
   pub exact
       : (j : Job) → JobHeld j l table finals states nodes → AfterHeld j l nodes
       → planIn m nodes ≡ tried (faithful j) n (planIn l nodes)
-  pub stays : gone ≡ 0 → planIn m nodes ≡ planIn l nodes
-  pub goes : gone ≡ 1 → enabledCount (planIn m nodes) < enabledCount (planIn l nodes)
+  pub carried : Carried m nodes left
+  pub stays : left ≡ total → planIn m nodes ≡ planIn l nodes
+  pub goes : (left ≡ total → ⊥) → left + 1 ≡ total
+  pub stands
+      : (j : Job) → JobHeld j l table finals states nodes → AfterHeld j l nodes
+      → (k : ℕ) → Stands j k n (planIn l nodes) total → Stands j k (suc n) (planIn m nodes) left
 
 -- no try at a node from k on changes the plan
 abbrev pub TriedFrom : Job → ℕ → ℕ → List ℕ → Type 0
 TriedFrom j k nodes plan = (i : ℕ) → k ≤ i → i < nodes → tried (faithful j) i plan ≡ plan
 
--- the nodes before `end` were tried until one goes; the answer is one past it, 0 where none goes
-pub record FirstGone (table : List (List ℕ)) (finals states nodes end : ℕ) (l m : List ℕ) (last : ℕ) : Type 0 where
+-- the nodes before `p .last` were tried until one goes; the last is then one past it, 0 where none goes
+pub record FirstGone (table : List (List ℕ)) (finals states nodes : ℕ) (p : Progress) (l m : List ℕ) (r : Progress) : Type 0 where
   pub kept : PlanningKept l m
-  pub within : last ≤ end
-  pub same : last ≡ 0 → planIn m nodes ≡ planIn l nodes
+  pub carried : Carried m nodes (r .enabled)
+  pub within : r .last ≤ p .last
+  pub same : r .last ≡ 0 → planIn m nodes ≡ planIn l nodes
   pub none
-      : last ≡ 0 → (j : Job) → JobHeld j l table finals states nodes → AfterHeld j l nodes
-      → (i : ℕ) → i < end → tried (faithful j) i (planIn l nodes) ≡ planIn l nodes
+      : r .last ≡ 0 → (j : Job) → JobHeld j l table finals states nodes → AfterHeld j l nodes
+      → (i : ℕ) → i < p .last → tried (faithful j) i (planIn l nodes) ≡ planIn l nodes
   pub exact
-      : (last ≡ 0 → ⊥) → (j : Job) → JobHeld j l table finals states nodes → AfterHeld j l nodes
-      → planIn m nodes ≡ passed (faithful j) last (planIn l nodes)
-  pub fewer : (last ≡ 0 → ⊥) → enabledCount (planIn m nodes) < enabledCount (planIn l nodes)
+      : (r .last ≡ 0 → ⊥) → (j : Job) → JobHeld j l table finals states nodes → AfterHeld j l nodes
+      → planIn m nodes ≡ passed (faithful j) (r .last) (planIn l nodes)
+  pub fewer : (r .last ≡ 0 → ⊥) → r .enabled < p .enabled
 
--- the nodes from `from` on were tried; the answer is one past the last that goes, `from` where none does
-pub record LastGone (table : List (List ℕ)) (finals states nodes from : ℕ) (l m : List ℕ) (last : ℕ) : Type 0 where
+-- the nodes from `p .last` on were tried; the last is then one past the last that goes, as it was where none does
+pub record LastGone (table : List (List ℕ)) (finals states nodes : ℕ) (p : Progress) (l m : List ℕ) (r : Progress) : Type 0 where
   pub kept : PlanningKept l m
-  pub least : from ≤ last
-  pub within : last ≤ nodes
+  pub carried : Carried m nodes (r .enabled)
+  pub least : p .last ≤ r .last
+  pub within : r .last ≤ nodes
   pub exact
       : (j : Job) → JobHeld j l table finals states nodes → AfterHeld j l nodes
-      → (plan : List ℕ) → planIn l nodes ≡ passed (faithful j) from plan → planIn m nodes ≡ passed (faithful j) nodes plan
+      → (plan : List ℕ) → planIn l nodes ≡ passed (faithful j) (p .last) plan → planIn m nodes ≡ passed (faithful j) nodes plan
   pub after
-      : (j : Job) → JobHeld j l table finals states nodes → AfterHeld j l nodes → TriedFrom j last nodes (planIn m nodes)
-  pub fewer : enabledCount (planIn m nodes) ≤ enabledCount (planIn l nodes)
+      : (j : Job) → JobHeld j l table finals states nodes → AfterHeld j l nodes → TriedFrom j (r .last) nodes (planIn m nodes)
+  pub fewer : r .enabled ≤ p .enabled
 
--- a pass was made over a plan whose nodes from `first` on were tried since it last changed; the answer is one past the last node that
--- went, 0 where none did
-pub record PassMade (table : List (List ℕ)) (finals states nodes first : ℕ) (l m : List ℕ) (last : ℕ) : Type 0 where
+-- a pass was made over a plan whose nodes from `p .last` on were tried since it last changed; the last is then one past the last node
+-- that went, 0 where none did
+pub record PassMade (table : List (List ℕ)) (finals states nodes : ℕ) (p : Progress) (l m : List ℕ) (r : Progress) : Type 0 where
   pub kept : PlanningKept l m
-  pub within : last ≤ nodes
-  pub same : last ≡ 0 → planIn m nodes ≡ planIn l nodes
-  pub fewer : (last ≡ 0 → ⊥) → enabledCount (planIn m nodes) < enabledCount (planIn l nodes)
+  pub carried : Carried m nodes (r .enabled)
+  pub within : r .last ≤ nodes
+  pub same : r .last ≡ 0 → planIn m nodes ≡ planIn l nodes
+  pub fewer : (r .last ≡ 0 → ⊥) → r .enabled < p .enabled
   pub exact
-      : (j : Job) → JobHeld j l table finals states nodes → AfterHeld j l nodes → TriedFrom j first nodes (planIn l nodes)
+      : (j : Job) → JobHeld j l table finals states nodes → AfterHeld j l nodes → TriedFrom j (p .last) nodes (planIn l nodes)
       → planIn m nodes ≡ passed (faithful j) nodes (planIn l nodes)
   pub after
-      : (j : Job) → JobHeld j l table finals states nodes → AfterHeld j l nodes → TriedFrom j first nodes (planIn l nodes)
-      → TriedFrom j last nodes (planIn m nodes)
+      : (j : Job) → JobHeld j l table finals states nodes → AfterHeld j l nodes → TriedFrom j (p .last) nodes (planIn l nodes)
+      → TriedFrom j (r .last) nodes (planIn m nodes)
+  pub stands
+      : (j : Job) → JobHeld j l table finals states nodes → AfterHeld j l nodes → TriedFrom j (p .last) nodes (planIn l nodes)
+      → (k : ℕ) → Stands j k 0 (planIn l nodes) (p .enabled) → Stands j (suc k) 0 (planIn m nodes) (r .enabled)
 
 -- passes were made until one changed nothing, which is counted too
-pub record PassesMade (table : List (List ℕ)) (finals states nodes : ℕ) (l m : List ℕ) (count : ℕ) : Type 0 where
+pub record PassesMade (table : List (List ℕ)) (finals states nodes : ℕ) (l m : List ℕ) (total : ℕ) (answer : Counts) : Type 0 where
   pub kept : PlanningKept l m
+  pub points : answer .shadows ≡ total
+  pub carried : Carried m nodes (answer .enabled)
   pub plan
       : (j : Job) → JobHeld j l table finals states nodes → AfterHeld j l nodes → planIn l nodes ≡ allEnabled j
       → planIn m nodes ≡ planOf j .plan
   pub passes
       : (j : Job) → JobHeld j l table finals states nodes → AfterHeld j l nodes → planIn l nodes ≡ allEnabled j
-      → count ≡ planOf j .passes
-
--- the enabled nodes, counted
-unfoldable pub enabledTotal : List ℕ → ℕ → ℕ
-enabledTotal work nodes = sumBelow nodes (λ n. cond (enabledIn work n) 1 0)
+      → answer .passes ≡ planOf j .passes
+  pub stands
+      : (j : Job) → JobHeld j l table finals states nodes → AfterHeld j l nodes → Stands j 0 0 (planIn l nodes) total
+      → Stands j (answer .passes) 0 (planIn m nodes) (answer .enabled)
 
 -- planning was done: the plan, and the answer, which is the counts
 pub record PlanMade (table : List (List ℕ)) (finals states nodes : ℕ) (l m : List ℕ) (answer : Counts) : Type 0 where

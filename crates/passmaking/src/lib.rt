@@ -1,45 +1,55 @@
 // Passes over the plan: one pass, and passes until none removes a point.
 ghost use Prim.Native.Nat.{_≤_};
 ghost use Rattle.tables.specs.Held.{Usable};
-ghost use Rattle.passes.specs.Passes.{PassMade, PassesMade};
+ghost use Rattle.passes.specs.Passes.{Carried, PassMade, PassesMade};
+use passes::passes::Counts;
+use passes::passes::Progress;
 use tries::first_gone;
 use tries::last_gone;
 
-// One pass in number order, over a plan whose nodes from `first` on were tried since it last changed: where none before them goes it is over.
+// One pass in number order, over a plan whose nodes from the last on were tried since it last changed: where none before them goes it is over.
 fn pass(
     work: &mut [u8],
     table: &[[u8; 16]; 16],
     finals: u16,
     states: usize,
     nodes: usize,
-    first: usize,
-) -> usize
-    requires { ⌜ (first ≤ nodes) × Usable (now work) (now table) states nodes ⌝ }
-    ensures { λ r. ⌜ PassMade (now (table .entry)) finals states nodes first (now (work .entry)) (now (work .exit)) r ⌝ }
+    progress: Progress,
+) -> Progress
+    requires { ⌜ (progress .last ≤ nodes) × (Usable (now work) (now table) states nodes × Carried (now work) nodes (progress .enabled)) ⌝ }
+    ensures { λ r. ⌜ PassMade (now (table .entry)) finals states nodes progress (now (work .entry)) (now (work .exit)) r ⌝ }
 {
-    let from = first_gone(work, table, finals, states, nodes, first);
-    if from == 0 {
-        return 0;
+    let gone = first_gone(work, table, finals, states, nodes, progress);
+    if gone.last == 0 {
+        return gone;
     }
-    last_gone(work, table, finals, states, nodes, from)
+    last_gone(work, table, finals, states, nodes, gone)
 }
 
-// Passes until one changes nothing: how many.
+// Passes until one changes nothing, from a plan with all shadows enabled: the counts.
 pub fn passes(
     work: &mut [u8],
     table: &[[u8; 16]; 16],
     finals: u16,
     states: usize,
     nodes: usize,
-) -> usize
-    requires { ⌜ (1 ≤ nodes) × Usable (now work) (now table) states nodes ⌝ }
-    ensures { λ r. ⌜ PassesMade (now (table .entry)) finals states nodes (now (work .entry)) (now (work .exit)) r ⌝ }
+    shadows: usize,
+) -> Counts
+    requires { ⌜ (1 ≤ nodes) × (Usable (now work) (now table) states nodes × Carried (now work) nodes shadows) ⌝ }
+    ensures { λ r. ⌜ PassesMade (now (table .entry)) finals states nodes (now (work .entry)) (now (work .exit)) shadows r ⌝ }
 {
-    let mut first = nodes;
+    let mut progress = Progress {
+        enabled: shadows,
+        last: nodes,
+    };
     let mut count = 0;
-    while first != 0 {
-        first = pass(work, table, finals, states, nodes, first);
+    while progress.last != 0 {
+        progress = pass(work, table, finals, states, nodes, progress);
         count += 1;
     }
-    count
+    Counts {
+        shadows: shadows,
+        enabled: progress.enabled,
+        passes: count,
+    }
 }

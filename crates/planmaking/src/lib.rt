@@ -1,9 +1,8 @@
-// Passes in number order until one changes nothing.
+// All points watched, then passes in number order until one changes nothing.
 ghost use Prim.Native.Nat.{_≤_};
 ghost use Rattle.tables.specs.Held.{Usable};
 ghost use Rattle.passes.specs.Passes.{PlanMade};
 use enabling::enable_all;
-use enabling::enabled_total;
 use passes::passes::Counts;
 use passmaking::passes;
 
@@ -19,10 +18,5 @@ pub fn make_plan(
     ensures { λ r. ⌜ PlanMade (now (table .entry)) finals states nodes (now (work .entry)) (now (work .exit)) r ⌝ }
 {
     let shadows = enable_all(work, nodes);
-    let count = passes(work, table, finals, states, nodes);
-    Counts {
-        shadows: shadows,
-        enabled: enabled_total(work, nodes),
-        passes: count,
-    }
+    passes(work, table, finals, states, nodes, shadows)
 }

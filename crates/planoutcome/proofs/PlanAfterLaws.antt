@@ -21,10 +21,12 @@ use Rattle.jobfile.proofs.SpellableLaws.{read-written}
 use Rattle.buffer.specs.Buffer.{workSize}
 use Rattle.passes.specs.declared.passes.Counts.{Counts}
 use Rattle.passes.specs.Counts.{countsOf}
+use Rattle.passes.specs.Running.{Stands}
+use Rattle.passes.proofs.RunningLaws.{running-total}
 use Rattle.planoutcome.specs.declared.plan.Outcome.the-variants.{Planned, Refused}
 use Rattle.admission.specs.Admission.{admitted, WrittenFirst}
 use Rattle.planoutcome.specs.PlanCall.{planSize, planAnswer, outcomeOf, planAfter, planNumber}
-use Rattle.planoutcome.specs.PlanSays.{PlanLeft, planned, unchanged, PlanBytesSay, CountsFit, PlanCountsFit, outcomeRead, SeenByNumber}
+use Rattle.planoutcome.specs.PlanSays.{PlanLeft, planned, unchanged, PlanBytesSay, CountsFit, PlanCountsFit, outcomeRead, SeenByNumber, TotalInNumber}
 use Rattle.admission.proofs.AdmissionLaws.{admitted-reads, admitted-small}
 use Rattle.admission.proofs.CallLaws.{written-first}
 use Rattle.planoutcome.proofs.CountLaws.{counts-admitted}
@@ -85,14 +87,19 @@ counts-fit file short c e = go (admitted file short) refl e
         subst (λ (x : Counts). CountsFit x) (sym same) (fit-admitted file short j is)
     go (turned k) is e = let z : _≡_ {A = ℕ} 0 1 = cc e in absurd (omega arith)
 
+-- the watched points and the passes in a number of counts that fit
+number-enabled : (c : Counts) → CountsFit c → planNumber (Planned c) / 2 ^ 16 % 2 ^ 16 ≡ c .enabled
+number-enabled c fit = omega (arith, fit .shadows, fit .enabled, fit .passes)
+
+number-passes : (c : Counts) → CountsFit c → planNumber (Planned c) % 2 ^ 16 ≡ c .passes
+number-passes c fit = omega (arith, fit .shadows, fit .enabled, fit .passes)
+
 -- counts that fit are read back
 read-counts : (c : Counts) → CountsFit c → outcomeRead (planNumber (Planned c)) ≡ Planned c
 read-counts c fit =
     let n = planNumber (Planned c) in
     let shadows : n / 2 ^ 32 % 2 ^ 16 ≡ c .shadows = omega (arith, fit .shadows, fit .enabled, fit .passes) in
-    let enabled : n / 2 ^ 16 % 2 ^ 16 ≡ c .enabled = omega (arith, fit .shadows, fit .enabled, fit .passes) in
-    let passes : n % 2 ^ 16 ≡ c .passes = omega (arith, fit .shadows, fit .enabled, fit .passes) in
-    simp (le-ltb n acceptedFrom (omega arith), shadows, enabled, passes)
+    simp (le-ltb n acceptedFrom (omega arith), shadows, number-enabled c fit, number-passes c fit)
 
 -- a refusal's number is read back
 read-refusal : (k : ℕ) → k ≤ 15 → outcomeRead (planNumber (Refused k)) ≡ Refused k
@@ -124,3 +131,14 @@ seen-by-number =
       );
       read-back = λ file work plan. answer-read file work plan (planAnswer file work plan) refl;
     }
+
+-- the watched points in the number are the total that was carried along
+pub total-in-number : TotalInNumber
+total-in-number file work plan j e =
+    let fit = plan-counts-fit file work plan j e in
+    let n = planNumber (outcomeOf (planAnswer file work plan)) in
+    let total : n / 2 ^ 16 % 2 ^ 16 ≡ countsOf j .enabled = rw e (number-enabled (countsOf j) fit) in
+    let passes : n % 2 ^ 16 ≡ countsOf j .passes = rw e (number-passes (countsOf j) fit) in
+    let stands = running-total .returned j (read-written file j (plan-answer-reads file work plan j e) .1 .well-formed) in
+    subst (Stands j (n % 2 ^ 16) 0 (planOf j .plan)) (sym total)
+    (subst (λ (k : ℕ). Stands j k 0 (planOf j .plan) (countsOf j .enabled)) (sym passes) stands)

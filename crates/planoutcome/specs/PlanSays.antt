@@ -15,6 +15,7 @@ use Rattle.planning.specs.Listing.{planOf}
 use Rattle.jobfile.specs.File.{Answer, accepted, turned}
 use Rattle.passes.specs.declared.passes.Counts.{Counts}
 use Rattle.passes.specs.Counts.{countsOf}
+use Rattle.passes.specs.Running.{Stands}
 use Rattle.admission.specs.Admission.{WrittenFirst}
 use Rattle.planoutcome.specs.declared.plan.Outcome.{Outcome}
 use Rattle.planoutcome.specs.declared.plan.Outcome.the-variants.{Planned, Refused}
@@ -58,3 +59,11 @@ pub record SeenByNumber : Type 0 where
   pub read-back
       : (file : List ℕ) (work plan : ℕ)
       → outcomeRead (planNumber (outcomeOf (planAnswer file work plan))) ≡ outcomeOf (planAnswer file work plan)
+
+-- the statement: in the number of an accepted job the watched points are the total that planning carried along, as it stands when the
+-- passes in the number are over (document 02, request 3)
+abbrev pub TotalInNumber : Type 0
+TotalInNumber =
+    (file : List ℕ) (work plan : ℕ) (j : Job) → planAnswer file work plan ≡ accepted j
+    → let n = planNumber (outcomeOf (planAnswer file work plan)) in
+    Stands j (n % 2 ^ 16) 0 (planOf j .plan) (n / 2 ^ 16 % 2 ^ 16)

@@ -1,12 +1,12 @@
 // One try: a node goes where the plan without it is faithful.
 ghost use Prim.Native.Nat.{_<_};
 ghost use Rattle.tables.specs.Held.{Usable};
-ghost use Rattle.passes.specs.Passes.{TriedAt};
+ghost use Rattle.passes.specs.Passes.{Carried, TriedAt};
 use buffer::PLAN;
 use graphreads::is_enabled;
 use search::search::is_faithful;
 
-// Tries node n: 1 where it goes, 0 where it stays or is not enabled.
+// Tries node n: the watched total that is left, one less where the node goes.
 pub fn try_node(
     work: &mut [u8],
     table: &[[u8; 16]; 16],
@@ -14,17 +14,19 @@ pub fn try_node(
     states: usize,
     nodes: usize,
     n: usize,
+    total: usize,
 ) -> usize
-    requires { ⌜ (n < nodes) × Usable (now work) (now table) states nodes ⌝ }
-    ensures { λ r. ⌜ TriedAt (now (table .entry)) finals states nodes n (now (work .entry)) (now (work .exit)) r ⌝ }
+    requires { ⌜ (n < nodes) × (Usable (now work) (now table) states nodes × Carried (now work) nodes total) ⌝ }
+    ensures { λ r. ⌜ TriedAt (now (table .entry)) finals states nodes n (now (work .entry)) (now (work .exit)) total r ⌝ }
 {
     if !is_enabled(work, n) {
-        return 0;
+        return total;
     }
+    let left = total - 1;
     work[PLAN + n] = 0;
     if is_faithful(work, table, finals, states, nodes) {
-        return 1;
+        return left;
     }
     work[PLAN + n] = 1;
-    0
+    total
 }

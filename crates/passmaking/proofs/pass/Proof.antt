@@ -1,4 +1,4 @@
--- `passmaking::pass` meets its contract: where none of the nodes before `first` goes the plan is as it was.
+-- `passmaking::pass` meets its contract: where none of the nodes before the last goes the plan is as it was.
 -- Assumes nothing.
 use native.Mathlib.Omega.{arith}
 use borrow.Author.Needs.{needs}
@@ -15,21 +15,22 @@ same-length c = search needs
 
 returns : tie.Need-returns
 returns c =
-    pass-none (c .before .before .before .before .before .before .pre .0) (omega arith) (c .before .before .before .first-gone .ensures)
+    let p = c .before .before .before .before .before .before .before .pre in
+    pass-none (p .0) (omega arith) (c .before .before .before .before .first-gone .ensures)
 
 last-gone-requires : tie.Need-last-gone-requires
 last-gone-requires c κs =
-    let p = c .before .before .before .before .before .before .before .pre in
-    let g = c .before .before .before .before .first-gone .ensures in
-    (omega (arith, g .within, p .0), usable-kept (g .kept) (p .1))
+    let p = c .before .before .before .before .before .before .before .before .pre in
+    let g = c .before .before .before .before .before .first-gone .ensures in
+    (omega (arith, g .within, p .0), (usable-kept (g .kept) (p .1 .0), g .carried))
 
 same-length-2 : tie.Need-same-length-2
 same-length-2 c = search needs
 
 returns-2 : tie.Need-returns-2
 returns-2 c =
-    let u = c .before .before .before .before .before .before .before .before .before .before .pre .1 in
-    let g = c .before .before .before .before .before .before .before .first-gone .ensures in
+    let u = c .before .before .before .before .before .before .before .before .before .before .before .pre .1 .0 in
+    let g = c .before .before .before .before .before .before .before .before .first-gone .ensures in
     pass-some u (λ e. omega arith) g (c .before .before .last-gone .ensures)
 
 pub pass-spec : {M : Type 1} → statement M

@@ -1,4 +1,4 @@
--- `planmaking::make_plan` meets its contract: all points watched, then passes, then the count of those left.
+-- `planmaking::make_plan` meets its contract: all points watched, then passes with their number.
 -- Assumes nothing.
 use borrow.Author.Needs.{needs}
 use Rattle.passes.proofs.PlanInLaws.{planning-plan, usable-kept}
@@ -12,21 +12,16 @@ enable-all-requires c κs = search needs
 passes-requires : tie.Need-passes-requires
 passes-requires c κs =
     let p = c .before .before .before .before .before .before .pre in
-    (p .0, usable-kept (planning-plan (c .before .before .before .enable-all .ensures .kept)) (p .1))
-
-enabled-total-requires : tie.Need-enabled-total-requires
-enabled-total-requires c κs = search needs
+    let all = c .before .before .before .enable-all .ensures in
+    (p .0, (usable-kept (planning-plan (all .kept)) (p .1), all .carried))
 
 same-length : tie.Need-same-length
 same-length c = search needs
 
 returns : tie.Need-returns
 returns c =
-    let u = c .before .before .before .before .before .before .before .before .before .before .before .pre .1 in
-    let all = c .before .before .before .before .before .before .before .before .enable-all .ensures in
-    plan-made u all (c .before .before .before .before .passes .ensures) (c .enabled-total .ensures)
+    let u = c .before .before .before .before .before .before .before .before .before .pre .1 in
+    plan-made u (c .before .before .before .before .before .before .enable-all .ensures) (c .before .before .passes .ensures)
 
 pub make-plan-spec : {M : Type 1} → statement M
-make-plan-spec =
-    tie.close
-    (tie.spec enable-all-requires passes-requires enabled-total-requires same-length returns)
+make-plan-spec = tie.close (tie.spec enable-all-requires passes-requires same-length returns)

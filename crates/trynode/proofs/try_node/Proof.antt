@@ -7,7 +7,7 @@ use lib.ListN.{length-set}
 use borrow.Author.Tests.{not-true, not-false}
 use borrow.Author.Needs.{needs}
 use Rattle.buffer.specs.Layout.{planPart}
-use Rattle.passes.proofs.TryLaws.{cleared-usable, try-disabled, try-removed, try-needed}
+use Rattle.passes.proofs.TryLaws.{cleared-usable, try-disabled, some-watched, try-removed, try-needed}
 use Rattle.trynode.proofs.try_node.Statement.{statement}
 use Rattle.trynode.proofs.try_node.Tie as tie
 
@@ -20,7 +20,13 @@ same-length c = search needs
 returns : tie.Need-returns
 returns c =
     let p = c .before .before .before .before .pre in
-    try-disabled (p .0) (p .1) (sym (c .before .is-enabled .ensures) ∙ not-true _ (c .if1 .taken))
+    try-disabled (p .0) (p .1 .0) (p .1 .1) (sym (c .before .is-enabled .ensures) ∙ not-true _ (c .if1 .taken))
+
+sub-left : tie.Need-sub-left
+sub-left c =
+    let p = c .before .before .before .before .pre in
+    let enabled = sym (c .before .is-enabled .ensures) ∙ not-false _ (c .if1 .left) in
+    some-watched (p .0) (p .1 .0) (p .1 .1) enabled
 
 add-work : tie.Need-add-work
 add-work c = search needs
@@ -29,7 +35,7 @@ slice-write-work : tie.Need-slice-write-work
 slice-write-work c = search needs
 
 is-faithful-requires : tie.Need-is-faithful-requires
-is-faithful-requires c κs = let p = c .before .before .before .before .before .pre in cleared-usable (p .0) (p .1)
+is-faithful-requires c κs = let p = c .before .before .before .before .before .pre in cleared-usable (p .0) (p .1 .0)
 
 same-length-2 : tie.Need-same-length-2
 same-length-2 c =
@@ -40,7 +46,8 @@ returns-2 : tie.Need-returns-2
 returns-2 c =
     let p = c .before .before .before .before .before .before .before .before .before .pre in
     let enabled = sym (c .before .before .before .before .before .before .is-enabled .ensures) ∙ not-false _ (c .before .before .before .before .before .if1 .left) in
-    try-removed (p .0) (p .1) enabled (c .before .before .before .is-faithful .ensures) (c .if2 .taken)
+    try-removed (p .0) (p .1 .0) (p .1 .1) enabled (c .before .before .before .is-faithful .ensures)
+    (omega (arith, some-watched (p .0) (p .1 .0) (p .1 .1) enabled)) (c .if2 .taken)
 
 add-work-2 : tie.Need-add-work-2
 add-work-2 c = search needs
@@ -50,19 +57,19 @@ slice-write-work-2 c =
     let a = c .before .before .before .before .before .before .before .before .before .args in
     let p = c .before .before .before .before .before .before .before .before .before .pre in
     let kept = c .before .before .before .is-faithful .ensures .kept in
-    omega (arith, kept .long, length-set (a .work .now) (planPart + a .n) 0, p .0, p .1 .long, p .1 .few-nodes)
+    omega (arith, kept .long, length-set (a .work .now) (planPart + a .n) 0, p .0, p .1 .0 .long, p .1 .0 .few-nodes)
 
 same-length-3 : tie.Need-same-length-3
 same-length-3 c =
     let a = c .before .before .before .before .before .before .before .before .before .args in
     let f = c .before .before .before .is-faithful in
-    length-set (f .last .0) (planPart + a .n) 1 ∙ f .ensures .kept .long ∙ length-set (a .work .now) (planPart + a .n) 0
+    length-set (f .last .0) (planPart + a .n) _ ∙ f .ensures .kept .long ∙ length-set (a .work .now) (planPart + a .n) 0
 
 returns-3 : tie.Need-returns-3
 returns-3 c =
     let p = c .before .before .before .before .before .before .before .before .before .pre in
     let enabled = sym (c .before .before .before .before .before .before .is-enabled .ensures) ∙ not-false _ (c .before .before .before .before .before .if1 .left) in
-    try-needed (p .0) (p .1) enabled (c .before .before .before .is-faithful .ensures) (c .if2 .left)
+    try-needed (p .0) (p .1 .0) (p .1 .1) enabled (c .before .before .before .is-faithful .ensures) (c .if2 .left)
 
 pub try-node-spec : {M : Type 1} → statement M
 try-node-spec =
@@ -71,6 +78,7 @@ try-node-spec =
     is-enabled-requires
     same-length
     returns
+    sub-left
     add-work
     slice-write-work
     is-faithful-requires
