@@ -2,6 +2,7 @@
 //! stays faithful, until a pass changes nothing; it is counted too. The watched total is carried along
 //! and lowered when a point goes.
 use crate::found::found;
+use crate::job::EVENT;
 use crate::search::difference;
 use crate::slip::Slip;
 use crate::walk::Walks;
@@ -24,7 +25,7 @@ pub fn plan(walks: &Walks) -> Planned {
     let (mut plan, mut watched) = all_watched(walks);
     let points = points_to_try(walks);
     let mut passes = 0;
-    let mut after_first = None;
+    let (mut after_first, mut before_last) = (None, watched);
     loop {
         passes += 1;
         let (changed, total) = match walks.slip {
@@ -37,6 +38,9 @@ pub fn plan(walks: &Walks) -> Planned {
             _ => false,
         };
         after_first.get_or_insert(total);
+        if changed {
+            before_last = watched;
+        }
         watched = total;
         if !changed || over {
             break;
@@ -55,6 +59,7 @@ pub fn plan(walks: &Walks) -> Planned {
         }
         Some(Slip::EveryNodeCounted) => planned.points = job.nodes.len() as u64,
         Some(Slip::WatchedAfterPassOne) => planned.watched = after_first.unwrap_or(0),
+        Some(Slip::WatchedBeforeLastRemoval) => planned.watched = before_last,
         _ => {}
     }
     planned
@@ -63,7 +68,10 @@ pub fn plan(walks: &Walks) -> Planned {
 /// The plan with all points watched, and its watched total.
 fn all_watched(walks: &Walks) -> (Vec<u8>, u64) {
     let plan = walks.job.all_watched();
-    let watched = walks.job.points().len() as u64;
+    let watched = match walks.slip {
+        Some(Slip::TotalStartsFromAllNodes) => plan.len(),
+        _ => walks.job.points().len(),
+    } as u64;
     hold(walks, &plan, watched, "at the start");
     (plan, watched)
 }
@@ -84,6 +92,7 @@ fn points_to_try(walks: &Walks) -> Vec<usize> {
         Some(Slip::FallingOrder) => points.reverse(),
         Some(Slip::LastPointNotTried) => drop(points.pop()),
         Some(Slip::NothingRemoved) => points.clear(),
+        Some(Slip::LoweredAtOtherNodes) => points = (0..walks.job.nodes.len()).collect(),
         Some(Slip::NopMarkDecides | Slip::UnreachedStaysWatched) => {
             let by_mark = walks.slips(Slip::NopMarkDecides);
             let found = found(walks, &walks.job.all_watched());
@@ -114,8 +123,15 @@ fn pass(walks: &Walks, points: &[usize], plan: &mut [u8], mut watched: u64) -> (
             plan[point] = 1;
         }
         let goes = plan[point] < before;
-        if goes {
-            watched -= 1;
+        let lowers = match walks.slip {
+            Some(Slip::LoweredWherePointStays) => before == 1,
+            Some(Slip::NotLoweredWherePointGoes) => false,
+            Some(Slip::LoweredAtOtherNodes) => goes || walks.job.nodes[point].kind != EVENT,
+            _ => goes,
+        };
+        if lowers {
+            // only a slip lowers it at 0
+            watched = watched.saturating_sub(1);
         }
         hold(walks, plan, watched, format_args!("after node {point}"));
         changed |= goes;
