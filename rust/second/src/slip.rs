@@ -187,6 +187,16 @@ slips! {
         EveryNodeCounted,
         /// The watched points are counted after the first pass.
         WatchedAfterPassOne,
+        /// The watched total is that from before the last pass that removed a point.
+        WatchedBeforeLastRemoval,
+        /// The watched total starts from N, the count of all nodes.
+        TotalStartsFromAllNodes,
+        /// The watched total is lowered where a point stays, too.
+        LoweredWherePointStays,
+        /// The watched total is not lowered where a point goes.
+        NotLoweredWherePointGoes,
+        /// The watched total is lowered at nodes that are no points, too.
+        LoweredAtOtherNodes,
     }
 
     /// Slips of what is found at a point, and of its line.

@@ -8,4 +8,5 @@ mod needed;
 mod refusals;
 mod sizes;
 mod slips;
+mod totals;
 mod trials;

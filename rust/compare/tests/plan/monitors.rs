@@ -1,4 +1,5 @@
 //! The first half of the third promise: two records on long walks, one under the plan of the library.
+use dapohiru::Counts;
 use dapohiru_compare::promise::walk;
 use dapohiru_compare::records::Tally;
 use dapohiru_compare::wrapper::{plan, WRAPPER};
@@ -12,11 +13,16 @@ use dapohiru_second::walk::Walks;
 
 /// The plan that the library writes for a job, whose file has any zeros.
 pub fn plan_of(random: &mut Random, job: &Job) -> Vec<u8> {
+    counted_plan_of(random, job).1
+}
+
+/// The same plan, with what the library counts.
+pub fn counted_plan_of(random: &mut Random, job: &Job) -> (Counts, Vec<u8>) {
     let mut bytes = vec![7; 512];
     let file = filled(random, job.file());
-    plan(&file, &mut [0; WORK], &mut bytes).expect("the job is planned");
+    let counts = plan(&file, &mut [0; WORK], &mut bytes).expect("the job is planned");
     bytes.truncate(job.nodes.len());
-    bytes
+    (counts, bytes)
 }
 
 /// What walks of many jobs came to.
