@@ -27,7 +27,7 @@ use Rattle.passes.specs.Running.{Stands}
 use Rattle.passes.specs.Passes.{PlanningKept, Carried, AllEnabled, PassesMade, PlanMade}
 use Rattle.passes.proofs.PlanInLaws.{plan-in-byte, plan-in-length, planning-both, planning-plan, plan-stored}
 use Rattle.passes.proofs.PlanInLaws.{node-kept, job-kept, after-kept}
-use Rattle.passes.proofs.RunningLaws.{stands-at, stands-start}
+use Rattle.passes.proofs.RunningLaws.{stands-at, stands-start, stands-unique, stands-planned}
 
 -- ---- marks of shadows
 
@@ -99,7 +99,7 @@ pub enabled-end
     → AllEnabled l m nodes count
 unfolding markIn
 enabled-end {l} {m} {n} {nodes} {count} long few is g′ =
-    record { kept = g .kept; carried = carried; exact = exact; stands = λ j table finals states h. stands j table finals states h }
+    record { kept = g .kept; carried = carried; exact = exact; stands = stands }
   where
     g : EnabledSoFar l m nodes count
     g = subst (λ (k : ℕ). EnabledSoFar l m k count) is g′
@@ -144,8 +144,13 @@ plan-made {table} {finals} {states} {nodes} {l} {m} {k} {total} {answer} u a p =
       plan = plan;
       counts = λ j h r.
           let all = a .exact j table finals states h in
-          counts-are j answer (p .points ∙ a .carried ∙ ap enabledCount all) (p .carried ∙ ap enabledCount (plan j h r))
-          (p .passes j (job-kept first u h) (after-kept first u h r) all);
+          let passes = p .passes j (job-kept first u h) (after-kept first u h r) all in
+          let stands = p .stands j (job-kept first u h) (after-kept first u h r) 0 (a .stands j table finals states h) in
+          let ended : Stands j (planOf j .passes) 0 (planIn k nodes) (answer .enabled) =
+          subst (λ (i : ℕ). Stands j i 0 (planIn k nodes) (answer .enabled)) (omega (arith, passes)) stands
+          in
+          counts-are j answer (p .shadows ∙ a .carried ∙ ap enabledCount all)
+          (stands-unique ended (stands-planned j (h .formed)) .1) passes;
     }
   where
     first : PlanningKept l m

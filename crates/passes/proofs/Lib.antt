@@ -2,6 +2,7 @@
 -- Assumes nothing.
 pub mod PlanInLaws
 pub mod RunningLaws
+pub mod RunningTrialsPass
 pub mod TryLaws
 pub mod GoneLaws
 pub mod PassMadeLaws

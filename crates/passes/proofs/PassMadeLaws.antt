@@ -4,6 +4,7 @@ use mathlib.Core.Path.{_≡_, refl, sym, ap, subst, _∙_}
 use mathlib.Core.List.{List}
 use Prim.Native.Nat.{ℕ, zero, suc, _+_, _*_, _≤_, _<_, zero-le}
 use native.Mathlib.Nat.{le-refl}
+use native.Mathlib.Numerals.{add-one}
 use native.Mathlib.Omega.{arith}
 use lib.ListN.{length, getD}
 use Rattle.laws.specs.Bytes.{AreBytes}
@@ -19,17 +20,17 @@ use Rattle.buffer.specs.Layout.{planPart, Lent}
 use Rattle.buffer.specs.Views.{planIn}
 use Rattle.tables.specs.Held.{Usable, JobHeld, AfterHeld}
 use Rattle.passes.specs.declared.passes.Progress.{Progress}
-use Rattle.passes.specs.Running.{Stands, start}
+use Rattle.passes.specs.Running.{Stands, next-pass}
 use Rattle.passes.specs.Passes.{PlanningKept, Carried, TriedFrom, FirstGone, LastGone, PassMade, PassesMade}
 use Rattle.passes.proofs.PlanInLaws.{plan-in-byte, plan-in-length, planning-none, planning-both, job-kept, after-kept}
-use Rattle.passes.proofs.RunningLaws.{stands-at, stands-pass, stands-unique, stands-planned}
+use Rattle.passes.proofs.RunningLaws.{stands-at, stands-pass}
 
 -- ---- a pass
 
 -- where planning stands after it
 pass-stands
     : {j : Job} {k nodes total rest : ℕ} {plan left : List ℕ} → WellFormedJob j → nodes ≡ length (j .nodes)
-    → left ≡ passed (faithful j) nodes plan → rest ≡ enabledCount left → Stands j k 0 plan total → Stands j (suc k) 0 left rest
+    → left ≡ passed (faithful j) nodes plan → rest ≡ enabledCount left → Stands j k 0 plan total → Stands j (k + 1) 0 left rest
 pass-stands {j} {plan = plan} wf is e c s = stands-at (e ∙ ap (λ (n : ℕ). passed (faithful j) n plan) is) c (stands-pass wf s)
 
 -- none went
@@ -74,15 +75,13 @@ pass-some {table} {finals} {states} {nodes} {p} {q} {r} {l} {m} {k} u ne g t =
       within = t .within;
       same = λ z. absurd (ne (omega (arith, t .least)));
       fewer = λ z. omega (arith, g .fewer ne, t .fewer);
-      exact = λ j h a f. exact j h a;
+      exact = λ j h a f.
+          t .exact j (job-kept (g .kept) u h) (after-kept (g .kept) u h a) (planIn l nodes) (g .exact ne j h a);
       after = λ j h a f. t .after j (job-kept (g .kept) u h) (after-kept (g .kept) u h a);
-      stands = λ j h a f i s. pass-stands (h .formed) (h .nodes-are) (exact j h a) (t .carried) s;
+      stands = λ j h a f i s.
+          let whole = t .stands j (job-kept (g .kept) u h) (after-kept (g .kept) u h a) i (g .stands ne j h a i s) in
+          rw (add-one i) (next-pass (subst (λ (n : ℕ). Stands j i n (planIn k nodes) (r .enabled)) (h .nodes-are) whole));
     }
-  where
-    exact : (j : Job) → JobHeld j l table finals states nodes → AfterHeld j l nodes
-        → planIn k nodes ≡ passed (faithful j) nodes (planIn l nodes)
-    exact j h a =
-        t .exact j (job-kept (g .kept) u h) (after-kept (g .kept) u h a) (planIn l nodes) (g .exact ne j h a)
 
 -- ---- passes
 
@@ -110,6 +109,9 @@ pub record Passing (table : List (List ℕ)) (finals states nodes : ℕ) (l m : 
   pub after
       : (p .last ≡ 0 → ⊥) → (j : Job) → JobHeld j l table finals states nodes → AfterHeld j l nodes
       → TriedFrom j (p .last) nodes (planIn m nodes)
+  pub stands
+      : (j : Job) → JobHeld j l table finals states nodes → AfterHeld j l nodes
+      → (k : ℕ) → Stands j k 0 (planIn l nodes) total → Stands j (k + count) 0 (planIn m nodes) (p .enabled)
   pub ended
       : p .last ≡ 0 → (j : Job) → JobHeld j l table finals states nodes → AfterHeld j l nodes
       → settled (faithful j) nodes (planIn l nodes) ≡ record { plan = planIn m nodes; passes = count }
@@ -118,7 +120,7 @@ pub record Passing (table : List (List ℕ)) (finals states nodes : ℕ) (l m : 
 pub passing-start
     : {table : List (List ℕ)} {finals states nodes total : ℕ} (l : List ℕ) → 1 ≤ nodes → Carried l nodes total
     → Passing table finals states nodes l l total (record { enabled = total; last = nodes }) 0
-passing-start {nodes = nodes} l h c =
+passing-start {nodes = nodes} {total = total} l h c =
     record {
       kept = planning-none l;
       carried = c;
@@ -126,6 +128,7 @@ passing-start {nodes = nodes} l h c =
       few = λ z. omega arith;
       underway = λ z j h a. underway-start (faithful j) nodes (planIn l nodes);
       after = λ z j h a. kept-none (faithful j) nodes (planIn l nodes);
+      stands = λ j h a k s. subst (λ (i : ℕ). Stands j i 0 (planIn l nodes) total) (omega arith) s;
       ended = λ z. absurd (omega arith);
     }
 
@@ -134,7 +137,7 @@ pub passing-more
     : {table : List (List ℕ)} {finals states nodes total : ℕ} {l m k : List ℕ} {p r : Progress} {count : ℕ} → Usable l table states nodes
     → (p .last ≡ 0 → ⊥) → Passing table finals states nodes l m total p count → PassMade table finals states nodes p m k r
     → Passing table finals states nodes l k total r (count + 1)
-passing-more {nodes = nodes} {l = l} {m = m} {k = k} {count = count} u ne g t =
+passing-more {nodes = nodes} {l = l} {m = m} {k = k} {r = r} {count = count} u ne g t =
     record {
       kept = planning-both (g .kept) (t .kept);
       carried = t .carried;
@@ -146,6 +149,9 @@ passing-more {nodes = nodes} {l = l} {m = m} {k = k} {count = count} u ne g t =
           (underway-more (faithful j) nodes (planIn l nodes) (planIn m nodes) count (g .underway ne j h a)
           (λ q. omega (arith, t .fewer z, t .carried, g .carried, ap enabledCount (e ∙ q))));
       after = λ z j h a. t .after j (job-kept (g .kept) u h) (after-kept (g .kept) u h a) (g .after ne j h a);
+      stands = λ j h a i s.
+          let next = t .stands j (job-kept (g .kept) u h) (after-kept (g .kept) u h a) (g .after ne j h a) (i + count) (g .stands j h a i s) in
+          subst (λ (n : ℕ). Stands j n 0 (planIn k nodes) (r .enabled)) (omega arith) next;
       ended = λ z j h a.
           let e = t .exact j (job-kept (g .kept) u h) (after-kept (g .kept) u h a) (g .after ne j h a) in
           let same = t .same z in
@@ -178,14 +184,11 @@ pub passing-end
 passing-end {table} {finals} {states} {nodes} {total} {l} {m} {p} {count} e g =
     record {
       kept = g .kept;
-      points = refl;
+      shadows = refl;
       carried = g .carried;
-      plan = plan;
-      passes = passes;
-      stands = λ j h a s.
-          let all = stands-unique {j = j} s start .0 in
-          subst (λ (k : ℕ). Stands j k 0 (planIn m nodes) (p .enabled)) (sym (passes j h a all))
-          (stands-at (plan j h a all) (g .carried) (stands-planned j (h .formed)));
+      plan = λ j h a s. ap (λ (r : Planned). r .plan) (result j h a s);
+      passes = λ j h a s. ap (λ (r : Planned). r .passes) (result j h a s);
+      stands = g .stands;
     }
   where
     result : (j : Job) → JobHeld j l table finals states nodes → AfterHeld j l nodes → planIn l nodes ≡ allEnabled j
@@ -193,11 +196,3 @@ passing-end {table} {finals} {states} {nodes} {total} {l} {m} {p} {count} e g =
     result j h a s =
         sym (g .ended e j h a) ∙ ap (settled (faithful j) nodes) s
         ∙ ap (λ (n : ℕ). settled (faithful j) n (allEnabled j)) (h .nodes-are)
-
-    plan : (j : Job) → JobHeld j l table finals states nodes → AfterHeld j l nodes → planIn l nodes ≡ allEnabled j
-        → planIn m nodes ≡ planOf j .plan
-    plan j h a s = ap (λ (r : Planned). r .plan) (result j h a s)
-
-    passes : (j : Job) → JobHeld j l table finals states nodes → AfterHeld j l nodes → planIn l nodes ≡ allEnabled j
-        → count ≡ planOf j .passes
-    passes j h a s = ap (λ (r : Planned). r .passes) (result j h a s)

@@ -26,12 +26,12 @@ use Rattle.passes.proofs.RunningLaws.{stands-at, stands-tried}
 
 module _ {table : List (List ℕ)} {states nodes n : ℕ} {l : List ℕ} (small : n < nodes) (u : Usable l table states nodes) where
   -- the store of a plan byte keeps the rest
-  cleared-kept : PlanningKept l (set l (planPart + n) 0)
-  cleared-kept = planning-plan (plan-stored l n 0 (lt-of-lt-of-le small (u .few-nodes)))
+  stored-kept : (v : ℕ) → PlanningKept l (set l (planPart + n) v)
+  stored-kept v = planning-plan (plan-stored l n v (lt-of-lt-of-le small (u .few-nodes)))
 
-  -- the buffer with the node disabled may be searched
-  pub cleared-usable : Usable (set l (planPart + n) 0) table states nodes
-  cleared-usable = usable-kept cleared-kept u
+  -- the buffer may be searched after it
+  pub stored-usable : (v : ℕ) → Usable (set l (planPart + n) v) table states nodes
+  stored-usable v = usable-kept (stored-kept v) u
 
   module _ {total : ℕ} (c : Carried l nodes total) where
     -- what a try leaves, and so where planning stands
@@ -63,28 +63,28 @@ module _ {table : List (List ℕ)} {states nodes n : ℕ} {l : List ℕ} (small 
       enabled-here = plan-in-enables l nodes n small ∙ w
 
       -- so some point is watched
-      pub some-watched : 1 ≤ total
-      some-watched = omega (arith, c, count-set (planIn l nodes) n enabled-here)
+      pub some-enabled : 1 ≤ total
+      some-enabled = omega (arith, c, count-set (planIn l nodes) n enabled-here)
 
       module _ {finals : ℕ} {m : List ℕ} {answer : Bool} (s : SearchedAt table finals states nodes (set l (planPart + n) 0) m answer) where
         -- the search leaves the plan without the node
         plan-searched : planIn m nodes ≡ set (planIn l nodes) n 0
         plan-searched =
             plan-in-same (set l (planPart + n) 0) m nodes (s .kept .long)
-            (λ k g h. s .kept .outside k (inr (omega arith), inl (omega arith))) (cleared-usable .long) (u .few-nodes)
+            (λ k g h. s .kept .outside k (inr (omega arith), inl (omega arith))) (stored-usable 0 .long) (u .few-nodes)
             ∙ plan-in-set l nodes n 0 small
 
         -- its answer is that of the plan without the node
         answer-is : (j : Job) → JobHeld j l table finals states nodes → AfterHeld j l nodes → answer ≡ faithful j (set (planIn l nodes) n 0)
         answer-is j h a =
-            s .exact j (planIn (set l (planPart + n) 0) nodes) (job-kept cleared-kept u h) (plan-in-held (set l (planPart + n) 0) nodes)
-            (after-kept cleared-kept u h a)
+            s .exact j (planIn (set l (planPart + n) 0) nodes) (job-kept (stored-kept 0) u h) (plan-in-held (set l (planPart + n) 0) nodes)
+            (after-kept (stored-kept 0) u h a)
             .exact
             ∙ ap (faithful j) (plan-in-set l nodes n 0 small)
 
         -- what the store and the search keep
         searched-kept : PlanningKept l m
-        searched-kept = planning-both cleared-kept (planning-search (s .kept))
+        searched-kept = planning-both (stored-kept 0) (planning-search (s .kept))
 
         -- the plan without it is faithful: it goes
         pub try-removed : {left : ℕ} → left + 1 ≡ total → answer ≡ true → TriedAt table finals states nodes n l m total left

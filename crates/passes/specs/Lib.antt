@@ -2,5 +2,6 @@
 -- Assumes nothing.
 pub mod Counts
 pub mod Running
+pub mod RunningTrials
 -- inner contracts
 pub mod Passes

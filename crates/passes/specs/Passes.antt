@@ -3,7 +3,7 @@
 -- Assumes nothing.
 use mathlib.Core.Path.{_≡_}
 use mathlib.Core.List.{List}
-use Prim.Native.Nat.{ℕ, suc, _+_, _≤_, _<_}
+use Prim.Native.Nat.{ℕ, _+_, _≤_, _<_}
 use Rattle.job.specs.Job.{Job}
 use Rattle.planning.specs.Planning.{allEnabled, tried, passed, enabledCount}
 use Rattle.planning.specs.Listing.{planOf}
@@ -21,19 +21,19 @@ use Rattle.passes.specs.Running.{Stands}
 abbrev pub PlanningKept : List ℕ → List ℕ → Type 0
 PlanningKept = Kept (λ k. Outside pairPart classPart k × Outside planPart marksEnd k)
 
--- the total that is carried along: the number of watched points of the plan as it stands in the buffer
+-- the total that is carried along: the watched points of the plan as it stands in the buffer, counted as those returned are
 abbrev pub Carried : List ℕ → ℕ → ℕ → Type 0
 Carried work nodes total = total ≡ enabledCount (planIn work nodes)
 
--- "all points start watched": the plan part holds 1 at each event node and 0 at any other
-pub record AllEnabled (l m : List ℕ) (nodes count : ℕ) : Type 0 where
+-- "all points start watched": the plan part holds 1 at each event node and 0 at any other, and the total is their number
+pub record AllEnabled (l m : List ℕ) (nodes total : ℕ) : Type 0 where
   pub kept : SameOutside l m planPart rulePart
-  pub carried : Carried m nodes count
+  pub carried : Carried m nodes total
   pub exact
       : (j : Job) (table : List (List ℕ)) (finals states : ℕ) → JobHeld j l table finals states nodes → planIn m nodes ≡ allEnabled j
   pub stands
       : (j : Job) (table : List (List ℕ)) (finals states : ℕ) → JobHeld j l table finals states nodes
-      → Stands j 0 0 (planIn m nodes) count
+      → Stands j 0 0 (planIn m nodes) total
 
 -- node n was tried: one less of the total is left where it goes
 pub record TriedAt (table : List (List ℕ)) (finals states nodes n : ℕ) (l m : List ℕ) (total left : ℕ) : Type 0 where
@@ -46,7 +46,7 @@ pub record TriedAt (table : List (List ℕ)) (finals states nodes n : ℕ) (l m 
   pub goes : (left ≡ total → ⊥) → left + 1 ≡ total
   pub stands
       : (j : Job) → JobHeld j l table finals states nodes → AfterHeld j l nodes
-      → (k : ℕ) → Stands j k n (planIn l nodes) total → Stands j k (suc n) (planIn m nodes) left
+      → (k : ℕ) → Stands j k n (planIn l nodes) total → Stands j k (n + 1) (planIn m nodes) left
 
 -- no try at a node from k on changes the plan
 abbrev pub TriedFrom : Job → ℕ → ℕ → List ℕ → Type 0
@@ -65,6 +65,9 @@ pub record FirstGone (table : List (List ℕ)) (finals states nodes : ℕ) (p : 
       : (r .last ≡ 0 → ⊥) → (j : Job) → JobHeld j l table finals states nodes → AfterHeld j l nodes
       → planIn m nodes ≡ passed (faithful j) (r .last) (planIn l nodes)
   pub fewer : (r .last ≡ 0 → ⊥) → r .enabled < p .enabled
+  pub stands
+      : (r .last ≡ 0 → ⊥) → (j : Job) → JobHeld j l table finals states nodes → AfterHeld j l nodes
+      → (k : ℕ) → Stands j k 0 (planIn l nodes) (p .enabled) → Stands j k (r .last) (planIn m nodes) (r .enabled)
 
 -- the nodes from `p .last` on were tried; the last is then one past the last that goes, as it was where none does
 pub record LastGone (table : List (List ℕ)) (finals states nodes : ℕ) (p : Progress) (l m : List ℕ) (r : Progress) : Type 0 where
@@ -78,6 +81,9 @@ pub record LastGone (table : List (List ℕ)) (finals states nodes : ℕ) (p : P
   pub after
       : (j : Job) → JobHeld j l table finals states nodes → AfterHeld j l nodes → TriedFrom j (r .last) nodes (planIn m nodes)
   pub fewer : r .enabled ≤ p .enabled
+  pub stands
+      : (j : Job) → JobHeld j l table finals states nodes → AfterHeld j l nodes
+      → (k : ℕ) → Stands j k (p .last) (planIn l nodes) (p .enabled) → Stands j k nodes (planIn m nodes) (r .enabled)
 
 -- a pass was made over a plan whose nodes from `p .last` on were tried since it last changed; the last is then one past the last node
 -- that went, 0 where none did
@@ -95,12 +101,12 @@ pub record PassMade (table : List (List ℕ)) (finals states nodes : ℕ) (p : P
       → TriedFrom j (r .last) nodes (planIn m nodes)
   pub stands
       : (j : Job) → JobHeld j l table finals states nodes → AfterHeld j l nodes → TriedFrom j (p .last) nodes (planIn l nodes)
-      → (k : ℕ) → Stands j k 0 (planIn l nodes) (p .enabled) → Stands j (suc k) 0 (planIn m nodes) (r .enabled)
+      → (k : ℕ) → Stands j k 0 (planIn l nodes) (p .enabled) → Stands j (k + 1) 0 (planIn m nodes) (r .enabled)
 
--- passes were made until one changed nothing, which is counted too
+-- passes were made until one changed nothing, which is counted too, from a plan with this total
 pub record PassesMade (table : List (List ℕ)) (finals states nodes : ℕ) (l m : List ℕ) (total : ℕ) (answer : Counts) : Type 0 where
   pub kept : PlanningKept l m
-  pub points : answer .shadows ≡ total
+  pub shadows : answer .shadows ≡ total
   pub carried : Carried m nodes (answer .enabled)
   pub plan
       : (j : Job) → JobHeld j l table finals states nodes → AfterHeld j l nodes → planIn l nodes ≡ allEnabled j
@@ -109,8 +115,8 @@ pub record PassesMade (table : List (List ℕ)) (finals states nodes : ℕ) (l m
       : (j : Job) → JobHeld j l table finals states nodes → AfterHeld j l nodes → planIn l nodes ≡ allEnabled j
       → answer .passes ≡ planOf j .passes
   pub stands
-      : (j : Job) → JobHeld j l table finals states nodes → AfterHeld j l nodes → Stands j 0 0 (planIn l nodes) total
-      → Stands j (answer .passes) 0 (planIn m nodes) (answer .enabled)
+      : (j : Job) → JobHeld j l table finals states nodes → AfterHeld j l nodes
+      → (k : ℕ) → Stands j k 0 (planIn l nodes) total → Stands j (k + answer .passes) 0 (planIn m nodes) (answer .enabled)
 
 -- planning was done: the plan, and the answer, which is the counts
 pub record PlanMade (table : List (List ℕ)) (finals states nodes : ℕ) (l m : List ℕ) (answer : Counts) : Type 0 where

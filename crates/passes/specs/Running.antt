@@ -14,23 +14,24 @@ use Rattle.planning.specs.Listing.{planOf, listingOf}
 use Rattle.passes.specs.Counts.{countsOf}
 
 -- the event nodes of a job, counted
-abbrev pub pointCount : Job → ℕ
-pointCount j = sumBelow (length (j .nodes)) (λ n. cond (isEvent (nodeAt j n .kind)) 1 0)
+abbrev pub shadowTotal : Job → ℕ
+shadowTotal j = sumBelow (length (j .nodes)) (λ n. cond (isEvent (nodeAt j n .kind)) 1 0)
 
--- the watched points of a plan, counted
-abbrev pub watchedCount : List ℕ → ℕ
-watchedCount plan = sumBelow (length plan) (λ n. cond (enables plan n) 1 0)
+-- the event nodes of a job that a plan watches, counted
+abbrev pub enabledTotal : Job → List ℕ → ℕ
+enabledTotal j plan = sumBelow (length (j .nodes)) (λ n. cond (isEvent (nodeAt j n .kind) && enables plan n) 1 0)
 
 -- "carried along and lowered when a point goes": the total after a try of node n, which goes where it was watched and is no more
-abbrev pub lowered : ℕ → List ℕ → List ℕ → ℕ → ℕ
-lowered n plan left total = cond (enables plan n && not (enables left n)) (total - 1) total
+abbrev pub totalLeft : ℕ → List ℕ → List ℕ → ℕ → ℕ
+totalLeft n plan left total = cond (enables plan n && not (enables left n)) (total - 1) total
 
--- k passes are over, and of the next the first n nodes were tried: planning stands at this plan, with this total
+-- k passes are over, and of the next the first n nodes were tried: planning stands at this plan, with this total; in passes past the
+-- last, which planning does not make, nothing goes
 pub data Stands (j : Job) : ℕ → ℕ → List ℕ → ℕ → Type 0 where
-  start : Stands j 0 0 (allEnabled j) (pointCount j)
+  start : Stands j 0 0 (allEnabled j) (shadowTotal j)
   next-try
       : {k n total : ℕ} {plan left : List ℕ} → Stands j k n plan total → n < length (j .nodes) → Tried j n plan left
-      → Stands j k (suc n) left (lowered n plan left total)
+      → Stands j k (suc n) left (totalLeft n plan left total)
   next-pass : {k total : ℕ} {plan : List ℕ} → Stands j k (length (j .nodes)) plan total → Stands j (suc k) 0 plan total
 
 -- a plan and a total at which planning stands
@@ -42,7 +43,7 @@ pub record Standing (j : Job) (k n : ℕ) : Type 0 where
 -- the statement, for every job
 pub record RunningTotal : Type 0 where
   -- "at the start and after each event node tried it equals the number of watched points in the plan as it then stands"
-  pub counted : (j : Job) (k n : ℕ) (plan : List ℕ) (total : ℕ) → Stands j k n plan total → total ≡ watchedCount plan
+  pub counted : (j : Job) (k n : ℕ) (plan : List ℕ) (total : ℕ) → Stands j k n plan total → total ≡ enabledTotal j plan
   -- in every pass and after every node there is such a plan, with such a total, and no other
   pub some : (j : Job) → WellFormedJob j → (k n : ℕ) → n ≤ length (j .nodes) → Standing j k n
   pub only

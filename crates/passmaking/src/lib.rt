@@ -7,7 +7,8 @@ use passes::passes::Progress;
 use tries::first_gone;
 use tries::last_gone;
 
-// One pass in number order, over a plan whose nodes from the last on were tried since it last changed: where none before them goes it is over.
+// One pass in number order, over a plan whose nodes from `progress.last` on were tried since it last changed: where none before them goes it
+// is over.
 fn pass(
     work: &mut [u8],
     table: &[[u8; 16]; 16],

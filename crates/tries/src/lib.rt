@@ -5,7 +5,7 @@ ghost use Rattle.passes.specs.Passes.{Carried, FirstGone, LastGone};
 use passes::passes::Progress;
 use trynode::try_node;
 
-// Tries the nodes before the last in turn until one goes: the last is then one past that node, or 0 where none goes.
+// Tries the nodes before `progress.last` in turn until one goes: `last` is then one past that node, or 0 where none goes.
 pub fn first_gone(
     work: &mut [u8],
     table: &[[u8; 16]; 16],
@@ -34,7 +34,7 @@ pub fn first_gone(
     }
 }
 
-// Tries the nodes from the last on: the last is then one past the last node that goes, as it was where none does.
+// Tries the nodes from `progress.last` on: `last` is then one past the last node that goes, as it was where none does.
 pub fn last_gone(
     work: &mut [u8],
     table: &[[u8; 16]; 16],

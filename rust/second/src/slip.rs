@@ -185,7 +185,7 @@ slips! {
         CountsSwapped,
         /// Every node is counted among the event nodes.
         EveryNodeCounted,
-        /// The watched points are counted after the first pass.
+        /// The watched total is that after the first pass.
         WatchedAfterPassOne,
         /// The watched total is that from before the last pass that removed a point.
         WatchedBeforeLastRemoval,

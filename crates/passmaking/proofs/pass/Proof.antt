@@ -1,4 +1,4 @@
--- `passmaking::pass` meets its contract: where none of the nodes before the last goes the plan is as it was.
+-- `passmaking::pass` meets its contract: where none of the nodes before `progress.last` goes the plan is as it was.
 -- Assumes nothing.
 use native.Mathlib.Omega.{arith}
 use borrow.Author.Needs.{needs}

@@ -1,4 +1,4 @@
--- `planmaking::make_plan` meets its contract: all points watched, then passes with their number.
+-- `planmaking::make_plan` meets its contract: all points watched, and then passes, which give the counts.
 -- Assumes nothing.
 use borrow.Author.Needs.{needs}
 use Rattle.passes.proofs.PlanInLaws.{planning-plan, usable-kept}

@@ -11,7 +11,7 @@ use Rattle.tries.proofs.first_gone.Statement.{statement}
 use Rattle.tries.proofs.first_gone.Tie as tie
 
 abbrev Inv-loop : tie.InvT-loop
-Inv-loop work₀ table finals states nodes progress n₀ work n = (n ≤ progress .last) × NoneGone table finals states nodes n work₀ work
+Inv-loop work₀ table finals states nodes progress n₀ work n = (n ≤ progress .last) × NoneGone table finals states nodes n (progress .enabled) work₀ work
 
 abbrev μ-loop : tie.MeasureT-loop
 μ-loop work₀ table finals states nodes progress n₀ work n = progress .last - n

@@ -1,5 +1,5 @@
 -- `tries::last_gone` meets its contract.
--- Invariant: the nodes from the last on to before n were tried, and `last` is one past the last of them that went.
+-- Invariant: the nodes from `progress.last` on to before n were tried, and `last` is one past the last of them that went.
 -- Measure: the nodes still to be tried.
 -- Assumes nothing.
 use mathlib.Core.Logic.{inl, inr, ⊎-elim}
@@ -18,7 +18,7 @@ abbrev μ-loop : tie.MeasureT-loop
 μ-loop work₀ table finals states nodes total₀ last₀ n₀ work total last n = nodes - n
 
 loop-holds : tie.Need-loop-holds Inv-loop μ-loop
-loop-holds c = let p = c .before .pre in (p .0, last-so-far-start _ _ (p .1 .1))
+loop-holds c = let p = c .before .pre in (omega (arith, p .0), last-so-far-start _ _ (p .1 .1))
 
 try-node-requires : tie.Need-try-node-requires Inv-loop μ-loop
 try-node-requires c κs =
