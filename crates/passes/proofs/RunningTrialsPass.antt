@@ -31,6 +31,7 @@ moments-stand =
     and row refl refl refl refl and row refl refl refl refl and row refl refl refl refl
     and row refl refl refl refl and row refl refl refl refl and row refl refl refl refl and row refl refl refl refl
     and row refl refl refl refl and row refl refl refl refl and row refl refl refl refl
+    and row refl refl refl refl and row refl refl refl refl and row refl refl refl refl
     and row refl refl refl refl and row refl refl refl refl and row refl refl refl refl and row refl refl refl refl
     and row refl refl refl refl and row refl refl refl refl and row refl refl refl refl and row refl refl refl refl
     and row refl refl refl refl and row refl refl refl refl

@@ -4,7 +4,7 @@
 use mathlib.Core.List.{List, [], _∷_}
 use Prim.Native.Nat.{ℕ}
 use Rattle.job.specs.Job.{Job}
-use Rattle.planning.specs.Trials.{pair, loop, emptyWord, wordLast, noPoint}
+use Rattle.planning.specs.Trials.{pair, loop, turn, emptyWord, wordLast, noPoint}
 use Rattle.passes.specs.Running.{Stands}
 
 -- a job, how many passes are over, how many nodes of the next were tried, and where planning stands then
@@ -46,7 +46,11 @@ moments =
     ∷ moment loop 1 1 (0 ∷ 0 ∷ []) 0
     ∷ moment loop 2 0 (0 ∷ 0 ∷ []) 0
     ∷ moment loop 3 0 (0 ∷ 0 ∷ []) 0
-    -- seal, a call, write: the points stay, and the call between them is none
+    -- TURN: every point stays, and the first pass is the last
+    ∷ moment turn 0 0 (1 ∷ 1 ∷ 1 ∷ []) 3
+    ∷ moment turn 0 3 (1 ∷ 1 ∷ 1 ∷ []) 3
+    ∷ moment turn 1 0 (1 ∷ 1 ∷ 1 ∷ []) 3
+    -- seal, a call, write: the points stay, and the call between them is no point
     ∷ moment emptyWord 0 0 (1 ∷ 0 ∷ 1 ∷ []) 2
     ∷ moment emptyWord 0 1 (1 ∷ 0 ∷ 1 ∷ []) 2
     ∷ moment emptyWord 0 2 (1 ∷ 0 ∷ 1 ∷ []) 2

@@ -1,10 +1,10 @@
-//! Wrong readings of document 01 that the second implementation can be given.
+//! Wrong readings of documents 01 and 02 that the second implementation can be given.
 
 /// Declares the slips, with a list for each group of them.
 #[macro_export]
 macro_rules! slips {
     ($($(#[$about:meta])* $group:ident { $($(#[$words:meta])* $name:ident,)* })*) => {
-        /// A wrong reading of document 01.
+        /// A wrong reading of document 01 or 02.
         #[derive(Clone, Copy, Debug, PartialEq, Eq)]
         pub enum Slip {
             $($($(#[$words])* $name,)*)*
