@@ -9,7 +9,7 @@ use native.Mathlib.Omega.{arith}
 use lib.ListN.{length, getD}
 use Rattle.laws.specs.Bytes.{AreBytes}
 use Rattle.laws.proofs.Bounded.{sum-bound}
-use Rattle.job.specs.Job.{Job, WellFormedJob}
+use Rattle.job.specs.Job.{Job}
 use Rattle.planning.specs.Planning.{passed, Planned, enabledCount, allEnabled}
 use Rattle.planning.specs.Listing.{planOf}
 use Rattle.job.specs.Search.{faithful}
@@ -27,12 +27,6 @@ use Rattle.passes.proofs.RunningLaws.{stands-at, stands-pass}
 
 -- ---- a pass
 
--- where planning stands after it
-pass-stands
-    : {j : Job} {k nodes total rest : ℕ} {plan left : List ℕ} → WellFormedJob j → nodes ≡ length (j .nodes)
-    → left ≡ passed (faithful j) nodes plan → rest ≡ enabledCount left → Stands j k 0 plan total → Stands j (k + 1) 0 left rest
-pass-stands {j} {plan = plan} wf is e c s = stands-at (e ∙ ap (λ (n : ℕ). passed (faithful j) n plan) is) c (stands-pass wf s)
-
 -- none went
 pub pass-none
     : {table : List (List ℕ)} {finals states nodes : ℕ} {p r : Progress} {l m : List ℕ} → p .last ≤ nodes → r .last ≡ 0
@@ -47,7 +41,9 @@ pass-none {table} {finals} {states} {nodes} {p} {r} {l} {m} b e g =
       exact = exact;
       after = λ j h a t i c.
           subst (Kept (faithful j) 0 nodes) (sym same) (passed-says (faithful j) nodes (planIn l nodes) .0 (whole j h a t)) i zero-le;
-      stands = λ j h a t k s. pass-stands (h .formed) (h .nodes-are) (exact j h a t) (g .carried) s;
+      stands = λ j h a t k s.
+          let whole = exact j h a t ∙ ap (λ (n : ℕ). passed (faithful j) n (planIn l nodes)) (h .nodes-are) in
+          stands-at whole (g .carried) (stands-pass (h .formed) s);
     }
   where
     same : planIn m nodes ≡ planIn l nodes

@@ -1,7 +1,8 @@
-//! Jobs, job files, walks, plans, listings and the event step a second time, written from document 01
-//! alone. It links nothing and shares nothing with the library: places of a walk are explicit, two real
-//! monitors take the walk's events, and a search ends when no new place and pair of states is left.
-//! Wrong readings of document 01 ("slips") can be switched on, to see that a comparison notices them.
+//! Jobs, job files, walks, plans, listings and the event step a second time, written from documents 01
+//! and 02 alone. It links nothing and shares nothing with the library: places of a walk are explicit,
+//! two real monitors take the walk's events, and a search ends when no new place and pair of states is
+//! left. Wrong readings of the documents ("slips") can be switched on, to see that a comparison notices
+//! them.
 pub mod apart;
 pub mod checking;
 pub mod found;

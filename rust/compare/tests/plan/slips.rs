@@ -1,4 +1,4 @@
-//! Wrong readings of document 01, which a comparison must notice.
+//! Wrong readings of documents 01 and 02, which a comparison must notice.
 use crate::agreement::Calls;
 use dapohiru_compare::serving::{cases, Case};
 use dapohiru_generators::random::Random;
