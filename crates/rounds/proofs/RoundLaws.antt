@@ -26,7 +26,8 @@ use Rattle.tables.specs.Tables.{pairsLeft, SearchKept, Grown, NextMarked, Marks
 use Rattle.tables.specs.Held.{Usable, JobHeld, PlanHeld}
 use Rattle.rounds.specs.declared.Seen.{Seen}
 use Rattle.rounds.specs.declared.Seen.the-variants.{Nothing, Rows, Difference}
-use Rattle.successors.specs.Joined.{InRows, JoinedPast}
+use Rattle.successors.specs.Joined.{JoinedPast}
+use Rattle.tables.specs.Sixteen.{InRows}
 use Rattle.look.specs.Looking.{pastState, pastNode, Follows, over-edge, AlikePair, ClosedPair, SplitPair, split-point, split-call, split-exit, Looked, LookedAt}
 use Rattle.rounds.specs.Rounds.{Following, held-first, follows, SettledRow, Settled, Rounded, RoundedAt}
 use Rattle.tables.proofs.RowLaws.{has-nothing}
