@@ -1,6 +1,7 @@
 -- The theorems that other crates cite.
 -- Assumes nothing.
 pub mod KindLaws
+pub mod WithoutReentry
 pub mod SearchLaws
 pub mod PlanSays
 pub mod Pairs

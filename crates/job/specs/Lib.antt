@@ -2,6 +2,7 @@
 -- Assumes nothing.
 pub mod Job
 pub mod Walk
+pub mod WithoutReentry
 pub mod Plan
 pub mod PlanSays
 pub mod Search

@@ -30,7 +30,7 @@ file-trials-pass =
     and refl and refl and refl and refl and refl
     and refl and refl and refl
     and refl and refl
-    and done
+    and refl and refl and done
 
 -- PAIR's file is written from its job
 pub pair-written : writeJob pair ≡ pairFile

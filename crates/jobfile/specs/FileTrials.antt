@@ -173,20 +173,22 @@ fileTrials =
     -- with zeros, a state out of order and a next state of S
     ∷ reads (withRule "R000001000000000000") (turned 6)
     ∷ reads (withRule "R     0000000000001") (turned 6)
-    -- 7: a node out of order; a kind of 3; a value at kind 0; a symbol of A; a call set, entry set or after set past what the job
-    -- has; an exit mark of 2; an after set without exit
+    -- 7: a node out of order; a kind of 4; a value at kind 0; a symbol of A; the set of a call of either kind, an entry set or after
+    -- set past what the job has; an exit mark of 2; an after set without exit
     ∷ reads (withNode "P     1     0     0     1     0     0") (turned 7)
-    ∷ reads (withNode "P     0     3     0     1     0     0") (turned 7)
+    ∷ reads (withNode "P     0     4     0     1     0     0") (turned 7)
+    ∷ reads (withNode "P     0   259     0     1     0     0") (turned 7)
     ∷ reads (withNode "P     0     0     1     1     0     0") (turned 7)
     ∷ reads (withNode "P     0     1     1     1     0     0") (turned 7)
     ∷ reads (withNode "P     0     2     2     1     0     0") (turned 7)
+    ∷ reads (withNode "P     0     3     2     1     0     0") (turned 7)
     ∷ reads (withNode "P     0     0     0     2     0     0") (turned 7)
     ∷ reads (withNode "P     0     0     0 65537     0     0") (turned 7)
     ∷ reads (withNode "P     0     0     0     1     1     2") (turned 7)
     ∷ reads (withNode "P     0     0     0     1     2     0") (turned 7)
     ∷ reads (withNode "P     0     0     0     1     0     1") (turned 7)
-    -- with zeros, a kind of 3 and a symbol of A
-    ∷ reads (withNode "P000000000003000000000001000000000000") (turned 7)
+    -- with zeros, a kind of 4 and a symbol of A
+    ∷ reads (withNode "P000000000004000000000001000000000000") (turned 7)
     ∷ reads (withNode "P     0000001    01     1    00     0") (turned 7)
     -- 8: the same edge twice; one that descends; a node of N
     ∷ reads (withEdges "F     0     1" "F     0     1") (turned 8)

@@ -63,4 +63,28 @@ trials-pass =
     and row refl refl
     and row refl refl
     and row refl refl
+    and row refl refl
+    and row refl refl
+    and row refl refl
+    and row refl refl
+    and row refl refl
+    and row refl refl
+    and row refl refl
+    and row refl refl
+    and row refl refl
+    and row refl refl
+    and row refl refl
+    and row refl refl
+    and row refl refl
+    and row refl refl
+    and row refl refl
+    and row refl refl
+    and row refl refl
+    and row refl refl
+    and row refl refl
+    and row refl refl
+    and row refl refl
+    and row refl refl
+    and row refl refl
+    and row refl refl
     and done
