@@ -31,6 +31,7 @@ use Rattle.tables.specs.Sixteen.{InRows}
 use Rattle.look.specs.Looking.{pastState, pastNode, Follows, over-edge, AlikePair, ClosedPair, SplitPair, split-point, split-call, split-exit, Looked, LookedAt}
 use Rattle.rounds.specs.Rounds.{Following, held-first, follows, SettledRow, Settled, Rounded, RoundedAt}
 use Rattle.tables.proofs.RowLaws.{has-nothing}
+use Rattle.tables.proofs.SixteenLaws.{rows-old, rows-here, rows-fresh}
 use Rattle.tables.proofs.KeptLaws.{search-kept-none, search-kept-both, grown-none, grown-both, class-same, usable-same, job-same, plan-same}
 
 -- ---- from one buffer to another
@@ -39,11 +40,11 @@ module _
     {j : Job} {o : List ℕ} {table : List (List ℕ)} {finals states nodes : ℕ} (u : Usable o table states nodes)
     (job : JobHeld j o table finals states nodes) where
   -- a next state is below 16
-  next-small : (p a : ℕ) → p < 16 → a < 16 → next (j .rule) p a < 16
+  pub next-small : (p a : ℕ) → p < 16 → a < 16 → next (j .rule) p a < 16
   next-small p a lp la = subst (λ (x : ℕ). x < 16) (job .cells p a lp la) (u .cells p a lp la)
 
   -- and so is a state past a node
-  past-small : (n p : ℕ) → p < 16 → pastNode j full n p < 16
+  pub past-small : (n p : ℕ) → p < 16 → pastNode j full n p < 16
   past-small n p lp = go (pointOf (nodeAt j n .kind)) refl
     where
       go : (x : Point) → pointOf (nodeAt j n .kind) ≡ x → pastState (j .rule) full n x p < 16
@@ -87,14 +88,14 @@ module _
       (ap (λ (x : ℕ). has x (pastNode j w n q)) (sym (class-same k n (pastNode j full n p) ln (past-small u job n p lp))) ∙ h)
 
 -- what follows pairs that follow
-following-both
+pub following-both
     : {j : Job} {w : Enabling} {l m : List ℕ} {n p q : ℕ}
     → ((n p q : ℕ) → n < 512 → p < 16 → Held m n p q → Following j w l n p q) → Following j w m n p q → Following j w l n p q
 following-both f (held-first {n = n} {p = p} {q = q} ln lp h) = f n p q ln lp h
 following-both f (follows g h) = follows (following-both f g) h
 
 -- a member of one set is one of the same set
-member-same : {s t : ℕ} (q : ℕ) → s ≡ t → has s q ≡ true → has t q ≡ true
+pub member-same : {s t : ℕ} (q : ℕ) → s ≡ t → has s q ≡ true → has t q ≡ true
 member-same q e h = sym (ap (λ (x : ℕ). has x q) e) ∙ h
 
 -- ---- the rows of one node
@@ -146,46 +147,6 @@ pub record NodeLooked (table : List (List ℕ)) (finals states nodes : ℕ) (l m
       → NodeFor j (enables plan) l m n due
 
 -- ---- the rows past a node, gathered
-
--- rows without pairs
-unfoldable pub emptyRows : ℕ → List ℕ
-emptyRows zero = []
-emptyRows (suc k) = 0 ∷ emptyRows k
-
--- each of them is 0
-pub empty-row : (k p : ℕ) → getD (emptyRows k) p 0 ≡ 0
-unfolding emptyRows
-empty-row zero p = refl
-empty-row (suc k) zero = refl
-empty-row (suc k) (suc p) = empty-row k p
-
-module _ (rows : List ℕ) (state s word : ℕ) (sixteen : length rows ≡ 16) (small : state < 16) (joined : word ≡ bitOr (getD rows state 0) s) where
-  -- the row that a set was joined into
-  word-here : (q : ℕ) → has (getD (set rows state word) state 0) q ≡ (has (getD rows state 0) q || has s q)
-  word-here q =
-      ap (λ (x : ℕ). has x q) (getD-set-same rows state word 0 (omega arith) ∙ joined) ∙ has-or (getD rows state 0) s q
-
-  -- the pairs that were there
-  rows-old : (p q : ℕ) → InRows rows p q → InRows (set rows state word) p q
-  rows-old p q h =
-      by-cases (ℕ-discrete p state)
-      (λ (e : p ≡ state). rw e (word-here q ∙ or-left (has (getD rows state 0) q) (has s q) (rw e at h)))
-      (λ (ne : p ≡ state → ⊥). rw (getD-set-other rows state p word 0 ne) h)
-
-  -- those of the set
-  rows-here : (q : ℕ) → has s q ≡ true → InRows (set rows state word) state q
-  rows-here q h = word-here q ∙ or-right (has (getD rows state 0) q) (has s q) h
-
-  -- and no others
-  rows-fresh : (p q : ℕ) → InRows (set rows state word) p q → InRows rows p q ⊎ ((p ≡ state) × (has s q ≡ true))
-  rows-fresh p q h =
-      by-cases (ℕ-discrete p state)
-      (λ (e : p ≡ state).
-      ⊎-elim
-      (λ (y : has (getD rows state 0) q ≡ true). inl (rw e y))
-      (λ (y : has s q ≡ true). inr (e, y))
-      (or-passes (has (getD rows state 0) q) (has s q) (sym (word-here q) ∙ (rw e at h))))
-      (λ (ne : p ≡ state → ⊥). inl (rw (getD-set-other rows state p word 0 ne) at h))
 
 module _ {table : List (List ℕ)} {finals states nodes : ℕ} where
   -- none yet
