@@ -1,0 +1,1 @@
+// What comes back in, settled when no row is marked.
