@@ -1,8 +1,8 @@
 -- Laws of settling what comes back in.
 -- Assumes nothing.
-use mathlib.Core.Path.{_≡_, refl, sym, ap, subst, _∙_}
-use mathlib.Core.Logic.{_⊎_, inl, inr, ⊎-elim}
-use mathlib.Core.Bool.{Bool, true, false, true≢false, false≢true}
+use mathlib.Core.Path.{_≡_, sym, ap, _∙_}
+use mathlib.Core.Logic.{⊎-elim}
+use mathlib.Core.Bool.{true, false, true≢false, false≢true}
 use mathlib.Core.List.{List}
 use Prim.Native.Nat.{ℕ, _≤_, _<_}
 use native.Mathlib.Omega.{arith}
@@ -14,27 +14,28 @@ use Rattle.laws.proofs.Bounded.{any-none-at}
 use Rattle.laws.proofs.Bits.{has-empty}
 use Rattle.job.proofs.Nodes.{spelt-map}
 use Rattle.job.specs.Job.{isReentrant, isEntry, Job, Node, nodeAt}
-use Rattle.job.specs.Plan.{Enabling, full, enables}
+use Rattle.job.specs.Plan.{enables}
+use Rattle.job.specs.Words.{Spelt}
 use Rattle.buffer.specs.Views.{nodeIn, marksIn, markedIn, pairRowIn, Held}
-use Rattle.tables.specs.Tables.{pairsLeft, SearchKept, Grown, NextMarked}
+use Rattle.tables.specs.Tables.{pairsLeft, Grown, NextMarked}
 use Rattle.tables.specs.Held.{Usable, JobHeld, PlanHeld}
 use Rattle.tables.specs.Sixteen.{InRows}
 use Rattle.tables.proofs.KeptLaws.{search-kept-none, grown-both, node-same}
-use Rattle.look.specs.Looking.{pastNode, by-entry, by-return}
+use Rattle.look.specs.Looking.{by-entry, by-return}
 use Rattle.rounds.specs.Rounds.{Following, held-first, follows, Settled}
 use Rattle.rounds.proofs.RoundLaws.{closed-pair-kept, member-same}
 use Rattle.relation.specs.Union.{Below}
-use Rattle.exitrows.specs.Ended.{PastRow, PastHeld, EndedAt, ExitRows}
+use Rattle.exitrows.specs.Ended.{PastHeld, EndedAt, ExitRows}
 use Rattle.exitrows.proofs.EndedLaws.{spelt-start}
-use Rattle.reentry.specs.Reentry.{JoinedWhere, EnteringAt, EnteringRows}
-use Rattle.returns.specs.Returns.{NoMarks, AllBack, BackFor, CameBack}
+use Rattle.reentry.specs.Reentry.{JoinedWhere, EnteringRows}
+use Rattle.returns.specs.CameBack.{NoMarks, CameBackAt}
 
 -- ---- no call may come back in
 
 -- nothing is joined
 pub none-back
     : (table : List (List ℕ)) (finals states nodes : ℕ) (l : List ℕ) → NoMarks l nodes
-    → anyBelow nodes (λ n. isReentrant (nodeIn l n .kind)) ≡ false → CameBack table finals states nodes l l false
+    → anyBelow nodes (λ n. isReentrant (nodeIn l n .kind)) ≡ false → CameBackAt table finals states nodes l l false
 none-back table finals states nodes l unmarked none = record {
   kept = search-kept-none l;
   held = λ n p q a b h. h;
@@ -44,8 +45,8 @@ none-back table finals states nodes l unmarked none = record {
     new = λ n p q a b h. held-first a b h;
     settled = λ s. s;
     over = λ e. record {
-      enters = λ k n p q lk ln lp r t h. absurd (no-call held k lk r);
-      returns = λ k n p q lk ln lp r x. absurd (no-call held n ln r);
+      enters = λ k n p q lk ln r t lp h. absurd (no-call held k lk r);
+      returns = λ k n p q lk ln e r lp x. absurd (no-call held n ln r);
     };
   };
 }
@@ -139,9 +140,9 @@ module _ {table : List (List ℕ)} {finals states nodes : ℕ} {l m k : List ℕ
 
       -- every entry holds what calls hold
       entered
-          : (a n p q : ℕ) → a < nodes → n < nodes → p < 16 → isReentrant (nodeAt j a .kind) ≡ true → isEntry (nodeAt j n) ≡ true
+          : (a n p q : ℕ) → a < nodes → n < nodes → isReentrant (nodeAt j a .kind) ≡ true → isEntry (nodeAt j n) ≡ true → p < 16
           → Held k a p q → Held k n p q
-      entered a n p q la ln lp r t h =
+      entered a n p q la ln r t lp h =
           second .here n p q ln (ap isEntry (node-then n ln) ∙ t) lp
           (calls p q lp .1 (record {
             index = a;
@@ -164,19 +165,19 @@ module _ {table : List (List ℕ)} {finals states nodes : ℕ} {l m k : List ℕ
 
       -- every call holds what the words after exits lead to
       returned
-          : (a n p q : ℕ) → a < nodes → n < nodes → p < 16 → isReentrant (nodeAt j n .kind) ≡ true
-          → EndedAt j (enables plan) k a p q → Held k n p q
-      returned a n p q la ln lp r x =
+          : (a n p q : ℕ) → a < nodes → n < nodes → nodeAt j a .exit ≡ true → isReentrant (nodeAt j n .kind) ≡ true → p < 16
+          → Spelt (j .rule) (nodeAt j a .after) (PastHeld j (enables plan) k a) p q → Held k n p q
+      returned a n p q la ln e r lp x =
           second .grown .held n p q (few ln) lp
           (first .here n p q ln (ap (λ (y : Node). isReentrant (y .kind)) (held .node n ln) ∙ r) lp
           (exits j plan states held planned p q lp .1 (record {
             index = a;
             below = la;
-            holds = record { exit = x .exit; word = spelt-map (λ y z. past-first a y z la) (x .word) };
+            holds = record { exit = e; word = spelt-map (λ y z. past-first a y z la) x };
           })))
 
   -- all of it
-  pub came-back : CameBack table finals states nodes l k (ltb next nodes)
+  pub came-back : CameBackAt table finals states nodes l k (ltb next nodes)
   came-back = record {
     kept = grown .kept;
     held = grown .held;

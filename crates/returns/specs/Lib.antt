@@ -1,3 +1,3 @@
 -- What comes back in.
 -- Assumes nothing.
-pub mod Returns
+pub mod CameBack

@@ -1,6 +1,6 @@
 // What comes back in, settled once when no row of pairs is marked: returns from the words after exits, and entries after the calls' words.
 ghost use Rattle.tables.specs.Held.{Usable};
-ghost use Rattle.returns.specs.Returns.{NoMarks, CameBack};
+ghost use Rattle.returns.specs.CameBack.{NoMarks, CameBackAt};
 use exitrows::exit_rows;
 use marks::next_marked;
 use nodereads::any_reentrant;
@@ -17,7 +17,7 @@ pub fn come_back(
     nodes: usize,
 ) -> bool
     requires { ⌜ (Usable (now work) (now table) states nodes) × NoMarks (now work) nodes ⌝ }
-    ensures { λ r. ⌜ CameBack (now (table .entry)) finals states nodes (now (work .entry)) (now (work .exit)) r ⌝ }
+    ensures { λ r. ⌜ CameBackAt (now (table .entry)) finals states nodes (now (work .entry)) (now (work .exit)) r ⌝ }
 {
     if !any_reentrant(work, nodes) {
         return false;

@@ -427,6 +427,7 @@ module _ {table : List (List ℕ)} {finals states nodes : ℕ} where
         record {
           kept = search-kept-both taken-kept (search-kept-both (r .grown .kept) (look .grown .kept));
           held = λ a x y la lx h. look .grown .held a x y la lx (taken-held (r .grown) a x y la lx (i .held a x y la lx h));
+          most = omega (arith, i .left, t .left, r .grown .left, look .grown .left);
           left = λ e. absurd (rows-difference (sym e));
           none = λ e. absurd (nothing-difference (sym e));
           exact = λ j plan held plan-held. rounded j plan held plan-held;
@@ -463,6 +464,7 @@ module _ {table : List (List ℕ)} {finals states nodes : ℕ} where
       record {
         kept = i .kept;
         held = i .held;
+        most = i .left;
         left = i .less;
         none = λ z a la. i .none z a (omega arith);
         exact = λ j plan held plan-held.

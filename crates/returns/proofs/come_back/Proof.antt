@@ -2,7 +2,6 @@
 -- is joined at the calls, and then what the calls hold at the entries. A row that is marked then has grown.
 -- Assumes nothing.
 use mathlib.Core.Path.{sym, _∙_}
-use native.Mathlib.Omega.{arith}
 use borrow.Author.Needs.{needs}
 use borrow.Author.Tests.{not-true}
 use Rattle.returns.proofs.ReturnLaws.{none-back, came-back}
@@ -10,7 +9,7 @@ use Rattle.returns.proofs.come_back.Statement.{statement}
 use Rattle.returns.proofs.come_back.Tie as tie
 
 any-reentrant-requires : tie.Need-any-reentrant-requires
-any-reentrant-requires c κs = let u = c .before .before .pre .0 in (u .long, u .few-nodes)
+any-reentrant-requires c κs = search needs
 
 same-length : tie.Need-same-length
 same-length c = search needs
@@ -22,27 +21,19 @@ returns c =
     (sym (c .before .any-reentrant .ensures) ∙ not-true _ (c .if1 .taken))
 
 exit-rows-requires : tie.Need-exit-rows-requires
-exit-rows-requires c κs = let u = c .before .before .before .before .before .pre .0 in (u .long, (u .few-nodes, u .cells))
+exit-rows-requires c κs = search needs
 
 join-reentrants-requires : tie.Need-join-reentrants-requires
-join-reentrants-requires c κs = let u = c .before .before .before .before .before .before .before .before .pre .0 in (u .long, u .few-nodes)
+join-reentrants-requires c κs = search needs
 
 entering-rows-requires : tie.Need-entering-rows-requires
-entering-rows-requires c κs =
-    let u = c .before .before .before .before .before .before .before .before .before .before .before .before .pre .0 in
-    (omega (arith, u .long, c .before .before .before .join-reentrants .ensures .grown .kept .long), u .few-nodes)
+entering-rows-requires c κs = search needs
 
 join-entries-requires : tie.Need-join-entries-requires
-join-entries-requires c κs =
-    let u = c .before .before .before .before .before .before .before .before .before .before .before .before .before .before .before .pre .0 in
-    (omega (arith, u .long, c .before .before .before .before .before .before .join-reentrants .ensures .grown .kept .long), u .few-nodes)
+join-entries-requires c κs = search needs
 
 next-marked-requires : tie.Need-next-marked-requires
-next-marked-requires c κs =
-    let u = c .before .before .before .before .before .before .before .before .before .before .before .before .before .before .before .before .before .before .before .pre .0 in (
-      omega (arith, u .long, c .before .before .before .before .before .before .before .before .before .before .join-reentrants .ensures .grown .kept .long, c .before .before .before .join-entries .ensures .grown .kept .long),
-      (omega arith, u .few-nodes),
-    )
+next-marked-requires c κs = search needs
 
 same-length-2 : tie.Need-same-length-2
 same-length-2 c = c .before .before .before .before .join-entries .ensures .grown .kept .long ∙ c .before .before .before .before .before .before .before .before .before .before .before .join-reentrants .ensures .grown .kept .long
