@@ -6,6 +6,7 @@ ghost use Rattle.tables.specs.Held.{EdgesWithin, Usable};
 ghost use Rattle.classes.specs.Backwards.{ClassesFound};
 ghost use Rattle.classes.specs.Classes.{NodeGrown, ClassesGrown};
 use afterwords::word_row;
+use classrows::class_rows;
 use classrows::join_classes;
 use nextrows::successor_row;
 use nodereads::call_set;
@@ -22,10 +23,11 @@ fn class_node(
     ensures { λ r. ⌜ NodeGrown (now (table .entry)) finals states (now (work .entry)) (now (work .exit)) n r ⌝ }
 {
     let set = call_set(work, n);
+    let rows = class_rows(work, n);
     let mut grown = 0;
     let mut p = 0;
     while p < states {
-        let words = word_row(work, table, finals, states, n, set, p);
+        let words = word_row(&rows, table, finals, states, set, p);
         let row = words | successor_row(work, table, finals, states, n, p);
         grown += join_classes(work, n, p, row);
         p += 1;

@@ -15,7 +15,7 @@ use nodereads::is_shadow;
 use nodereads::symbol_at;
 
 // The states told apart from p before node m.
-fn before_row(
+pub fn before_row(
     work: &[u8],
     table: &[[u8; 16]; 16],
     finals: u16,
