@@ -5,14 +5,14 @@ use mathlib.Core.Path.{_≡_, refl, sym, ap, subst, _∙_}
 use mathlib.Core.Logic.{⊎-elim}
 use mathlib.Core.Bool.{Bool, true, false, cond, true≢false}
 use mathlib.Core.List.{List}
-use Prim.Native.Nat.{ℕ, _+_, _≤_, _<_}
+use Prim.Native.Nat.{ℕ, _+_, _<_}
 use native.Mathlib.Omega.{arith}
 use Rattle.laws.specs.Bounded.{anyBelow}
 use Rattle.laws.specs.Bits.{has}
 use Rattle.laws.proofs.Bounded.{any-none-at}
 use Rattle.automaton.specs.Automaton.{Automaton, WellFormed}
 use Rattle.job.specs.Job.{isReentrant, isEntry, Node, Job, nodeAt}
-use Rattle.job.specs.Walk.{past, ended}
+use Rattle.job.specs.Walk.{ended}
 use Rattle.job.specs.Plan.{full, ApartAt}
 use Rattle.job.specs.Words.{WordApart, apart-here, apart-later, apart-after, ReturnApart}
 use Rattle.job.proofs.KindLaws.{comes-in, begins-after}
@@ -26,7 +26,7 @@ use Rattle.tables.specs.Held.{Usable, JobHeld}
 use Rattle.relation.specs.Union.{Below}
 use Rattle.classes.specs.Backwards.{RuleOf, rowsOf, RowPairs, afterSet}
 use Rattle.classes.specs.Classes.{beforeRow, AllApart}
-use Rattle.classes.specs.Returns.{AfterWhole, ReturnsClosed, ClassesReturned}
+use Rattle.classes.specs.Returns.{ClassesReturned}
 use Rattle.classes.proofs.AfterLaws.{node-before, job-rule}
 use Rattle.classes.proofs.ClassLaws.{ApartPast, before-row-sound}
 use Rattle.classreturns.specs.Joins.{RowsHold, AtEntry, AtCall, ToCall, ToExit, ToExitWithin, NodesJoined}

@@ -19,20 +19,20 @@ use nodereads::is_exit;
 use nodereads::is_reentrant;
 use relation::join_relation;
 
-// Joins into the rows the states told apart before node n, where it is an entry.
+// Joins into the rows the states told apart before node m, where it is an entry.
 fn gather_entry(
     rows: &mut [u16],
     work: &[u8],
     table: &[[u8; 16]; 16],
     finals: u16,
     states: usize,
-    n: usize,
+    m: usize,
 )
-    requires { ⌜ (Sixteen (now rows)) × ((Lent (now work)) × ((n < 512) × ((states ≤ 16) × CellsBelow (now table)))) ⌝ }
-    ensures { λ _. ⌜ (Sixteen (now (rows .exit))) × Union (AtEntry (now (table .entry)) finals states (now (work .entry)) n) (now (rows .entry)) (now (rows .exit)) ⌝ }
+    requires { ⌜ (Sixteen (now rows)) × ((Lent (now work)) × ((m < 512) × ((states ≤ 16) × CellsBelow (now table)))) ⌝ }
+    ensures { λ _. ⌜ (Sixteen (now (rows .exit))) × Union (AtEntry (now (table .entry)) finals states (now (work .entry)) m) (now (rows .entry)) (now (rows .exit)) ⌝ }
 {
-    if is_entry(work, n) {
-        let more = before_rows(work, table, finals, states, n);
+    if is_entry(work, m) {
+        let more = before_rows(work, table, finals, states, m);
         join_relation(rows, &more);
         return;
     }
@@ -58,13 +58,13 @@ fn entry_rows(
     rows
 }
 
-// Joins into the rows the states told apart past node n, where it is a call that may come back in.
-fn gather_call(rows: &mut [u16], work: &[u8], n: usize)
-    requires { ⌜ (Sixteen (now rows)) × ((Lent (now work)) × (n < 512)) ⌝ }
-    ensures { λ _. ⌜ (Sixteen (now (rows .exit))) × Union (AtCall (now (work .entry)) n) (now (rows .entry)) (now (rows .exit)) ⌝ }
+// Joins into the rows the states told apart past node m, where it is a call that may come back in.
+fn gather_call(rows: &mut [u16], work: &[u8], m: usize)
+    requires { ⌜ (Sixteen (now rows)) × ((Lent (now work)) × (m < 512)) ⌝ }
+    ensures { λ _. ⌜ (Sixteen (now (rows .exit))) × Union (AtCall (now (work .entry)) m) (now (rows .entry)) (now (rows .exit)) ⌝ }
 {
-    if is_reentrant(work, n) {
-        let more = class_rows(work, n);
+    if is_reentrant(work, m) {
+        let more = class_rows(work, m);
         join_relation(rows, &more);
         return;
     }

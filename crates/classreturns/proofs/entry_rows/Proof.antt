@@ -2,7 +2,6 @@
 -- Invariant: the rows hold the pairs before the entries below n, and nothing else. Measure: the nodes still to be passed.
 -- Assumes nothing.
 use Prim.Native.Nat.{_-_, _≤_}
-use mathlib.Core.Path.{_≡_, refl, sym}
 use native.Mathlib.Omega.{arith}
 use borrow.Author.Needs.{needs}
 use Rattle.tables.specs.Sixteen.{Sixteen}

@@ -25,12 +25,12 @@ returns c =
     let a = c .before .before .before .before .before .before .before .before .before .before .args in
     let test = c .before .before .before .before .before .before .before .is-reentrant in
     let joined = c .before .before .join-relation .ensures in
-    (joined .0, union-read (classRowIn (a .work .now) (a .n)) (isReentrant (nodeIn (a .work .now) (a .n) .kind)) (c .before .before .before .before .before .class-rows .ensures) (sym (test .ensures) ∙ c .before .before .before .before .before .before .if1 .taken) (joined .1))
+    (joined .0, union-read (classRowIn (a .work .now) (a .m)) (isReentrant (nodeIn (a .work .now) (a .m) .kind)) (c .before .before .before .before .before .class-rows .ensures) (sym (test .ensures) ∙ c .before .before .before .before .before .before .if1 .taken) (joined .1))
 
 returns-2 : tie.Need-returns-2
 returns-2 c =
     let a = c .before .before .before .before .args in
-    (c .before .before .before .before .pre .0, union-other (classRowIn (a .work .now) (a .n)) (isReentrant (nodeIn (a .work .now) (a .n) .kind)) (a .rows .now) (sym (c .before .is-reentrant .ensures) ∙ c .if1 .left))
+    (c .before .before .before .before .pre .0, union-other (classRowIn (a .work .now) (a .m)) (isReentrant (nodeIn (a .work .now) (a .m) .kind)) (a .rows .now) (sym (c .before .is-reentrant .ensures) ∙ c .if1 .left))
 
 pub gather-call-spec : {M : Type 1} → statement M
 gather-call-spec =

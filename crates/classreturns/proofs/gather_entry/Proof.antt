@@ -26,12 +26,12 @@ returns c =
     let a = c .before .before .before .before .before .before .before .before .before .before .args in
     let test = c .before .before .before .before .before .before .before .is-entry in
     let joined = c .before .before .join-relation .ensures in
-    (joined .0, union-read (beforeRow (a .table .now) (a .finals) (a .states) (a .work .now) (a .n)) (isEntry (nodeIn (a .work .now) (a .n))) (c .before .before .before .before .before .before-rows .ensures) (sym (test .ensures) ∙ c .before .before .before .before .before .before .if1 .taken) (joined .1))
+    (joined .0, union-read (beforeRow (a .table .now) (a .finals) (a .states) (a .work .now) (a .m)) (isEntry (nodeIn (a .work .now) (a .m))) (c .before .before .before .before .before .before-rows .ensures) (sym (test .ensures) ∙ c .before .before .before .before .before .before .if1 .taken) (joined .1))
 
 returns-2 : tie.Need-returns-2
 returns-2 c =
     let a = c .before .before .before .before .args in
-    (c .before .before .before .before .pre .0, union-other (beforeRow (a .table .now) (a .finals) (a .states) (a .work .now) (a .n)) (isEntry (nodeIn (a .work .now) (a .n))) (a .rows .now) (sym (c .before .is-entry .ensures) ∙ c .if1 .left))
+    (c .before .before .before .before .pre .0, union-other (beforeRow (a .table .now) (a .finals) (a .states) (a .work .now) (a .m)) (isEntry (nodeIn (a .work .now) (a .m))) (a .rows .now) (sym (c .before .is-entry .ensures) ∙ c .if1 .left))
 
 pub gather-entry-spec : {M : Type 1} → statement M
 gather-entry-spec =
