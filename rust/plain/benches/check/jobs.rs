@@ -1,6 +1,7 @@
 //! The jobs of the benchmark, with the plans to be checked.
 use dapohiru_generators::large::{self, Order};
 use dapohiru_generators::random::Random;
+use dapohiru_generators::reentry::Reentry;
 use dapohiru_generators::shape::{Histogram, Shape, Shapes};
 use dapohiru_plain::check::Checker;
 use dapohiru_plain::plan::plan;
@@ -58,7 +59,7 @@ impl Loads {
         };
         while loads.all.len() < count {
             let order = Order::in_turn(loads.all.len());
-            let job = large::job(random, order);
+            let job = large::job_with(random, order, Reentry::Never);
             if !loads.add(random, checker, order, &job) {
                 loads.passed_over += 1;
             }
