@@ -29,7 +29,10 @@ pub fn job_with(random: &mut Random, reentry: Reentry) -> Job {
     } else {
         narrow_job(random)
     };
-    let job = reentry.apply(random, job, reentered);
+    let job = reentry.apply(random, job, |random, job| match random.below(3) {
+        0 => story::reentrant_job(random),
+        _ => reentered(random, job),
+    });
     if random.once_in(4) {
         return widened(random, &job);
     }
