@@ -50,6 +50,8 @@ fn rounds_find_no_difference_and_every_answer_comes() {
         "plans different",
         "events quiet",
         "events with an alarm",
+        "walks that came in again",
+        "walks that returned",
         "alarms on walks",
         "events skipped",
         "a walk that needs it",
