@@ -1,5 +1,5 @@
 //! The plan check: sweeps over all nodes until nothing changes. What comes in again and what returns is
-//! gathered on the way and settled when a sweep has changed nothing.
+//! gathered on the way and goes on after each sweep.
 use crate::read::{Decoded, Node};
 
 /// For each full state the set of planned states that arrive together with it.
@@ -142,10 +142,12 @@ impl Checker {
         self.sweeps = 0;
         loop {
             self.sweeps += 1;
-            match self.sweep(plan) {
-                None => return false,
-                Some(false) if !self.settle() => return true,
-                _ => {}
+            let Some(swept) = self.sweep(plan) else {
+                return false;
+            };
+            let settled = self.settle();
+            if !swept && !settled {
+                return true;
             }
         }
     }
