@@ -34,6 +34,9 @@ const STORED: &str = "rust/compare/tests/expected/answers.txt";
 /// How many trials there are without kind 3.
 const TRIALS: usize = 22;
 
+/// The stored plans and listings. A run leaves its own in `rust/target/tmp/listings.txt`.
+const LISTINGS: &str = "rust/compare/tests/expected/listings.txt";
+
 /// FNV-1a.
 fn hash(bytes: &[u8]) -> u64 {
     bytes.iter().fold(0xcbf2_9ce4_8422_2325, |hash, &byte| {
@@ -163,6 +166,31 @@ fn all(mut changed: impl FnMut(Vec<u8>) -> Vec<u8>) -> Vec<String> {
     lines
 }
 
+/// The number and bytes of a file's plan, and its listing.
+fn listing(name: &str, file: &[u8]) -> String {
+    let (mut work, mut plan, mut listing) = (vec![9; WORK], vec![7; 512], vec![b'?'; 32_768]);
+    let planned = numbers::plan(file, &mut work, &mut plan);
+    let listed = numbers::list(file, &mut work, &mut listing);
+    listing.truncate(listed.saturating_sub(ACCEPTED) as usize);
+    let bytes = plan.iter().take_while(|&&byte| byte != 7);
+    let bytes: String = bytes.map(u8::to_string).collect();
+    let text = String::from_utf8(listing).expect("a listing is text");
+    format!("{name}: plan {planned:x} {bytes}\n{text}")
+}
+
+/// The plans and listings of the trials and of a thousand small jobs, without kind 3.
+fn listings() -> String {
+    let trials = stored::trials().into_iter().map(|trial| trial.file);
+    let trials = trials.filter(|file| is_without_kind_3(file)).take(TRIALS);
+    let trials = trials.enumerate();
+    let trials = trials.map(|(number, file)| listing(&format!("trial {number}"), &file));
+    let jobs = (0..1_000).map(|number| {
+        let job = small::job_with(&mut random(10_000 + number), Reentry::Never);
+        listing(&format!("job {number}"), &job.file())
+    });
+    trials.chain(jobs).collect()
+}
+
 /// A plan of so many nodes, with the nodes of this set watched.
 fn bits(set: u32, nodes: u32) -> Vec<u8> {
     (0..nodes).map(|node| (set >> node & 1) as u8).collect()
@@ -190,6 +218,18 @@ fn answers_are_those_stored() {
         "all answers are in {}",
         seen.display()
     );
+}
+
+#[test]
+fn plans_and_listings_are_those_stored_byte_for_byte() {
+    let text = listings();
+    let seen = Path::new(env!("CARGO_TARGET_TMPDIR")).join("listings.txt");
+    fs::write(&seen, &text).expect("the listings are written");
+    let stored = String::from_utf8(stored::file(LISTINGS)).expect("the stored file is text");
+    for (line, wanted) in text.lines().zip(stored.lines()) {
+        assert_eq!(line, wanted, "all listings are in {}", seen.display());
+    }
+    assert_eq!(text.len(), stored.len(), "{}", seen.display());
 }
 
 #[test]
