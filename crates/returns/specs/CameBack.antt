@@ -6,21 +6,13 @@ use mathlib.Core.Bool.{Bool, true, false}
 use mathlib.Core.List.{List}
 use Prim.Native.Nat.{ℕ, _<_}
 use Rattle.job.specs.Job.{isReentrant, isEntry, Job, nodeAt}
-use Rattle.job.specs.Plan.{Enabling, full, enables}
+use Rattle.job.specs.Plan.{Enabling, enables}
 use Rattle.job.specs.Words.{Spelt}
 use Rattle.buffer.specs.Views.{marksIn, Held}
 use Rattle.tables.specs.Tables.{pairsLeft, SearchKept}
 use Rattle.tables.specs.Held.{JobHeld, PlanHeld}
-use Rattle.look.specs.Looking.{pastNode}
+use Rattle.exitrows.specs.Ended.{PastHeld}
 use Rattle.rounds.specs.Rounds.{Following, Settled}
-
--- a pair past node n, by one that the buffer holds there
-pub record PastHeld (j : Job) (w : Enabling) (work : List ℕ) (n p q : ℕ) : Type 0 where
-  pub one : ℕ
-  pub other : ℕ
-  pub held : Held work n one other
-  pub one-is : p ≡ pastNode j full n one
-  pub other-is : q ≡ pastNode j w n other
 
 -- nothing more comes back: the pairs of a call that may come back in are held at every entry, and what the words after an exit lead to is
 -- held at every such call

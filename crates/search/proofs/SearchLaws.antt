@@ -30,7 +30,8 @@ use Rattle.tables.specs.Tables.{SearchKept}
 use Rattle.tables.specs.Held.{Usable, JobHeld, PlanHeld, AfterHeld}
 use Rattle.look.specs.Looking.{pastState, pastNode, Follows, over-edge, by-word, by-entry, by-return, ClosedPair, SplitPair, split-point, split-call, split-exit}
 use Rattle.rounds.specs.Rounds.{ClosedAt, Following, held-first, follows, Settled, Rounded, RoundedAt}
-use Rattle.returns.specs.CameBack.{PastHeld, NothingBack, NoMarks, CameBack, CameBackAt}
+use Rattle.exitrows.specs.Ended.{PastHeld}
+use Rattle.returns.specs.CameBack.{NothingBack, NoMarks, CameBackAt}
 use Rattle.search.specs.Searched.{SearchedAt}
 use Rattle.starts.specs.Started.{Started}
 use Rattle.rounds.specs.declared.Seen.{Seen}
@@ -171,7 +172,11 @@ module _ {j : Job} {w : Enabling} {work : List ℕ} (t : ClosedTable j w work) w
       past-held : {n p q : ℕ} → PastNode j full w (ReachedIn j full w (Held work)) n p q → PastHeld j w work n p q
       past-held h =
           let f = past-from h in
-          record { one = f .one; other = f .other; held = f .from .1; one-is = sym (f .one-is); other-is = sym (f .other-is) }
+          record {
+            index = f .one;
+            below = small (pair-at-within (t .formed) (f .from .0) .one);
+            holds = record { other = f .other; from = f .from .1; one-is = sym (f .one-is); other-is = sym (f .other-is) };
+          }
 
   -- and under it the monitors alarm alike
   closed-invariant : NodeInvariant j full w (Held work)
