@@ -1,0 +1,3 @@
+-- Pairs gathered from nodes, and joined at nodes.
+-- Assumes nothing.
+pub mod Joins
