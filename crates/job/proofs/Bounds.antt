@@ -43,6 +43,10 @@ is-entry-node j n h = node-by j n isEntry refl h
 pub reentrant-node : (j : Job) (n : ℕ) → isReentrant (nodeAt j n .kind) ≡ true → n < length (j .nodes)
 reentrant-node j n h = node-by j n (λ m. isReentrant (m .kind)) refl h
 
+-- and every exit
+pub exit-node : (j : Job) (n : ℕ) → nodeAt j n .exit ≡ true → n < length (j .nodes)
+exit-node j n h = node-by j n (λ m. m .exit) refl h
+
 -- an admitted start is at a node of the job, in a state of the rule
 pub admitted-within : {j : Job} {x : Place} {p q : ℕ} → WellFormedJob j → Admitted j x p q → Within j x p q
 admitted-within {j} wf (admitted {n = n} {q = q} h) = record { node = entry-node j n q h; one = wf .entries n q h; other = wf .entries n q h }

@@ -7,7 +7,6 @@ use mathlib.Core.List.{List}
 use Prim.Native.Nat.{ℕ, _+_, _≤_, _<_}
 use native.Mathlib.Decide.{ℕ-discrete}
 use native.Mathlib.Omega.{arith}
-use lib.ListN.{getD}
 use Rattle.laws.specs.Bits.{has}
 use Rattle.tables.specs.Sixteen.{InRows, RowJoined}
 use Rattle.relation.specs.Union.{Union, Below}
@@ -67,9 +66,15 @@ union-more {T} {l} {m} {k} {n} u v = record {
       (v .new p q h x);
 }
 
--- all rows of a relation were joined
+-- sixteen rows were joined, one after another
 pub union-rows
-    : (more : List ℕ) {l m : List ℕ} {n : ℕ} → Union (Below (λ i. AtRow i (getD more i 0)) n) l m → 16 ≤ n → Union (InRows more) l m
-union-rows more u all =
-    union-as (λ p q h x. subst (λ (i : ℕ). InRows more i q) (sym (x .holds .0)) (x .holds .1))
+    : (row : ℕ → ℕ) {l m : List ℕ} {n : ℕ} → Union (Below (λ i. AtRow i (row i)) n) l m → 16 ≤ n
+    → Union (λ p q. has (row p) q ≡ true) l m
+union-rows row u all =
+    union-as (λ p q h x. subst (λ (i : ℕ). has (row i) q ≡ true) (sym (x .holds .0)) (x .holds .1))
     (λ p q h x. record { index = p; below = omega arith; holds = (refl, x) }) u
+
+-- as many as there are
+pub union-end
+    : {T : ℕ → ℕ → ℕ → Type 0} {l m : List ℕ} {n k : ℕ} → Union (Below T n) l m → n ≤ k → k ≤ n → Union (Below T k) l m
+union-end {T} {l} {m} {n} {k} u low high = subst (λ (i : ℕ). Union (Below T i) l m) (omega arith) u

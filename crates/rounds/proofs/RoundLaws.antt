@@ -17,8 +17,8 @@ use Rattle.laws.proofs.Bits.{has-below, has-or}
 use Rattle.laws.proofs.Tests.{passes-or-fails, or-left, or-right, or-passes}
 use Rattle.laws.proofs.Walk.{Rest, rest-start, rest-from, rest-lt, rest-next, members-more, members-end}
 use Rattle.automaton.specs.Automaton.{next}
-use Rattle.job.proofs.KindLaws.{event-small, call-small}
-use Rattle.job.specs.Job.{Point, no-point, point, pointOf, Job, nodeAt}
+use Rattle.job.proofs.KindLaws.{call-small}
+use Rattle.job.specs.Job.{Job}
 use Rattle.job.specs.Plan.{Enabling, full, enables}
 use Rattle.moves.specs.declared.Past.{Past}
 use Rattle.buffer.specs.Views.{marksIn, markedIn, EdgeIn, Held}
@@ -28,28 +28,14 @@ use Rattle.rounds.specs.declared.Seen.{Seen}
 use Rattle.rounds.specs.declared.Seen.the-variants.{Nothing, Rows, Difference}
 use Rattle.successors.specs.Joined.{JoinedPast}
 use Rattle.tables.specs.Sixteen.{InRows}
-use Rattle.look.specs.Looking.{pastState, pastNode, Follows, over-edge, AlikePair, ClosedPair, SplitPair, split-point, split-call, split-exit, Looked, LookedAt}
+use Rattle.look.specs.Looking.{pastNode, Follows, over-edge, AlikePair, ClosedPair, SplitPair, split-point, split-call, split-exit, Looked, LookedAt}
 use Rattle.rounds.specs.Rounds.{Following, held-first, follows, SettledRow, Settled, Rounded, RoundedAt}
+use Rattle.look.proofs.PastLaws.{next-small, past-small}
 use Rattle.tables.proofs.RowLaws.{has-nothing}
 use Rattle.tables.proofs.SixteenLaws.{rows-old, rows-here, rows-fresh}
 use Rattle.tables.proofs.KeptLaws.{search-kept-none, search-kept-both, grown-none, grown-both, class-same, usable-same, job-same, plan-same}
 
 -- ---- from one buffer to another
-
-module _
-    {j : Job} {o : List ℕ} {table : List (List ℕ)} {finals states nodes : ℕ} (u : Usable o table states nodes)
-    (job : JobHeld j o table finals states nodes) where
-  -- a next state is below 16
-  pub next-small : (p a : ℕ) → p < 16 → a < 16 → next (j .rule) p a < 16
-  next-small p a lp la = subst (λ (x : ℕ). x < 16) (job .cells p a lp la) (u .cells p a lp la)
-
-  -- and so is a state past a node
-  pub past-small : (n p : ℕ) → p < 16 → pastNode j full n p < 16
-  past-small n p lp = go (pointOf (nodeAt j n .kind)) refl
-    where
-      go : (x : Point) → pointOf (nodeAt j n .kind) ≡ x → pastState (j .rule) full n x p < 16
-      go no-point e = lp
-      go (point a) e = next-small p a lp (event-small n (job .formed) e)
 
 -- pairs of one buffer are held in another
 abbrev pub HeldIn : List ℕ → List ℕ → Type 0
@@ -63,11 +49,11 @@ module _
   alike-kept held n p q ln lp c = record {
     words = λ a h.
         held n (next (j .rule) p a) (next (j .rule) q a) ln
-        (next-small u job p a lp (call-small n a (job .formed) h)) (c .words a h);
+        (next-small (u .cells) job p a lp (call-small n a (job .formed) h)) (c .words a h);
     at-point = c .at-point;
     at-call = c .at-call;
     at-exit =
-        ap (λ (x : ℕ). has x (pastNode j w n q)) (class-same k n (pastNode j full n p) ln (past-small u job n p lp)) ∙ c .at-exit;
+        ap (λ (x : ℕ). has x (pastNode j w n q)) (class-same k n (pastNode j full n p) ln (past-small (u .cells) job n p lp)) ∙ c .at-exit;
   }
 
   -- a closed pair is closed where no pair is lost
@@ -76,7 +62,7 @@ module _
     alike = alike-kept held n p q ln lp (c .alike);
     edges = λ a h.
         held a (pastNode j full n p) (pastNode j w n q)
-        (omega (arith, job .formed .edges n a h .1, job .nodes-are, u .few-nodes)) (past-small u job n p lp) (c .edges a h);
+        (omega (arith, job .formed .edges n a h .1, job .nodes-are, u .few-nodes)) (past-small (u .cells) job n p lp) (c .edges a h);
   }
 
   -- a pair that splits does so in the other buffer
@@ -85,7 +71,7 @@ module _
   split-kept n p q ln lp (split-call a h d) = split-call a h d
   split-kept n p q ln lp (split-exit h) =
       split-exit
-      (ap (λ (x : ℕ). has x (pastNode j w n q)) (sym (class-same k n (pastNode j full n p) ln (past-small u job n p lp))) ∙ h)
+      (ap (λ (x : ℕ). has x (pastNode j w n q)) (sym (class-same k n (pastNode j full n p) ln (past-small (u .cells) job n p lp))) ∙ h)
 
 -- what follows pairs that follow
 pub following-both
@@ -293,7 +279,7 @@ module _ {table : List (List ℕ)} {finals states nodes : ℕ} where
           (was .0) q (member-same q (was .1) x) in
           record {
             alike = alike-kept u held (join .grown .kept) (join .grown .held) n r q small few (c .0);
-            edges = λ a e. join .here a _ _ (job-now held .edges n a ln .0 e) (past-small u held n r few) (c .1);
+            edges = λ a e. join .here a _ _ (job-now held .edges n a ln .0 e) (past-small (u .cells) held n r few) (c .1);
           }
 
       -- the node is done
@@ -441,6 +427,7 @@ module _ {table : List (List ℕ)} {finals states nodes : ℕ} where
         record {
           kept = search-kept-both taken-kept (search-kept-both (r .grown .kept) (look .grown .kept));
           held = λ a x y la lx h. look .grown .held a x y la lx (taken-held (r .grown) a x y la lx (i .held a x y la lx h));
+          most = omega (arith, i .left, t .left, r .grown .left, look .grown .left);
           left = λ e. absurd (rows-difference (sym e));
           none = λ e. absurd (nothing-difference (sym e));
           exact = λ j plan held plan-held. rounded j plan held plan-held;
@@ -477,6 +464,7 @@ module _ {table : List (List ℕ)} {finals states nodes : ℕ} where
       record {
         kept = i .kept;
         held = i .held;
+        most = i .left;
         left = i .less;
         none = λ z a la. i .none z a (omega arith);
         exact = λ j plan held plan-held.

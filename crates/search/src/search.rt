@@ -1,6 +1,7 @@
 // The search for an event at which the full and the residual monitor alarm differently.
 ghost use Rattle.tables.specs.Held.{Usable};
 ghost use Rattle.search.specs.Searched.{SearchedAt};
+use returns::come_back;
 use rounds::Seen;
 use rounds::round;
 use starts::start;
@@ -20,7 +21,11 @@ pub fn is_faithful(
     start(work, nodes);
     loop {
         match round(work, table, finals, states, nodes) {
-            Seen::Nothing => return true,
+            Seen::Nothing => {
+                if !come_back(work, table, finals, states, nodes) {
+                    return true;
+                }
+            }
             Seen::Rows => {}
             Seen::Difference => return false,
         }

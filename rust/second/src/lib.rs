@@ -10,6 +10,7 @@ pub mod job;
 pub mod listing;
 pub mod planning;
 pub mod reading;
+mod reentry;
 pub mod search;
 pub mod serving;
 pub mod slip;

@@ -1,7 +1,7 @@
 -- `relation::join_relation` meets its contract.
 -- Invariant: the rows below p are joined. Measure: the rows still to be joined.
 -- Assumes nothing.
-use Prim.Native.Nat.{_-_}
+use Prim.Native.Nat.{ℕ, _-_}
 use mathlib.Core.Path.{sym, _∙_}
 use native.Mathlib.Omega.{arith}
 use borrow.Author.Needs.{needs}
@@ -47,7 +47,7 @@ same-length c = c .before .loop .inv .0 .long ∙ sym (c .before .before .before
 returns : tie.Need-returns Inv-loop μ-loop
 returns c =
     let inv = c .before .loop .inv in
-    (inv .0, union-rows (c .before .before .before .args .more .now) (inv .1) (omega arith))
+    (inv .0, union-rows (λ (i : ℕ). getD (c .before .before .before .args .more .now) i 0) (inv .1) (omega arith))
 
 pub join-relation-spec : {M : Type 1} → statement M
 join-relation-spec =
