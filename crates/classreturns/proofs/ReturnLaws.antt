@@ -29,7 +29,8 @@ use Rattle.classes.specs.Classes.{beforeRow, AllApart}
 use Rattle.classes.specs.Returns.{ClassesReturned}
 use Rattle.classes.proofs.AfterLaws.{node-before, job-rule}
 use Rattle.classes.proofs.ClassLaws.{ApartPast, before-row-sound}
-use Rattle.classreturns.specs.Joins.{RowsHold, AtEntry, AtCall, ToCall, ToExit, ToExitWithin, NodesJoined}
+use Rattle.returnrows.specs.Gathered.{RowsHold, AtEntry, AtCall}
+use Rattle.classreturns.specs.Joins.{ToCall, ToExit, ToExitWithin, NodesJoined}
 
 -- what tells apart after a word for one reason does so for another, for states of the rule
 pub word-within

@@ -1,3 +1,3 @@
--- Pairs gathered from nodes, and joined at nodes.
+-- Pairs joined at nodes.
 -- Assumes nothing.
 pub mod Joins

@@ -1,4 +1,4 @@
--- `classreturns::call_rows` meets its contract.
+-- `returnrows::call_rows` meets its contract.
 -- Invariant: the rows hold the pairs past the calls that may come back in below n, and nothing else. Measure: the nodes still to be passed.
 -- Assumes nothing.
 use Prim.Native.Nat.{_-_, _≤_}
@@ -8,10 +8,10 @@ use Rattle.tables.specs.Sixteen.{Sixteen}
 use Rattle.tables.proofs.SixteenLaws.{emptyRows, empty-sixteen}
 use Rattle.relation.specs.Union.{Union, Below}
 use Rattle.relation.proofs.UnionLaws.{union-start, union-more}
-use Rattle.classreturns.specs.Joins.{AtCall}
-use Rattle.classreturns.proofs.JoinLaws.{rows-hold, below-end}
-use Rattle.classreturns.proofs.call_rows.Statement.{statement}
-use Rattle.classreturns.proofs.call_rows.Tie as tie
+use Rattle.returnrows.specs.Gathered.{AtCall}
+use Rattle.returnrows.proofs.GatherLaws.{rows-hold, below-end}
+use Rattle.returnrows.proofs.call_rows.Statement.{statement}
+use Rattle.returnrows.proofs.call_rows.Tie as tie
 
 abbrev Inv-loop : tie.InvT-loop
 Inv-loop work nodes rows₀ n₀ rows n = (n ≤ nodes) × (Sixteen rows) × Union (Below (AtCall work) n) (emptyRows 16) rows

@@ -1,13 +1,13 @@
--- `classreturns::gather_entry` meets its contract: the rows before an entry are joined, and no others.
+-- `returnrows::gather_entry` meets its contract: the rows before an entry are joined, and no others.
 -- Assumes nothing.
 use mathlib.Core.Path.{sym, _∙_}
 use borrow.Author.Needs.{needs}
 use Rattle.job.specs.Job.{isEntry}
 use Rattle.buffer.specs.Views.{nodeIn}
 use Rattle.classes.specs.Classes.{beforeRow}
-use Rattle.classreturns.proofs.JoinLaws.{union-read, union-other}
-use Rattle.classreturns.proofs.gather_entry.Statement.{statement}
-use Rattle.classreturns.proofs.gather_entry.Tie as tie
+use Rattle.returnrows.proofs.GatherLaws.{union-read, union-other}
+use Rattle.returnrows.proofs.gather_entry.Statement.{statement}
+use Rattle.returnrows.proofs.gather_entry.Tie as tie
 
 is-entry-requires : tie.Need-is-entry-requires
 is-entry-requires c κs = search needs

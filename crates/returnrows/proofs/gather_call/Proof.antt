@@ -1,12 +1,12 @@
--- `classreturns::gather_call` meets its contract: the rows past a call that may come back in are joined, and no others.
+-- `returnrows::gather_call` meets its contract: the rows past a call that may come back in are joined, and no others.
 -- Assumes nothing.
 use mathlib.Core.Path.{sym, _∙_}
 use borrow.Author.Needs.{needs}
 use Rattle.job.specs.Job.{isReentrant}
 use Rattle.buffer.specs.Views.{nodeIn, classRowIn}
-use Rattle.classreturns.proofs.JoinLaws.{union-read, union-other}
-use Rattle.classreturns.proofs.gather_call.Statement.{statement}
-use Rattle.classreturns.proofs.gather_call.Tie as tie
+use Rattle.returnrows.proofs.GatherLaws.{union-read, union-other}
+use Rattle.returnrows.proofs.gather_call.Statement.{statement}
+use Rattle.returnrows.proofs.gather_call.Tie as tie
 
 is-reentrant-requires : tie.Need-is-reentrant-requires
 is-reentrant-requires c κs = search needs
