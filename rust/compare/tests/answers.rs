@@ -22,7 +22,10 @@ use dapohiru_generators::sized::{self, Sizes, FULL};
 use dapohiru_generators::small;
 use dapohiru_generators::spread::Spread;
 use dapohiru_generators::zeros::{filled, zero_filled};
+use dapohiru_plain::check::Checker;
+use dapohiru_plain::plan::Counts;
 use dapohiru_second::job::Job;
+use dapohiru_second::listing::listing;
 use dapohiru_second::reading::{Reader, Slip, WORK};
 use std::collections::BTreeSet;
 use std::fs;
@@ -190,6 +193,41 @@ fn answers_are_those_stored() {
         "all answers are in {}",
         seen.display()
     );
+}
+
+#[test]
+fn walks_and_the_plain_planner_give_the_stored_plans_and_listings() {
+    let stored = String::from_utf8(stored::file(STORED)).expect("the stored file is text");
+    let stored = stored.lines().filter(|line| line.starts_with("job "));
+    let mut checker = Checker::default();
+    let mut listed = 0;
+    for (number, line) in (0..1_000).zip(stored) {
+        let job = job(&mut random(number), number);
+        let file = job.file();
+        let mut bytes = vec![7; 512];
+        let counts = checker.plan(&file, &mut vec![0; WORK], &mut bytes);
+        let Counts {
+            points,
+            watched,
+            passes,
+        } = counts.expect("the job is planned");
+        let planned = ACCEPTED + ((points as u64) << 32) + ((watched as u64) << 16) + passes;
+        let mut wanted = format!(
+            "job {number}: file {:016x}, plan {planned:x} {:016x}, list ",
+            hash(&file),
+            hash(&bytes)
+        );
+        // walks of many nodes take long
+        if job.nodes.len() < 100 {
+            let listing = listing(&job);
+            let len = ACCEPTED + listing.len() as u64;
+            wanted += &format!("{len:x} {:016x}, checks ", hash(&listing));
+            listed += 1;
+        }
+        assert!(line.starts_with(&wanted), "{line}\nand not\n{wanted}");
+    }
+    println!("{listed} listings");
+    assert!(listed > 700);
 }
 
 #[test]
