@@ -22,7 +22,10 @@ use dapohiru_generators::sized::{self, Sizes, FULL};
 use dapohiru_generators::small;
 use dapohiru_generators::spread::Spread;
 use dapohiru_generators::zeros::{filled, zero_filled};
+use dapohiru_plain::check::Checker;
+use dapohiru_plain::plan::Counts;
 use dapohiru_second::job::Job;
+use dapohiru_second::listing::listing;
 use dapohiru_second::reading::{Reader, Slip, WORK};
 use std::collections::BTreeSet;
 use std::fs;
@@ -167,7 +170,7 @@ fn all(mut changed: impl FnMut(Vec<u8>) -> Vec<u8>) -> Vec<String> {
 }
 
 /// The number and bytes of a file's plan, and its listing.
-fn listing(name: &str, file: &[u8]) -> String {
+fn plan_and_listing(name: &str, file: &[u8]) -> String {
     let (mut work, mut plan, mut listing) = (vec![9; WORK], vec![7; 512], vec![b'?'; 32_768]);
     let planned = numbers::plan(file, &mut work, &mut plan);
     let listed = numbers::list(file, &mut work, &mut listing);
@@ -183,10 +186,10 @@ fn listings() -> String {
     let trials = stored::trials().into_iter().map(|trial| trial.file);
     let trials = trials.filter(|file| is_without_kind_3(file)).take(TRIALS);
     let trials = trials.enumerate();
-    let trials = trials.map(|(number, file)| listing(&format!("trial {number}"), &file));
+    let trials = trials.map(|(number, file)| plan_and_listing(&format!("trial {number}"), &file));
     let jobs = (0..1_000).map(|number| {
         let job = small::job_with(&mut random(10_000 + number), Reentry::Never);
-        listing(&format!("job {number}"), &job.file())
+        plan_and_listing(&format!("job {number}"), &job.file())
     });
     trials.chain(jobs).collect()
 }
@@ -230,6 +233,41 @@ fn plans_and_listings_are_those_stored_byte_for_byte() {
         assert_eq!(line, wanted, "all listings are in {}", seen.display());
     }
     assert_eq!(text.len(), stored.len(), "{}", seen.display());
+}
+
+#[test]
+fn walks_and_the_plain_planner_give_the_stored_plans_and_listings() {
+    let stored = String::from_utf8(stored::file(STORED)).expect("the stored file is text");
+    let stored = stored.lines().filter(|line| line.starts_with("job "));
+    let mut checker = Checker::default();
+    let mut listed = 0;
+    for (number, line) in (0..1_000).zip(stored) {
+        let job = job(&mut random(number), number);
+        let file = job.file();
+        let mut bytes = vec![7; 512];
+        let counts = checker.plan(&file, &mut vec![0; WORK], &mut bytes);
+        let Counts {
+            points,
+            watched,
+            passes,
+        } = counts.expect("the job is planned");
+        let planned = ACCEPTED + ((points as u64) << 32) + ((watched as u64) << 16) + passes;
+        let mut wanted = format!(
+            "job {number}: file {:016x}, plan {planned:x} {:016x}, list ",
+            hash(&file),
+            hash(&bytes)
+        );
+        // walks of many nodes take long
+        if job.nodes.len() < 100 {
+            let listing = listing(&job);
+            let len = ACCEPTED + listing.len() as u64;
+            wanted += &format!("{len:x} {:016x}, checks ", hash(&listing));
+            listed += 1;
+        }
+        assert!(line.starts_with(&wanted), "{line}\nand not\n{wanted}");
+    }
+    println!("{listed} listings");
+    assert!(listed > 700);
 }
 
 #[test]

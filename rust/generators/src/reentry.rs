@@ -1,14 +1,16 @@
 //! Calls that may come back in (kind 3), put into random jobs that are drawn without them.
 use crate::random::Random;
-use dapohiru_second::job::{Job, Node, CALL, EVENT, PLAIN, REENTRANT};
+use crate::small::word_set;
+use dapohiru_second::job::{Job, Node, CALL, PLAIN, REENTRANT};
 
 /// Which jobs get calls that may come back in.
 #[derive(Clone, Copy, Debug, PartialEq, Eq)]
 pub enum Reentry {
-    /// None: the jobs are those of kinds 0 to 2 that the same random numbers always gave.
+    /// None. No random number is drawn for it, so that jobs with stored answers are made again.
     Never,
     /// One in two.
     Often,
+    /// All.
     Always,
 }
 
@@ -30,15 +32,6 @@ impl Reentry {
         } else {
             job
         }
-    }
-}
-
-/// A set for words: one symbol, or any set.
-pub fn word_set(random: &mut Random, symbols: u64) -> u64 {
-    if random.once_in(2) {
-        1 << random.below(symbols)
-    } else {
-        random.set(symbols)
     }
 }
 
@@ -90,8 +83,8 @@ fn add_call(random: &mut Random, job: &mut Job) {
     job.edges.dedup();
 }
 
-/// The job with so many of its calls, or all of them, turned into ones that may come back in; where it has no
-/// call, into nodes that report nothing otherwise.
+/// The job with so many of its calls, or all of them, turned into ones that may come back in. Where it has no
+/// call, plain nodes are.
 pub fn turned(random: &mut Random, mut job: Job, count: u64) -> Job {
     let of_kind = |kind: u64| {
         let is = |&node: &usize| job.nodes[node].kind == kind;
@@ -104,7 +97,6 @@ pub fn turned(random: &mut Random, mut job: Job, count: u64) -> Job {
     random.shuffle(&mut nodes);
     nodes.truncate(count as usize);
     for node in nodes {
-        assert_ne!(job.nodes[node].kind, EVENT, "a point stays one");
         job.nodes[node].kind = REENTRANT;
     }
     job

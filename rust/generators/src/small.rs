@@ -2,7 +2,7 @@
 //! words of several events, calls that come back in, exits with after sets and edges, several entries, nodes
 //! that no walk reaches.
 use crate::random::Random;
-use crate::reentry::{reentered, word_set, Reentry};
+use crate::reentry::{reentered, Reentry};
 use crate::story;
 use crate::widen::widened;
 use dapohiru_second::job::{Job, Node, CALL, EVENT, PLAIN};
@@ -189,6 +189,15 @@ fn nodes_with_entries(random: &mut Random, count: u64, states: u64, symbols: u64
         random.some_set(states)
     };
     nodes
+}
+
+/// A set for words: one symbol, or any set.
+pub fn word_set(random: &mut Random, symbols: u64) -> u64 {
+    if random.once_in(2) {
+        1 << random.below(symbols)
+    } else {
+        random.set(symbols)
+    }
 }
 
 /// Mostly a row of nodes with some edges that skip, lead back or to the node itself.

@@ -1,28 +1,15 @@
 //! The plan check: sweeps over all nodes until nothing changes. What comes in again and what returns is
 //! gathered on the way and goes on after each sweep.
 use crate::read::{Decoded, Node};
+use crate::ways::{join, WaysBack};
 
 /// For each full state the set of planned states that arrive together with it.
-type Rows = [u16; 16];
+pub type Rows = [u16; 16];
 
 /// The greatest length of a file.
 pub const LONGEST: usize = 49_914;
 /// The least length of a work buffer, and the bytes of it that are cleared.
 pub const WORK: usize = 65_536;
-
-/// The nodes that walks go to from calls that may come back in and from exits.
-struct WaysBack {
-    /// The entries, and how many there are.
-    entries: [u16; 512],
-    entry_count: usize,
-    /// The calls that may come back in, and how many there are.
-    calls: [u16; 512],
-    call_count: usize,
-    /// What has come past such a call.
-    again: Rows,
-    /// What has come to the end of a word after an exit.
-    back: Rows,
-}
 
 /// The buffers that checks use again and again.
 pub struct Checker {
@@ -42,14 +29,7 @@ impl Default for Checker {
             job: Decoded::new(),
             next: [[0; 16]; 16],
             before: Box::new([[0; 16]; 512]),
-            ways: Box::new(WaysBack {
-                entries: [0; 512],
-                entry_count: 0,
-                calls: [0; 512],
-                call_count: 0,
-                again: [0; 16],
-                back: [0; 16],
-            }),
+            ways: WaysBack::new(),
             sweeps: 0,
         }
     }
@@ -81,30 +61,8 @@ impl Checker {
                 *to = 1 << row[symbol];
             }
         }
-        self.find_ways();
+        self.ways.find(&job.nodes[..job.node_count]);
         Ok(())
-    }
-
-    /// Finds the entries and the calls that may come back in.
-    fn find_ways(&mut self) {
-        let WaysBack {
-            entries,
-            entry_count,
-            calls,
-            call_count,
-            ..
-        } = &mut *self.ways;
-        (*entry_count, *call_count) = (0, 0);
-        for (number, node) in self.job.nodes[..self.job.node_count].iter().enumerate() {
-            if node.entry != 0 {
-                entries[*entry_count] = number as u16;
-                *entry_count += 1;
-            }
-            if node.kind == 3 {
-                calls[*call_count] = number as u16;
-                *call_count += 1;
-            }
-        }
     }
 
     /// How many nodes the job has.
@@ -138,40 +96,18 @@ impl Checker {
                 *row = node.entry & 1 << state;
             }
         }
-        (self.ways.again, self.ways.back) = ([0; 16], [0; 16]);
+        self.ways.begin();
         self.sweeps = 0;
         loop {
             self.sweeps += 1;
             let Some(swept) = self.sweep(plan) else {
                 return false;
             };
-            let settled = self.settle();
-            if !swept && !settled {
+            let gone_on = self.ways.go_on(&mut self.before);
+            if !swept && !gone_on {
                 return true;
             }
         }
-    }
-
-    /// Lets what was gathered come in again and return; says whether anything changed.
-    fn settle(&mut self) -> bool {
-        let WaysBack {
-            entries,
-            entry_count,
-            calls,
-            call_count,
-            again,
-            back,
-        } = &*self.ways;
-        let mut changed = false;
-        if *call_count != 0 {
-            for &call in &calls[..*call_count] {
-                changed |= join(&mut self.before[usize::from(call)], back);
-            }
-            for &entry in &entries[..*entry_count] {
-                changed |= join(&mut self.before[usize::from(entry)], again);
-            }
-        }
-        changed
     }
 
     /// Sweeps over all nodes once; says whether anything changed, or nothing where an alarm differs.
@@ -191,12 +127,10 @@ impl Checker {
             };
             if node.exit {
                 let ended = self.closed(past, node.after)?;
-                if self.ways.call_count != 0 {
-                    join(&mut self.ways.back, &ended);
-                }
+                self.ways.returns(&ended);
             }
             if node.kind == 3 {
-                join(&mut self.ways.again, &past);
+                self.ways.comes_in(&past);
             }
             let edges = self.job.first[number].into()..self.job.first[number + 1].into();
             for &(_, to) in &self.job.edges[edges] {
@@ -264,15 +198,4 @@ impl Checker {
             }
         }
     }
-}
-
-/// Joins rows into others; says whether these grew.
-#[inline]
-fn join(into: &mut Rows, rows: &Rows) -> bool {
-    let mut new = 0;
-    for (held, row) in into.iter_mut().zip(rows) {
-        new |= row & !*held;
-        *held |= row;
-    }
-    new != 0
 }

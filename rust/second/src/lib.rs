@@ -8,6 +8,7 @@ pub mod checking;
 pub mod found;
 pub mod job;
 pub mod listing;
+mod place;
 pub mod planning;
 pub mod reading;
 mod reentry;
