@@ -1,12 +1,12 @@
 -- The theorems that other crates cite.
 -- Assumes nothing.
 pub mod KindLaws
-pub mod WithoutReentry
 pub mod SearchLaws
 pub mod PlanSays
 pub mod Pairs
 pub mod Bounds
 pub mod ConfigLaws
+pub mod WithoutReentry
 pub mod Decide
 pub mod FoundLaws
 pub mod Rules

@@ -62,16 +62,16 @@ kindOf (suc zero) value = event value
 kindOf (suc (suc zero)) value = call value
 kindOf (suc (suc (suc k))) value = reentrant value
 
--- the number of a call
-abbrev pub callNumber : Bool → ℕ
-callNumber false = 2
-callNumber true = 3
+-- the number of the kind of a call
+abbrev pub callKind : Bool → ℕ
+callKind false = 2
+callKind true = 3
 
 -- the number of a kind in a job file
 abbrev pub kindNumber : Kind → ℕ
 kindNumber plain = 0
 kindNumber (event a) = 1
-kindNumber (calls again s) = callNumber again
+kindNumber (calls again s) = callKind again
 
 -- the value of a kind: "0, symbol or set"
 abbrev pub valueNumber : Kind → ℕ

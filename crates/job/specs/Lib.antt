@@ -2,10 +2,10 @@
 -- Assumes nothing.
 pub mod Job
 pub mod Walk
-pub mod WithoutReentry
 pub mod Plan
 pub mod PlanSays
 pub mod Search
+pub mod WithoutReentry
 pub mod Found
 pub mod FoundSays
 pub mod SearchSays

@@ -89,8 +89,8 @@ entered n no-point = past n ∷ []
 entered n (point a) = []
 
 -- the places before the nodes that pass a test, where another test does
-abbrev pub beforeThose : Bool → Job → (Node → Bool) → List Place
-beforeThose goes j f = cond goes (map before (numbersOf (length (j .nodes)) (λ n. f (nodeAt j n)))) []
+abbrev pub beforeNodes : Bool → Job → (Node → Bool) → List Place
+beforeNodes goes j f = cond goes (map before (numbersOf (length (j .nodes)) (λ n. f (nodeAt j n)))) []
 
 -- the silent moves from a place
 unfoldable pub silentMoves : Job → Place → List Place
@@ -98,8 +98,8 @@ unfolding targets numbersOf
 silentMoves j (before n) = entered n (pointOf (nodeAt j n .kind))
 silentMoves j (past n) =
     map before (targets (j .edges) n)
-    ++ (cond (nodeAt j n .exit) (ended n ∷ []) [] ++ beforeThose (isReentrant (nodeAt j n .kind)) j isEntry)
-silentMoves j (ended n) = beforeThose (nodeAt j n .exit) j (λ m. isReentrant (m .kind))
+    ++ (cond (nodeAt j n .exit) (ended n ∷ []) [] ++ beforeNodes (isReentrant (nodeAt j n .kind)) j isEntry)
+silentMoves j (ended n) = beforeNodes (nodeAt j n .exit) j (λ m. isReentrant (m .kind))
 
 -- a move that reports: the event, and the place after it
 pub record Telling : Type 0 where

@@ -1,12 +1,15 @@
--- Jobs without kind 3 (document 02, "Procedures that call themselves": "jobs without kind 3 give the listings they gave"): the statement,
--- with a theorem in `proofs/`.
+-- Jobs without kind 3 (document 02, "Procedures that call themselves": "jobs without kind 3 give the listings they gave"): their walks are
+-- those of document 01, and the tests, from which plans and listings are computed, look at its moves alone. The statement, with a theorem
+-- in `proofs/`.
 -- Assumes nothing.
 use mathlib.Core.Path.{_≡_}
 use mathlib.Core.Logic.{_↔_}
-use mathlib.Core.List.{List, [], _∷_}
+use mathlib.Core.Bool.{true, false, cond}
+use mathlib.Core.List.{List, [], _∷_, _++_, map}
 use Prim.Native.Nat.{ℕ}
-use Rattle.job.specs.Job.{reentrant, Job, nodeAt}
-use Rattle.job.specs.Walk.{Event, Place, Step, Silent, step, Told, Walk, stop, move, tell}
+use Rattle.job.specs.Job.{reentrant, isReentrant, Job, nodeAt}
+use Rattle.job.specs.Walk.{Event, Place, before, past, ended, Step, Silent, step, Told, Walk, stop, move, tell}
+use Rattle.job.specs.Search.{targets, silentMoves}
 
 -- no node of the job may come back in
 abbrev pub NeverBack : Job → Type 0
@@ -24,5 +27,12 @@ pub data OnlySteps (j : Job) : (x : Place) (es : List Event) (y : Place) → Wal
 
 -- in a job without kind 3 the silent moves are those of document 01, and so its walks are those of document 01
 pub record WithoutReentry : Type 0 where
+  -- a job whose nodes are plain, events and calls of kind 2 is one
+  pub without : (j : Job) → ((n : ℕ) → isReentrant (nodeAt j n .kind) ≡ false) → NeverBack j
   pub moves : (j : Job) → NeverBack j → (x y : Place) → Silent j x y ↔ Step j x y
   pub walks : (j : Job) → NeverBack j → (x : Place) (es : List Event) (y : Place) (k : Walk j x es y) → OnlySteps j x es y k
+  -- the moves that the tests list: past a node along its edges, and at an exit to the word after it; from that word none
+  pub listed-past
+      : (j : Job) → NeverBack j → (n : ℕ)
+      → silentMoves j (past n) ≡ map before (targets (j .edges) n) ++ cond (nodeAt j n .exit) (ended n ∷ []) []
+  pub listed-ended : (j : Job) → NeverBack j → (n : ℕ) → silentMoves j (ended n) ≡ []

@@ -8,7 +8,7 @@ use lib.ListN.{length, drop}
 use Rattle.laws.specs.Bounded.{allBelow}
 use Rattle.laws.specs.Bits.{has, with}
 use Rattle.automaton.specs.Automaton.{Automaton}
-use Rattle.job.specs.Job.{kindOf, kindNumber, valueNumber, Node, Edge, Job}
+use Rattle.job.specs.Job.{kindOf, kindNumber, valueNumber, Node, isEntry, Edge, Job}
 use Rattle.lines.specs.Line.{line, at}
 use Rattle.lines.specs.Lines.{LineKind, Lines, lines, refused, linesOf}
 
@@ -96,7 +96,7 @@ jobOf head rules nodes edges =
 -- 10: "no node is an entry"
 unfoldable pub someEntry : List Node → Bool
 someEntry [] = false
-someEntry (n ∷ ns) = not (eqb (n .entry) 0) || someEntry ns
+someEntry (n ∷ ns) = isEntry n || someEntry ns
 
 -- ---- reading
 

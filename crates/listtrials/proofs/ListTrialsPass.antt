@@ -75,4 +75,6 @@ call-trials-pass =
     and lists-so refl refl refl (λ work. refl)
     and lists-so refl refl refl (λ work. refl)
     and lists-so refl refl refl (λ work. refl)
+    and lists-so refl refl refl (λ work. refl)
+    and lists-so refl refl refl (λ work. refl)
     and done

@@ -9,7 +9,7 @@ use Prim.Native.String.{String}
 use lib.ListN.{length}
 use lib.Seq.{sets}
 use Rattle.job.specs.Job.{reentrant}
-use Rattle.planning.specs.Trials.{turn, lastSeal, writeTwice, aroundTheRing, returns, nopLost, callAtEntry, callAtExit, noExit, neitherAdmits, ownWord}
+use Rattle.planning.specs.Trials.{turn, lastSeal, writeTwice, aroundTheRing, returns, nopLost, callAtEntry, callAtExit, noExit, neitherAdmits, ownWord, twoCalls, callsIntoCall}
 use Rattle.jobfile.specs.File.{Answer, writeJob}
 use Rattle.jobfile.specs.FileTrials.{linesIn, pairFile, pairWithZeros, smallHead, smallRule, smallNode, withNode}
 use Rattle.buffer.specs.Buffer.{workSize, cleared}
@@ -61,7 +61,7 @@ loopLines =
     ∷ "F     1     0"
     ∷ []
 
--- the file of a job whose call comes in again, and of one whose exit returns to a call that no edge leads to: nodes of kind 3
+-- the file of a job whose call comes in again, a node of kind 3
 abbrev pub comesInLines : List String
 comesInLines =
     "J     3     2     3     2"
@@ -75,6 +75,7 @@ comesInLines =
     ∷ "F     1     2"
     ∷ []
 
+-- an exit that returns to a call to which no edge leads
 abbrev pub noEdgeLines : List String
 noEdgeLines =
     "J     3     2     2     0"
@@ -158,6 +159,13 @@ callTrials =
     ∷ lists (writeJob (neitherAdmits reentrant)) (Length 96)
     ("W     0     0    13     2     0     1" ∷ "W     1     0    14     2     0     1" ∷ "T     2     2     1" ∷ [])
     ∷ lists (writeJob (ownWord reentrant)) (Length 58) ("W     0     1     7     2     0     1" ∷ "T     1     1     1" ∷ [])
+    ∷ lists (writeJob (twoCalls reentrant)) (Length 134)
+    ("W     0     0     7     2     0     1"
+    ∷ "W     3     1     2     1     0     1"
+    ∷ "W     4     1     6     1     0     1"
+    ∷ "T     3     3     1"
+    ∷ [])
+    ∷ lists (writeJob (callsIntoCall reentrant)) (Length 58) ("W     1     1     7     2     0     1" ∷ "T     1     1     1" ∷ [])
     -- no event node
     ∷ lists (linesIn (smallHead ∷ smallRule ∷ smallNode ∷ [])) (Length 20) ("T     0     0     1" ∷ [])
     -- the empty file, and no entry: nothing is written

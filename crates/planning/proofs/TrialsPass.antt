@@ -87,4 +87,8 @@ trials-pass =
     and row refl refl
     and row refl refl
     and row refl refl
+    and row refl refl
+    and row refl refl
+    and row refl refl
+    and row refl refl
     and done

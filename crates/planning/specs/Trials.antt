@@ -293,6 +293,23 @@ lateWord kind =
 abbrev pub ownWord : (ℕ → Kind) → Job
 ownWord kind = jobOf sealRule (node (event 1) 1 false 0 ∷ node (kind 1) 0 false 0 ∷ []) (edge 0 1 ∷ [])
 
+-- a seal at an exit that has an edge too; two calls, one with words of write and one with a write behind it, and a write that is an entry in
+-- state 2: by returns to both calls, and by coming in again there, every write is sealed
+abbrev pub twoCalls : (ℕ → Kind) → Job
+twoCalls kind =
+    jobOf sealRule
+    (node (event 0) 1 true 0 ∷ node (kind 2) 0 false 0 ∷ node (kind 0) 0 false 0 ∷ node (event 1) 0 false 0 ∷ node (event 1) 4 false 0
+    ∷ node plain 0 false 0 ∷ [])
+    (edge 0 5 ∷ edge 2 3 ∷ [])
+
+-- an entry that is a call with words of seal, a write, and a call behind it that comes in again there, at the first call, whose word goes
+-- before the write again
+abbrev pub callsIntoCall : (ℕ → Kind) → Job
+callsIntoCall kind =
+    jobOf sealRule
+    (node (kind 1) 1 false 0 ∷ node (event 1) 0 false 0 ∷ node (kind 0) 0 false 0 ∷ [])
+    (edge 0 1 ∷ edge 1 2 ∷ [])
+
 -- all trial jobs: those that document 01 marks with a star, then our own
 abbrev pub trials : List Trial
 trials =
@@ -358,6 +375,10 @@ trials =
     ∷ trial (lateWord call) (lists (line 2 0 0 2 1 0 ∷ []) (total 1 0 2))
     ∷ trial (ownWord reentrant) (lists (line 0 1 7 2 0 1 ∷ []) (total 1 1 1))
     ∷ trial (ownWord call) (lists (line 0 1 1 1 1 0 ∷ []) (total 1 0 2))
+    ∷ trial (twoCalls reentrant) (lists (line 0 0 7 2 0 1 ∷ line 3 1 2 1 0 1 ∷ line 4 1 6 1 0 1 ∷ []) (total 3 3 1))
+    ∷ trial (twoCalls call) (lists (line 0 0 1 1 1 0 ∷ line 3 1 0 1 1 0 ∷ line 4 1 4 1 0 1 ∷ []) (total 3 1 2))
+    ∷ trial (callsIntoCall reentrant) (lists (line 1 1 7 2 0 1 ∷ []) (total 1 1 1))
+    ∷ trial (callsIntoCall call) (lists (line 1 1 3 1 0 1 ∷ []) (total 1 1 1))
     -- plans without the seal that stays only because the procedure comes in again, and without the write
     ∷ trial (comesIn reentrant) (checks (1 ∷ 0 ∷ 0 ∷ []) false)
     ∷ trial (comesIn call) (checks (1 ∷ 0 ∷ 0 ∷ []) true)

@@ -33,7 +33,7 @@ is-reentrant-requires c κs = let p = c .before .before .before .pre in (p .0, o
 returns : tie.Need-returns Inv-loop μ-loop
 returns c =
     let a = c .before .before .before .before .before .args in
-    sym (any-of (a .nodes) (again (a .work .now)) (c .before .before .before .loop .n) (c .before .before .loop-test .taken)
+    sym (any-of (a .nodes) (again (a .work .now)) (c .before .before .before .loop .n) (omega (arith, c .before .before .loop-test .taken))
     (sym (c .before .is-reentrant .ensures) ∙ c .if1 .taken))
 
 add-n : tie.Need-add-n Inv-loop μ-loop

@@ -1,6 +1,7 @@
 -- `nodetest::is_value` meets its contract, by cases on the kind.
 -- Assumes nothing.
 use mathlib.Core.Path.{sym}
+use native.Mathlib.Omega.{arith}
 use borrow.Author.Needs.{needs}
 use Rattle.nodetest.proofs.NodeTestLaws.{value-set, value-none}
 use Rattle.nodetest.proofs.is_value.Statement.{statement}
@@ -17,7 +18,7 @@ shr-result c = search needs
 
 returns-3 : tie.Need-returns-3
 returns-3 c = let x = c .before .before .before .args in
-    value-set (x .symbols) (x .kind) (x .value) (c .before .before .if1 .left) (c .before .if2 .left) (c .if3 .taken)
+    value-set (x .symbols) (x .kind) (x .value) (c .before .before .if1 .left) (c .before .if2 .left) (omega (arith, c .if3 .taken))
 
 returns-4 : tie.Need-returns-4
 returns-4 c = let x = c .before .before .before .args in
