@@ -4,13 +4,26 @@ ghost use Rattle.job.specs.Job.{isReentrant, isEntry};
 ghost use Rattle.buffer.specs.Layout.{Lent};
 ghost use Rattle.buffer.specs.Views.{nodeIn};
 ghost use Rattle.tables.specs.Sixteen.{Sixteen};
+ghost use Rattle.successors.specs.Joined.{RowsJoined};
 ghost use Rattle.relation.specs.Union.{Union};
 ghost use Rattle.reentry.specs.Reentry.{JoinedIf, JoinedWhere, EnteringAt, EnteringRows};
 use nodereads::is_entry;
 use nodereads::is_reentrant;
 use relation::join_row;
+use rows::join_pairs;
 use rows::pair_row;
-use successors::join_rows;
+
+// Joins sixteen rows into those of node n. The round has a function of its own for this, which stands within its loop.
+fn join_at(work: &mut [u8], n: usize, rows: &[u16; 16])
+    requires { ⌜ (Lent (now work)) × (n < 512) ⌝ }
+    ensures { λ _. ⌜ RowsJoined (now (work .entry)) (now (work .exit)) n (now (rows .entry)) ⌝ }
+{
+    let mut p = 0;
+    while p < 16 {
+        join_pairs(work, n, p, rows[p]);
+        p += 1;
+    }
+}
 
 // Joins sixteen rows into those of node n where it is a call that may come back in.
 fn join_reentrant(work: &mut [u8], n: usize, rows: &[u16; 16])
@@ -20,7 +33,7 @@ fn join_reentrant(work: &mut [u8], n: usize, rows: &[u16; 16])
     if !is_reentrant(work, n) {
         return;
     }
-    join_rows(work, n, rows);
+    join_at(work, n, rows);
 }
 
 // Joins sixteen rows at every call that may come back in.
@@ -43,7 +56,7 @@ fn join_entry(work: &mut [u8], n: usize, rows: &[u16; 16])
     if !is_entry(work, n) {
         return;
     }
-    join_rows(work, n, rows);
+    join_at(work, n, rows);
 }
 
 // Joins sixteen rows at every entry.

@@ -8,7 +8,7 @@ use graphreads::target_at;
 use rows::join_pairs;
 
 // Joins sixteen rows into those of node n.
-pub fn join_rows(work: &mut [u8], n: usize, rows: &[u16; 16])
+fn join_rows(work: &mut [u8], n: usize, rows: &[u16; 16])
     requires { ⌜ (Lent (now work)) × (n < 512) ⌝ }
     ensures { λ _. ⌜ RowsJoined (now (work .entry)) (now (work .exit)) n (now (rows .entry)) ⌝ }
 {

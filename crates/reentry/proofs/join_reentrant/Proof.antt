@@ -16,16 +16,16 @@ same-length c = search needs
 returns : tie.Need-returns
 returns c = if-not (sym (c .before .is-reentrant .ensures) ∙ not-true _ (c .if1 .taken))
 
-join-rows-requires : tie.Need-join-rows-requires
-join-rows-requires c κs = search needs
+join-at-requires : tie.Need-join-at-requires
+join-at-requires c κs = search needs
 
 same-length-2 : tie.Need-same-length-2
-same-length-2 c = c .before .before .join-rows .ensures .grown .kept .long
+same-length-2 c = c .before .before .join-at .ensures .grown .kept .long
 
 returns-2 : tie.Need-returns-2
-returns-2 c = if-so (sym (c .before .before .before .before .before .is-reentrant .ensures) ∙ not-false _ (c .before .before .before .before .if1 .left)) (c .before .before .join-rows .ensures)
+returns-2 c = if-so (sym (c .before .before .before .before .before .is-reentrant .ensures) ∙ not-false _ (c .before .before .before .before .if1 .left)) (c .before .before .join-at .ensures)
 
 pub join-reentrant-spec : {M : Type 1} → statement M
 join-reentrant-spec =
     tie.close
-    (tie.spec is-reentrant-requires same-length returns join-rows-requires same-length-2 returns-2)
+    (tie.spec is-reentrant-requires same-length returns join-at-requires same-length-2 returns-2)
