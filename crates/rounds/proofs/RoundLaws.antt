@@ -451,6 +451,7 @@ module _ {table : List (List ℕ)} {finals states nodes : ℕ} where
                     one = p;
                     other = f .0;
                     small = ln;
+                    row = lp;
                     follows = taken-new j plan held plan-held (r .exact j plan there there-plan .new n p (f .0) (omega (arith, u .few-nodes)) lp (f .1));
                     splits = split-kept u held (search-kept-both taken-kept (r .grown .kept)) n p (f .0) (omega (arith, u .few-nodes)) lp (f .2);
                   };

@@ -37,6 +37,7 @@ pub record SplitAfter (j : Job) (w : Enabling) (l : List ℕ) (nodes : ℕ) : Ty
   pub one : ℕ
   pub other : ℕ
   pub small : node < nodes
+  pub row : one < 16
   pub follows : Following j w l node one other
   pub splits : SplitPair j w l node one other
 

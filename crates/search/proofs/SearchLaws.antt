@@ -33,6 +33,7 @@ use Rattle.rounds.specs.Rounds.{ClosedAt, Following, held-first, follows, Settl
 use Rattle.exitrows.specs.Ended.{PastHeld}
 use Rattle.returns.specs.CameBack.{NothingBack, NoMarks, CameBackAt}
 use Rattle.search.specs.Searched.{SearchedAt}
+use Rattle.search.proofs.EndedLaws.{Further}
 use Rattle.starts.specs.Started.{Started}
 use Rattle.rounds.specs.declared.Seen.{Seen}
 use Rattle.rounds.specs.declared.Seen.the-variants.{Difference}
@@ -261,11 +262,6 @@ searching-start {nodes = nodes} {l = l} {m = m} few s =
         settled = λ n p ln lp quiet q h. absurd (has-nothing q (s .quiet n p (omega arith) lp quiet) h);
       };
     }
-
--- what a step of the search adds follows what was there, and rows that are not marked stay closed
-record Further (j : Job) (w : Enabling) (nodes : ℕ) (l m : List ℕ) : Type 0 where
-  new : (n p q : ℕ) → n < 512 → p < 16 → Held m n p q → Following j w l n p q
-  settled : Settled j w l nodes → Settled j w m nodes
 
 module _
     {table : List (List ℕ)} {finals states nodes : ℕ} {l m : List ℕ} (u : Usable l table states nodes)
