@@ -1,7 +1,7 @@
 -- Laws of the rows past a node, and of what the words after exits lead to.
 -- Assumes nothing.
 use mathlib.Core.Path.{_≡_, refl, sym, ap, subst, _∙_}
-use mathlib.Core.Logic.{_⊎_, inl, inr, ⊎-elim, by-cases, _↔_}
+use mathlib.Core.Logic.{_⊎_, inl, inr, ⊎-elim, by-cases}
 use mathlib.Core.Bool.{Bool, true, false, cond, true≢false}
 use mathlib.Core.List.{List}
 use Prim.Native.Nat.{ℕ, _+_, _%_, _^_, _≤_, _<_}
@@ -14,7 +14,7 @@ use Rattle.automaton.specs.Automaton.{Automaton}
 use Rattle.job.proofs.KindLaws.{event-small}
 use Rattle.job.proofs.Nodes.{spelt-map}
 use Rattle.job.specs.Job.{point, pointOf, isEvent, Job, Node, nodeAt}
-use Rattle.job.specs.Plan.{Enabling, full, enables}
+use Rattle.job.specs.Plan.{enables}
 use Rattle.job.specs.Words.{Spelt, no-word, one-more}
 use Rattle.buffer.proofs.NumberTableLaws.{or-above}
 use Rattle.buffer.specs.Views.{nodeIn, pairRowIn, enabledIn, Held}
@@ -25,7 +25,6 @@ use Rattle.tables.proofs.RowLaws.{has-nothing}
 use Rattle.tables.proofs.SixteenLaws.{emptyRows, empty-none}
 use Rattle.moves.specs.declared.Past.{Past}
 use Rattle.moves.specs.Past.{pastRow}
-use Rattle.look.specs.Looking.{pastNode}
 use Rattle.look.proofs.PastLaws.{PastSays, past-says, past-state, past-small, plan-enabled}
 use Rattle.relation.specs.Union.{Union, Below}
 use Rattle.relation.proofs.UnionLaws.{union-none, union-as, union-start, union-more, union-end}

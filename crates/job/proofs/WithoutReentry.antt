@@ -6,8 +6,8 @@ use mathlib.Core.List.{List, [], _∷_, _++_, map}
 use Prim.Native.Nat.{ℕ, zero, suc}
 use lib.ListN.{length}
 use Rattle.laws.proofs.Tests.{fails-of}
-use Rattle.job.specs.Job.{reentrant, isReentrant, Node, isEntry, Job, nodeAt}
-use Rattle.job.specs.Walk.{Event, Place, before, past, ended, Step, Silent, step, come-in, come-back, Told, Walk, stop, move, tell}
+use Rattle.job.specs.Job.{isReentrant, isEntry, Job, nodeAt}
+use Rattle.job.specs.Walk.{Event, Place, before, past, ended, Step, Silent, step, come-in, come-back, Walk, stop, move, tell}
 use Rattle.job.specs.Search.{numbersOf, targets, beforeNodes, silentMoves}
 use Rattle.job.specs.WithoutReentry.{NeverBack, OnlySteps, steps-stop, steps-move, steps-tell, WithoutReentry}
 use Rattle.job.proofs.KindLaws.{reentrant-own, reentrant-kind}

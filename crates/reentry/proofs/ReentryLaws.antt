@@ -1,16 +1,14 @@
 -- Laws of sixteen rows joined at the nodes that pass a test, and of the rows of some nodes gathered.
 -- Assumes nothing.
-use mathlib.Core.Path.{_≡_, refl, sym, subst, _∙_}
-use mathlib.Core.Logic.{_⊎_, inl, inr, ⊎-elim, by-cases, _↔_}
+use mathlib.Core.Path.{_≡_, sym, subst, _∙_}
+use mathlib.Core.Logic.{_⊎_, inl, inr, ⊎-elim, by-cases}
 use mathlib.Core.Bool.{Bool, true, false, true≢false}
 use mathlib.Core.List.{List}
 use Prim.Native.Nat.{ℕ, _+_, _≤_, _<_}
 use native.Mathlib.Decide.{ℕ-discrete}
 use native.Mathlib.Omega.{arith}
-use Rattle.laws.specs.Bits.{has}
 use Rattle.job.specs.Job.{isReentrant}
 use Rattle.buffer.specs.Views.{nodeIn, pairRowIn, Held}
-use Rattle.tables.specs.Tables.{Grown}
 use Rattle.tables.specs.Sixteen.{InRows, Sixteen, RowJoined}
 use Rattle.tables.proofs.KeptLaws.{grown-none, grown-both}
 use Rattle.tables.proofs.SixteenLaws.{emptyRows, empty-none}

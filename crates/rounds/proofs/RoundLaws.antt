@@ -2,19 +2,18 @@
 -- Assumes nothing.
 use mathlib.Core.Path.{_≡_, refl, sym, ap, subst, _∙_}
 use mathlib.Core.Logic.{_⊎_, inl, inr, ⊎-elim, _≢_, by-cases}
-use mathlib.Core.Bool.{true, false, _||_}
-use mathlib.Core.List.{List, [], _∷_}
-use Prim.Native.Nat.{ℕ, zero, suc, _+_, _-_, _≤_, _<_}
+use mathlib.Core.Bool.{true, false}
+use mathlib.Core.List.{List}
+use Prim.Native.Nat.{ℕ, _+_, _-_, _≤_, _<_}
 use native.Mathlib.Nat.{le-refl}
 use native.Mathlib.Decide.{ℕ-discrete}
 use native.Mathlib.Omega.{arith}
 use lib.Bits.{bitAnd, bitOr}
 use lib.Count.{trailingZeros}
 use lib.ListN.{length, getD, set, length-set}
-use lib.Seq.{getD-set-same, getD-set-other}
 use Rattle.laws.specs.Bits.{has}
-use Rattle.laws.proofs.Bits.{has-below, has-or}
-use Rattle.laws.proofs.Tests.{passes-or-fails, or-left, or-right, or-passes}
+use Rattle.laws.proofs.Bits.{has-below}
+use Rattle.laws.proofs.Tests.{passes-or-fails}
 use Rattle.laws.proofs.Walk.{Rest, rest-start, rest-from, rest-lt, rest-next, members-more, members-end}
 use Rattle.automaton.specs.Automaton.{next}
 use Rattle.job.proofs.KindLaws.{call-small}

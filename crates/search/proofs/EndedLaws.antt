@@ -12,7 +12,7 @@ use Rattle.buffer.specs.Views.{Held}
 use Rattle.tables.specs.Tables.{pairsLeft, SearchKept}
 use Rattle.tables.specs.Held.{Usable, JobHeld, PlanHeld}
 use Rattle.tables.proofs.KeptLaws.{search-kept-none, search-kept-both, job-same, plan-same}
-use Rattle.rounds.specs.Rounds.{Following, held-first, Settled, SplitAfter, Rounded, RoundedAt}
+use Rattle.rounds.specs.Rounds.{Following, held-first, Settled, Rounded, RoundedAt}
 use Rattle.rounds.specs.declared.Seen.{Seen}
 use Rattle.rounds.specs.declared.Seen.the-variants.{Rows, Difference}
 use Rattle.rounds.proofs.RoundLaws.{following-both, split-kept, nothing-rows, rows-difference}

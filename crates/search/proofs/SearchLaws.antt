@@ -12,7 +12,7 @@ use Rattle.laws.specs.Bits.{has}
 use Rattle.laws.proofs.Bits.{has-empty}
 use Rattle.laws.proofs.Tests.{same-or-contrary}
 use Rattle.automaton.specs.Automaton.{next, final}
-use Rattle.job.specs.Job.{Point, no-point, point, pointOf, isReentrant, isEvent, Node, isEntry, Job, nodeAt, noNode, leads, WellFormedJob}
+use Rattle.job.specs.Job.{Point, no-point, point, pointOf, isEvent, Node, Job, nodeAt, noNode, leads, WellFormedJob}
 use Rattle.job.specs.Walk.{shadow, before}
 use Rattle.job.proofs.KindLaws.{event-point, words-none, begins-after, reports-point, reports-word}
 use Rattle.job.specs.Plan.{Enabling, full, enables, stateAt, ArrivesAt, Different}
@@ -29,7 +29,7 @@ use Rattle.buffer.specs.Views.{classRowIn, Held}
 use Rattle.tables.specs.Tables.{SearchKept}
 use Rattle.tables.specs.Held.{Usable, JobHeld, PlanHeld, AfterHeld}
 use Rattle.look.specs.Looking.{pastState, pastNode, Follows, over-edge, by-word, by-entry, by-return, ClosedPair, SplitPair, split-point, split-call, split-exit}
-use Rattle.rounds.specs.Rounds.{ClosedAt, Following, held-first, follows, Settled, Rounded, RoundedAt}
+use Rattle.rounds.specs.Rounds.{ClosedAt, Following, held-first, follows, Settled, RoundedAt}
 use Rattle.exitrows.specs.Ended.{PastHeld}
 use Rattle.returns.specs.CameBack.{NothingBack, NoMarks, CameBackAt}
 use Rattle.search.specs.Searched.{SearchedAt}
