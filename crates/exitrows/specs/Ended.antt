@@ -39,7 +39,7 @@ pub record PastJoined (table : List (List ℕ)) (finals : ℕ) (work l m : List 
       : (j : Job) (plan : List ℕ) (states nodes : ℕ) → JobHeld j work table finals states nodes → PlanHeld plan work nodes → n < nodes
       → Union (PastRow j (enables plan) work n p) l m
 
--- all rows of node n were; `any` is 0 where none has a pair
+-- all rows of node n were joined past the node; `any` is 0 where none has a pair
 pub record PastGathered (table : List (List ℕ)) (finals : ℕ) (work l m : List ℕ) (n any : ℕ) : Type 0 where
   pub sixteen : Sixteen m
   pub none : any ≡ 0 → (p q : ℕ) → p < 16 → Held work n p q → ⊥

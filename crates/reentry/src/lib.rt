@@ -13,7 +13,7 @@ use relation::join_row;
 use rows::join_pairs;
 use rows::pair_row;
 
-// Joins sixteen rows into those of node n. The round has a function of its own for this, which stands within its loop.
+// Joins sixteen rows into those of node n.
 fn join_at(work: &mut [u8], n: usize, rows: &[u16; 16])
     requires { ⌜ (Lent (now work)) × (n < 512) ⌝ }
     ensures { λ _. ⌜ RowsJoined (now (work .entry)) (now (work .exit)) n (now (rows .entry)) ⌝ }

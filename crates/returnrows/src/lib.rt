@@ -23,11 +23,11 @@ fn gather_entry(
     requires { ⌜ (Sixteen (now rows)) × ((Lent (now work)) × ((m < 512) × ((states ≤ 16) × CellsBelow (now table)))) ⌝ }
     ensures { λ _. ⌜ (Sixteen (now (rows .exit))) × Union (AtEntry (now (table .entry)) finals states (now (work .entry)) m) (now (rows .entry)) (now (rows .exit)) ⌝ }
 {
-    if is_entry(work, m) {
-        let more = before_rows(work, table, finals, states, m);
-        join_relation(rows, &more);
+    if !is_entry(work, m) {
         return;
     }
+    let more = before_rows(work, table, finals, states, m);
+    join_relation(rows, &more);
 }
 
 // The states told apart before some entry.
@@ -55,11 +55,11 @@ fn gather_call(rows: &mut [u16], work: &[u8], m: usize)
     requires { ⌜ (Sixteen (now rows)) × ((Lent (now work)) × (m < 512)) ⌝ }
     ensures { λ _. ⌜ (Sixteen (now (rows .exit))) × Union (AtCall (now (work .entry)) m) (now (rows .entry)) (now (rows .exit)) ⌝ }
 {
-    if is_reentrant(work, m) {
-        let more = class_rows(work, m);
-        join_relation(rows, &more);
+    if !is_reentrant(work, m) {
         return;
     }
+    let more = class_rows(work, m);
+    join_relation(rows, &more);
 }
 
 // The states told apart past some call that may come back in.

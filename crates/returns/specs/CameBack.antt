@@ -28,7 +28,7 @@ pub record NothingBack (j : Job) (w : Enabling) (nodes : ℕ) (work : List ℕ) 
 abbrev pub NoMarks : List ℕ → ℕ → Type 0
 NoMarks work nodes = (n : ℕ) → n < nodes → marksIn work n ≡ 0
 
--- for a job and a plan; `more` says that some row is marked
+-- what came back was joined, for a job and a plan; `more` says that some row is marked
 pub record CameBack (j : Job) (w : Enabling) (nodes : ℕ) (l m : List ℕ) (more : Bool) : Type 0 where
   pub new : (n p q : ℕ) → n < 512 → p < 16 → Held m n p q → Following j w l n p q
   pub settled : Settled j w l nodes → Settled j w m nodes

@@ -33,7 +33,7 @@ use Rattle.rounds.specs.Rounds.{ClosedAt, Following, held-first, follows, Settl
 use Rattle.exitrows.specs.Ended.{PastHeld}
 use Rattle.returns.specs.CameBack.{NothingBack, NoMarks, CameBackAt}
 use Rattle.search.specs.Searched.{SearchedAt}
-use Rattle.search.proofs.EndedLaws.{Further}
+use Rattle.search.proofs.RoundsLaws.{Further}
 use Rattle.starts.specs.Started.{Started}
 use Rattle.rounds.specs.declared.Seen.{Seen}
 use Rattle.rounds.specs.declared.Seen.the-variants.{Difference}

@@ -23,7 +23,7 @@ PairsOf rows p q = (p < 16) × InRows rows p q
 abbrev pub AllSpelt : Automaton → ℕ → List ℕ → List ℕ → Type 0
 AllSpelt rule set first rows = (p q : ℕ) → p < 16 → InRows rows p q → Spelt rule set (PairsOf first) p q
 
--- rows have grown: those of the set, and no others
+-- rows have grown: none but those of the set, and less is left where it is not empty
 pub record Growing (l m : List ℕ) (grown : ℕ) : Type 0 where
   pub sixteen : Sixteen m
   pub held : (p q : ℕ) → p < 16 → InRows l p q → InRows m p q

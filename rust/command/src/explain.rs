@@ -67,13 +67,13 @@ fn ways_back(job: &Job) -> String {
     let returns = match exits.is_empty() {
         true => "No node is an exit, so no walk returns.".to_string(),
         false => format!(
-            "After the after word of an exit ({}) it may return to {calls}, and the call's word follows again.",
+            "After the after word of an exit ({}) it may return to {calls}, and the word of that call follows again.",
             nodes(&exits)
         ),
     };
     format!(
         "\nCalls that may come back in (re-entrant calls): {calls}.\n  \
-         After the call's word a walk may come in again at {entries}, in the state it has.\n  \
+         After the word of such a call a walk may come in again at {entries}, in the state it has.\n  \
          {returns}\n  \
          What is said of the points counts these steps in.\n"
     )

@@ -60,7 +60,7 @@ fn explained_listing_says_what_calls_that_may_come_back_in_are_for() {
     let (status, printed, _) = run(&["list", "-", "--explain"], &job);
     assert_eq!(status, 0);
     let said = "\nCalls that may come back in (re-entrant calls): nodes 1 and 2.\n  \
-                After the call's word a walk may come in again at nodes 0 and 1, in the state it has.\n  \
+                After the word of such a call a walk may come in again at nodes 0 and 1, in the state it has.\n  \
                 No node is an exit, so no walk returns.\n  \
                 What is said of the points counts these steps in.\n";
     assert!(printed.contains(said), "{printed}");

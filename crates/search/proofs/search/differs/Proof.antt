@@ -8,7 +8,7 @@ use borrow.Author.Needs.{needs}
 use Rattle.tables.specs.Tables.{pairsLeft}
 use Rattle.tables.proofs.KeptLaws.{usable-same}
 use Rattle.rounds.proofs.RoundLaws.{rows-difference}
-use Rattle.search.proofs.EndedLaws.{RoundsSoFar, rounds-none, rounds-more, rounds-end}
+use Rattle.search.proofs.RoundsLaws.{RoundsSoFar, rounds-none, rounds-more, rounds-end}
 use Rattle.search.proofs.search.differs.Statement.{statement}
 use Rattle.search.proofs.search.differs.Tie as tie
 
