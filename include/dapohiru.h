@@ -54,6 +54,7 @@ extern "C" {
 /*
  * Refusals. The lowest that applies is returned; the lines of a file are tested in turn, 3 to 8 on each.
  * A field is a number in six columns: spaces or none, then digits, of which the first may be zeros.
+ * A node is of kind 0 (plain), 1 (event), 2 (call) or 3 (call that may come back in).
  */
 #define DAPOHIRU_FILE_TOO_LONG 1     /* the file is longer than DAPOHIRU_JOB_LEN */
 #define DAPOHIRU_BUFFER_TOO_SHORT 2  /* a work, plan or listing buffer is shorter than stated above */

@@ -1,14 +1,15 @@
 -- Laws of the class rows: what a store of a joined row does to the pairs held, and which stores leave them. All that is said of how a row is
 -- packed is used here.
 -- Assumes nothing.
-use mathlib.Core.Path.{_≡_, refl, sym, ap, _∙_}
+use mathlib.Core.Path.{_≡_, refl, sym, ap, subst, _∙_}
 use mathlib.Core.Logic.{_⊎_, inl, inr, ⊎-elim, by-cases, _≢_}
 use mathlib.Core.Bool.{true}
 use mathlib.Core.List.{List}
 use Prim.Native.Nat.{ℕ, suc, _+_, _-_, _*_, _≤_, _<_}
-use native.Mathlib.Decide.{decLt}
+use native.Mathlib.Decide.{decLt, ℕ-discrete}
 use native.Mathlib.Omega.{arith}
 use lib.Bits.{bitOr, or-lt}
+use lib.ListN.{getD}
 use Rattle.laws.specs.Bits.{has}
 use Rattle.laws.specs.Bytes.{AreBytes, numberAt, putNumber}
 use Rattle.laws.proofs.Bounded.{sum-bound}
@@ -16,9 +17,9 @@ use Rattle.laws.proofs.Bits.{has-or}
 use Rattle.laws.proofs.Bytes.{number-lt, number-put, number-cong}
 use Rattle.laws.proofs.Tests.{or-right}
 use Rattle.buffer.specs.Layout.{classPart, classSize, classPlace, foundPart, Lent}
-use Rattle.buffer.specs.Views.{classRowIn}
+use Rattle.buffer.specs.Views.{classRowIn, HeldApart}
 use Rattle.buffer.specs.Kept.{Zeroed}
-use Rattle.buffer.specs.ClassRows.{ClassesKept, OnlyClasses, OnlyClassesOf, apartLeft, ApartGrown}
+use Rattle.buffer.specs.ClassRows.{ClassesKept, OnlyClasses, OnlyClassesOf, apartLeft, ApartGrown, ApartJoined}
 use Rattle.buffer.proofs.KeptLaws.{kept-none, kept-both, kept-put, number-kept}
 use Rattle.buffer.proofs.NumberTableLaws.{number-row, NumberJoined, joined-here, joined-held, joined-new, room-falls}
 
@@ -68,6 +69,63 @@ module _ (l : List ℕ) (n p s : ℕ) (long : Lent l) (few : n < 512) (small : p
         none = λ z. absurd (omega arith);
         left = room-falls j (omega arith) (λ z. h (sym here ∙ z ∙ sym e)) (omega arith);
       }
+
+-- ---- sixteen rows joined, in the shape of the code
+
+-- the rows below p are joined
+pub record JoiningApart (l m : List ℕ) (n : ℕ) (rows : List ℕ) (count p : ℕ) : Type 0 where
+  pub kept : OnlyClassesOf n l m
+  pub held : (k r q : ℕ) → k < 512 → r < 16 → HeldApart l k r q → HeldApart m k r q
+  pub here : (r q : ℕ) → r < p → r < 16 → has (getD rows r 0) q ≡ true → HeldApart m n r q
+  pub new
+      : (k r q : ℕ) → k < 512 → r < 16 → HeldApart m k r q → HeldApart l k r q ⊎ ((k ≡ n) × (has (getD rows r 0) q ≡ true))
+  pub none : count ≡ 0 → m ≡ l
+  pub left : apartLeft m + count ≤ apartLeft l
+
+-- none yet
+pub joining-none : (l : List ℕ) (n : ℕ) (rows : List ℕ) → JoiningApart l l n rows 0 0
+joining-none l n rows = record {
+  kept = kept-none l (classPlace n) (classPlace n + classSize);
+  held = λ k r q a b h. h;
+  here = λ r q a. absurd (omega arith);
+  new = λ k r q a b h. inl h;
+  none = λ e. refl;
+  left = omega arith;
+}
+
+-- a row more
+pub joining-more
+    : {l m k : List ℕ} {n p s count more : ℕ} {rows : List ℕ} → n < 512 → JoiningApart l m n rows count p → s ≡ getD rows p 0
+    → ApartGrown m k n p s more → JoiningApart l k n rows (count + more) (p + 1)
+joining-more {l} {m} {k} {n} {p} {s} {count} {more} {rows} node inv is g = record {
+  kept = kept-both l m k (classPlace n) (classPlace n + classSize) (classPlace n) (classPlace n + classSize) (inv .kept) (g .kept)
+      (omega arith) (omega arith);
+  held = λ x r q a b h. g .held x r q a b (inv .held x r q a b h);
+  here = λ r q a b h.
+      by-cases (ℕ-discrete r p)
+      (λ (e : r ≡ p).
+      subst (λ (x : ℕ). HeldApart k n x q) (sym e) (g .here q (subst (λ (x : ℕ). has x q ≡ true) (ap (λ (x : ℕ). getD rows x 0) e ∙ sym is) h)))
+      (λ (ne : r ≢ p). g .held n r q node b (inv .here r q (omega arith) b h));
+  new = λ x r q a b h.
+      ⊎-elim
+      (λ (y : HeldApart m x r q). inv .new x r q a b y)
+      (λ (y : (x ≡ n) × ((r ≡ p) × (has s q ≡ true))).
+      inr (y .0, subst (λ (z : ℕ). has z q ≡ true) (is ∙ ap (λ (z : ℕ). getD rows z 0) (sym (y .1 .0))) (y .1 .1)))
+      (g .new x r q a b h);
+  none = λ e. g .none (omega arith) ∙ inv .none (omega arith);
+  left = omega (arith, inv .left, g .left);
+}
+
+-- all of them
+pub joining-end : {l m : List ℕ} {n count p : ℕ} {rows : List ℕ} → JoiningApart l m n rows count p → 16 ≤ p → ApartJoined l m n rows count
+joining-end inv all = record {
+  kept = inv .kept;
+  held = inv .held;
+  here = λ r q a h. inv .here r q (omega arith) a h;
+  new = inv .new;
+  none = inv .none;
+  left = inv .left;
+}
 
 -- ---- stores that leave them, and zeros
 

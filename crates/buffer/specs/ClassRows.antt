@@ -7,6 +7,7 @@ use mathlib.Core.Logic.{_⊎_}
 use mathlib.Core.Bool.{true}
 use mathlib.Core.List.{List}
 use Prim.Native.Nat.{ℕ, _+_, _-_, _*_, _≤_, _<_}
+use lib.ListN.{getD}
 use Rattle.laws.specs.Bounded.{sumBelow}
 use Rattle.laws.specs.Bits.{has}
 use Rattle.laws.specs.Bytes.{numberAt}
@@ -36,5 +37,15 @@ pub record ApartGrown (l m : List ℕ) (n p s count : ℕ) : Type 0 where
   pub held : (k r q : ℕ) → k < 512 → r < 16 → HeldApart l k r q → HeldApart m k r q
   pub here : (q : ℕ) → has s q ≡ true → HeldApart m n p q
   pub new : (k r q : ℕ) → k < 512 → r < 16 → HeldApart m k r q → HeldApart l k r q ⊎ ((k ≡ n) × ((r ≡ p) × (has s q ≡ true)))
+  pub none : count ≡ 0 → m ≡ l
+  pub left : apartLeft m + count ≤ apartLeft l
+
+-- sixteen rows were joined into those of node n; the count is the number of rows that grew
+pub record ApartJoined (l m : List ℕ) (n : ℕ) (rows : List ℕ) (count : ℕ) : Type 0 where
+  pub kept : OnlyClassesOf n l m
+  pub held : (k r q : ℕ) → k < 512 → r < 16 → HeldApart l k r q → HeldApart m k r q
+  pub here : (r q : ℕ) → r < 16 → has (getD rows r 0) q ≡ true → HeldApart m n r q
+  pub new
+      : (k r q : ℕ) → k < 512 → r < 16 → HeldApart m k r q → HeldApart l k r q ⊎ ((k ≡ n) × (has (getD rows r 0) q ≡ true))
   pub none : count ≡ 0 → m ≡ l
   pub left : apartLeft m + count ≤ apartLeft l

@@ -1,12 +1,13 @@
 -- Laws of the after words in the class rows, in the shape of the code.
 -- Assumes nothing.
 use mathlib.Core.Path.{_≡_, refl, sym, ap, subst, _∙_}
-use mathlib.Core.Logic.{inl, by-cases, _≢_}
+use mathlib.Core.Logic.{inl, inr, ⊎-elim, by-cases, _≢_}
 use mathlib.Core.Bool.{Bool, true, false, cond, true≢false}
 use mathlib.Core.List.{List}
 use Prim.Native.Nat.{ℕ, _+_, _≤_, _<_}
 use native.Mathlib.Decide.{ℕ-discrete}
 use native.Mathlib.Omega.{arith}
+use lib.ListN.{getD}
 use Rattle.laws.specs.Bits.{has}
 use Rattle.laws.proofs.Bits.{has-empty}
 use Rattle.automaton.specs.Automaton.{Automaton}
@@ -17,15 +18,36 @@ use Rattle.buffer.specs.Layout.{classPart, foundPart, classSize, classPlace}
 use Rattle.buffer.specs.Views.{nodeIn, classRowIn, HeldApart}
 use Rattle.buffer.specs.Kept.{Zeroed}
 use Rattle.buffer.proofs.KeptLaws.{kept-none, kept-both, node-kept}
-use Rattle.buffer.specs.ClassRows.{OnlyClasses}
+use Rattle.buffer.specs.ClassRows.{OnlyClasses, ApartJoined}
 use Rattle.buffer.proofs.ClassRowLaws.{class-kept, zeroed-empty}
 use Rattle.tables.specs.Held.{Usable, JobHeld}
 use Rattle.tables.proofs.JobKeptLaws.{FrontKept, front-kept, front-usable}
-use Rattle.classes.specs.Backwards.{RuleHeld, RowPairs, WordsClosed, AfterWords}
+use Rattle.classes.specs.Backwards.{RuleHeld, rowsOf, RowPairs, WordsClosed, afterSet, AfterJoined, AfterWords}
 
--- the symbols of the word after a node; none where it is no exit
-abbrev pub afterSet : Node → ℕ
-afterSet n = cond (n .exit) (n .after) 0
+-- ---- one node
+
+-- the words over its after set are closed, and joined there
+pub after-joined
+    : (table : List (List ℕ)) (finals states : ℕ) (l m : List ℕ) (n set : ℕ) (start rows : List ℕ) (grown : ℕ) → set ≡ afterSet (nodeIn l n)
+    → WordsClosed table finals states start rows set → ApartJoined l m n rows grown → AfterJoined table finals states l m n start grown
+after-joined table finals states l m n set start rows grown e w g = record {
+  kept = g .kept;
+  held = g .held;
+  here = λ i p q h v.
+      g .here p q h
+      (w .whole (i .rule) (i .is) (λ s x. v .0 s (subst (λ (y : ℕ). has y s ≡ true) e x)) p q (v .1 .0) (v .1 .1 .0)
+      (subst (λ (y : ℕ). WordApart (i .rule) y (RowPairs (rowsOf start)) p q) (sym e) (v .1 .1 .1)));
+  new = λ i k p q hk hp h.
+      ⊎-elim
+      (λ (old : HeldApart l k p q). inl old)
+      (λ (new : (k ≡ n) × (has (getD rows p 0) q ≡ true)).
+      inr (new .0, subst (λ (y : ℕ). WordApart (i .rule) y (RowPairs (rowsOf start)) p q) e (w .sound (i .rule) (i .is) p q hp (new .1))))
+      (g .new k p q hk hp h);
+  none = g .none;
+  left = g .left;
+}
+
+-- ---- all nodes, from empty rows
 
 -- the rows of node n hold what words over its after set tell apart
 pub record WordsHeld (table : List (List ℕ)) (finals states : ℕ) (m : List ℕ) (n set : ℕ) : Type 0 where
@@ -55,27 +77,37 @@ node-before l m s n h = node-kept l m classPart foundPart s n (inl (omega arith)
 
 -- one node more
 pub after-more
-    : (table : List (List ℕ)) (finals states : ℕ) (l m k : List ℕ) (n set : ℕ) → n < 512 → AfterSoFar table finals states l m n
-    → set ≡ afterSet (nodeIn m n) → WordsClosed table finals states m k n set → AfterSoFar table finals states l k (n + 1)
-after-more table finals states l m k n set hn s e g = record {
+    : (table : List (List ℕ)) (finals states : ℕ) (l m k : List ℕ) (n : ℕ) (rows : List ℕ) (grown : ℕ) → n < 512
+    → ((p : ℕ) → getD rows p 0 ≡ 0) → AfterSoFar table finals states l m n → AfterJoined table finals states m k n rows grown
+    → AfterSoFar table finals states l k (n + 1)
+after-more table finals states l m k n rows grown hn zeros s g = record {
   kept = kept-both l m k classPart foundPart (classPlace n) (classPlace n + classSize) (s .kept) (g .kept) (omega arith) (omega arith);
   done = λ x h. done x h;
   empty = λ x p h a b. class-kept m k n x p (g .kept) b (λ q. absurd (omega arith)) ∙ s .empty x p (omega arith) a b;
 }
   where
-    empty-after : (x y : ℕ) → RowPairs (classRowIn m n) x y → NothingMore x y
-    empty-after x y h = true≢false (sym (h .1) ∙ ap (λ (v : ℕ). has v y) (s .empty n x (omega arith) hn (h .0)) ∙ has-empty y)
+    empty-after : (x y : ℕ) → RowPairs (rowsOf rows) x y → NothingMore x y
+    empty-after x y h = true≢false (sym (h .1) ∙ ap (λ (v : ℕ). has v y) (zeros x) ∙ has-empty y)
 
-    set-is : set ≡ afterSet (nodeIn l n)
-    set-is = e ∙ ap (λ (y : Node). afterSet y) (node-before l m (s .kept) n hn)
+    set-is : afterSet (nodeIn m n) ≡ afterSet (nodeIn l n)
+    set-is = ap (λ (y : Node). afterSet y) (node-before l m (s .kept) n hn)
+
+    here : WordsHeld table finals states k n (afterSet (nodeIn m n))
+    here = record {
+      sound = λ a r p y b i.
+          ⊎-elim
+          (λ (old : HeldApart m n p y). absurd (true≢false (sym old ∙ ap (λ (v : ℕ). has v y) (s .empty n p (omega arith) hn b) ∙ has-empty y)))
+          (λ (new : (n ≡ n) × WordApart a (afterSet (nodeIn m n)) (RowPairs (rowsOf rows)) p y). word-map (λ c d h. empty-after c d h) (new .1))
+          (g .new (record { rule = a; is = r }) n p y hn b i);
+      whole = λ a r u p y b c w.
+          g .here (record { rule = a; is = r }) p y (omega (arith, r .formed .few-states, r .states-are))
+          (u, (b, (c, word-map (λ v z h. absurd h) w)));
+    }
 
     done : (x : ℕ) → x < n + 1 → WordsHeld table finals states k x (afterSet (nodeIn l x))
     done x h =
         by-cases (ℕ-discrete x n)
-        (λ (q : x ≡ n). rw (q, ← set-is) (record {
-          sound = λ a r p y b i. word-map (λ k l h. empty-after k l h) (g .sound a r p y b i);
-          whole = λ a r u p y b c w. g .whole a r u p y b c (word-map (λ k l h. absurd h) w);
-        }))
+        (λ (q : x ≡ n). rw (q, ← set-is) here)
         (λ (ne : x ≢ n).
         let old = s .done x (omega arith) in
         record {

@@ -10,19 +10,21 @@ use native.Mathlib.Decide.{ℕ-discrete}
 use native.Mathlib.Omega.{arith}
 use lib.Dec.{ltb}
 use lib.Bits.{bitOr}
-use lib.ListN.{length}
+use lib.ListN.{length, getD}
 use borrow.Author.Tests.{lt-ltb, ltb-true}
+use Rattle.laws.specs.Bounded.{tab}
 use Rattle.laws.specs.Bits.{has}
 use Rattle.laws.proofs.Tests.{passes-or-fails, or-passes, or-left, or-right}
 use Rattle.laws.proofs.Bits.{has-or, has-empty}
+use Rattle.laws.proofs.Bounded.{length-tab, getD-tab}
 use Rattle.automaton.specs.Automaton.{cell, next, final}
 use Rattle.job.specs.Job.{Point, no-point, point, pointOf, callSet, isPoint, isEvent, Node, Job, nodeAt, leads}
-use Rattle.job.specs.Walk.{past, take-edge, begin-after}
+use Rattle.job.specs.Walk.{past}
 use Rattle.job.specs.Plan.{full, ApartAt}
 use Rattle.job.proofs.Pairs.{told-splits, apart-now, apart-moved, apart-told}
-use Rattle.job.proofs.Bounds.{Within}
+use Rattle.job.proofs.Bounds.{Within, is-entry-node}
 use Rattle.job.proofs.Rules.{apart-true, apart-false}
-use Rattle.job.proofs.KindLaws.{point-some, reports-word, event-small}
+use Rattle.job.proofs.KindLaws.{point-some, takes-edge, begins-after, reports-word, event-small}
 use Rattle.job.proofs.Nodes.{BeforeNode, before-silent, before-event, event-splits}
 use Rattle.job.proofs.Nodes.{NodeBackwards, node-backwards, before-apart, word-apart}
 use Rattle.buffer.specs.Layout.{startsPart, targetsPart, classPart, foundPart, classSize, classPlace}
@@ -32,11 +34,12 @@ use Rattle.buffer.specs.ClassRows.{OnlyClasses, apartLeft, ApartGrown}
 use Rattle.buffer.proofs.ClassRowLaws.{only-classes}
 use Rattle.tables.specs.Rows.{CellsBelow, unlikeStates, preimageOf}
 use Rattle.tables.specs.Held.{EdgesWithin, Usable, JobHeld, AfterHeld}
-use Rattle.classes.specs.Backwards.{apartBy, wordRow, ClassesFound}
+use Rattle.classes.specs.Backwards.{apartBy, wordRow, rowsOf, ClassesFound}
 use Rattle.classes.specs.Classes.{beforePoint, beforeRow, ApartNext, NextRow, ApartBack, ClosedBack, AllApart, NodeGrown, ClassesGrown}
+use Rattle.classes.specs.Returns.{AfterWhole, ReturnsClosed, ClassesReturned, ClassesTurned}
 use Rattle.tables.proofs.RowLaws.{has-preimage}
 use Rattle.classes.proofs.GrownLaws.{RowsGrown, rows-more}
-use Rattle.classes.proofs.WordLaws.{has-word-row, apart-by-cases, apart-by-unlike, apart-by-rows}
+use Rattle.classes.proofs.WordLaws.{has-word-row, word-row-same, apart-by-cases, apart-by-unlike, apart-by-rows}
 use Rattle.classes.proofs.AfterLaws.{node-before}
 
 -- ---- what a store in the class rows leaves as it was
@@ -296,20 +299,21 @@ module _
           (at-event a small
           (apart-by-unlike table finals (classRowIn w n) a p q (below q a (omega arith) small) (differ-cells a p q small hp (omega arith) d)))
 
-  -- what the rows of a buffer tell apart past node n, some continuation does
+  -- what given rows and the rows of a buffer tell apart past node n, some continuation does
   pub back-sound
-      : (w : List ℕ) (n set : ℕ) → n < nodes → nodes ≤ 512 → states ≤ 16 → EdgesWithin work n → set ≡ callSet (nodeIn work n .kind)
-      → OnlyClasses work w → ((k x y : ℕ) → k < nodes → x < 16 → HeldApart w k x y → ApartPast j k x y)
-      → (p q : ℕ) → p < 16 → ApartBack table finals states w n set p q → ApartPast j n p q
-  back-sound w n set hn many few within set-is kept all p q hp (inl t) =
-      let m = has-word-row table finals states (classRowIn w n) set p q .0 t in
-      apart-by-call n (classRowIn w n) (m .1) p q (m .2) hp (omega (arith, m .0))
-      (subst (λ (x : ℕ). has x (m .1) ≡ true) (set-is ∙ ap (λ (y : Node). callSet (y .kind)) (h .node n hn)) (m .3)) (λ x y. all n x y hn) (m .4)
-  back-sound w n set hn many few within set-is kept all p q hp (inr t) =
+      : (rows : ℕ → ℕ) (w : List ℕ) (n set : ℕ) → n < nodes → nodes ≤ 512 → states ≤ 16 → EdgesWithin work n
+      → set ≡ callSet (nodeIn work n .kind) → OnlyClasses work w → ((x y : ℕ) → x < 16 → has (rows x) y ≡ true → ApartPast j n x y)
+      → ((k x y : ℕ) → k < nodes → x < 16 → HeldApart w k x y → ApartPast j k x y) → (p q : ℕ) → p < 16
+      → ApartBack table finals states rows w n set p q → ApartPast j n p q
+  back-sound rows w n set hn many few within set-is kept given all p q hp (inl t) =
+      let m = has-word-row table finals states rows set p q .0 t in
+      apart-by-call n rows (m .1) p q (m .2) hp (omega (arith, m .0))
+      (subst (λ (x : ℕ). has x (m .1) ≡ true) (set-is ∙ ap (λ (y : Node). callSet (y .kind)) (h .node n hn)) (m .3)) given (m .4)
+  back-sound rows w n set hn many few within set-is kept given all p q hp (inr t) =
       let to-edge : leads j n (t .to) ≡ true =
       h .edges n (t .to) hn .1 (edge-kept kept n (t .to) (omega arith) within .1 (t .edge)) in
       let there : t .to < nodes = omega (arith, h .formed .edges n (t .to) to-edge .1, h .nodes-are) in
-      apart-moved (take-edge to-edge)
+      apart-moved (takes-edge to-edge)
       (before-apart
       (before-row-sound w (t .to) p q (node-before work w kept (t .to) (omega arith) ∙ h .node (t .to) there) hp few
       (λ x y. all (t .to) x y there) (t .apart)))
@@ -320,20 +324,34 @@ module _
 abbrev pub ApartIn : Job → ℕ → ℕ → ℕ → Type 0
 ApartIn j n p q = n < length (j .nodes) → ApartPast j n p q
 
--- the pairs that one turn adds at node n
-abbrev pub BackPairs : List (List ℕ) → ℕ → ℕ → ℕ → ℕ → List ℕ → ℕ → ℕ → Type 0
-BackPairs table finals states n set w p q = ApartBack table finals states w n set p q
+-- the pairs that one turn adds at node n, whose rows were read in the buffer l
+abbrev pub BackPairs : List (List ℕ) → ℕ → ℕ → List ℕ → ℕ → ℕ → List ℕ → ℕ → ℕ → Type 0
+BackPairs table finals states l n set w p q = ApartBack table finals states (classRowIn l n) w n set p q
+
+-- rows that were read are sixteen
+pub rows-long : {rows : List ℕ} (f : ℕ → ℕ) → rows ≡ tab 16 f → length rows ≡ 16
+rows-long f e = rw e (length-tab 16 f)
+
+-- what they and a symbol of the set tell apart
+pub read-words
+    : (table : List (List ℕ)) (finals states : ℕ) (l rows : List ℕ) (n set p words : ℕ) → CellsBelow table → p < 16
+    → rows ≡ tab 16 (classRowIn l n) → words ≡ wordRow table finals states (rowsOf rows) set p
+    → words ≡ wordRow table finals states (classRowIn l n) set p
+read-words table finals states l rows n set p words below hp is e =
+    e
+    ∙ word-row-same table finals states (rowsOf rows) (classRowIn l n) set p below hp
+    (λ x h. ap (λ (r : List ℕ). getD r x 0) is ∙ getD-tab 16 (classRowIn l n) x 0 h)
 
 -- one row more
 pub node-more
     : (table : List (List ℕ)) (finals states : ℕ) (l m k : List ℕ) (n set grown p words nexts count : ℕ) → n < 512 → p < 16
-    → RowsGrown ApartIn (BackPairs table finals states n set) l m n grown p
-    → words ≡ wordRow table finals states (classRowIn m n) set p → NextRow table finals states m n p nexts
-    → ApartGrown m k n p (bitOr words nexts) count → RowsGrown ApartIn (BackPairs table finals states n set) l k n (grown + count) (p + 1)
+    → RowsGrown ApartIn (BackPairs table finals states l n set) l m n grown p
+    → words ≡ wordRow table finals states (classRowIn l n) set p → NextRow table finals states m n p nexts
+    → ApartGrown m k n p (bitOr words nexts) count → RowsGrown ApartIn (BackPairs table finals states l n set) l k n (grown + count) (p + 1)
 node-more table finals states l m k n set grown p words nexts count hn hp s words-is nexts-are g =
-    rows-more ApartIn (BackPairs table finals states n set) l m k n grown p (bitOr words nexts) count hn hp s members g
+    rows-more ApartIn (BackPairs table finals states l n set) l m k n grown p (bitOr words nexts) count hn hp s members g
   where
-    members : (q : ℕ) → (has (bitOr words nexts) q ≡ true) ↔ BackPairs table finals states n set m p q
+    members : (q : ℕ) → (has (bitOr words nexts) q ≡ true) ↔ BackPairs table finals states l n set m p q
     members q = (
       λ t.
           ⊎-elim
@@ -343,7 +361,7 @@ node-more table finals states l m k n set grown p words nexts count hn hp s word
       λ t.
           has-or words nexts q
           ∙ ⊎-elim
-          (λ (e : has (wordRow table finals states (classRowIn m n) set p) q ≡ true).
+          (λ (e : has (wordRow table finals states (classRowIn l n) set p) q ≡ true).
           or-left (has words q) (has nexts q) (ap (λ (x : ℕ). has x q) words-is ∙ e))
           (λ (e : ApartNext table finals states m n p q). or-right (has words q) (has nexts q) (nexts-are q .1 e))
           t,
@@ -352,7 +370,7 @@ node-more table finals states l m k n set grown p words nexts count hn hp s word
 -- all rows are joined
 pub node-end
     : (table : List (List ℕ)) (finals states : ℕ) (l m : List ℕ) (n set grown p : ℕ) → n < 512 → states ≤ 16 → CellsBelow table
-    → EdgesWithin l n → set ≡ callSet (nodeIn l n .kind) → RowsGrown ApartIn (BackPairs table finals states n set) l m n grown p
+    → EdgesWithin l n → set ≡ callSet (nodeIn l n .kind) → RowsGrown ApartIn (BackPairs table finals states l n set) l m n grown p
     → states ≤ p → NodeGrown table finals states l m n grown
 node-end table finals states l m n set grown p hn few below within set-is g all = record {
   kept = g .kept;
@@ -360,12 +378,12 @@ node-end table finals states l m n set grown p hn few below within set-is g all 
   sound = λ j nodes h a many old k x y b c d.
       g .sound j
       (λ w s rest r q e f v.
-      back-sound h below w n set a many few within set-is (only-classes l w n hn s)
+      back-sound h below (classRowIn l n) w n set a many few within set-is (only-classes l w n hn s) (λ u z i-small t. old n u z a i-small t)
       (λ i u z o i-small t. rest i u z (omega arith) i-small t (rw (h .nodes-are) at o)) r q e f)
       (λ i u z o i-small t v. old i u z (rw (h .nodes-are) v) i-small t)
       k x y (omega arith) c d (rw (h .nodes-are) at b);
   none = g .none;
-  closed = λ e x y a b. g .closed e x y (omega arith) (subst (λ (v : ℕ). ApartBack table finals states l n v x y) (sym set-is) b);
+  closed = λ e x y a b. g .closed e x y (omega arith) (subst (λ (v : ℕ). ApartBack table finals states (classRowIn l n) l n v x y) (sym set-is) b);
   left = g .left;
 }
 
@@ -426,14 +444,53 @@ round-done table finals states nodes l m grown n s z = record {
   left = s .left;
 }
 
--- ---- rounds until no row grows
+-- ---- one turn
 
--- after some rounds
+-- rows that hold what others do hold the after words that they do
+after-held
+    : {j : Job} {l : List ℕ} (m : List ℕ) {table : List (List ℕ)} {finals states nodes : ℕ} → Usable l table states nodes
+    → JobHeld j l table finals states nodes → ((k p q : ℕ) → k < 512 → p < 16 → HeldApart l k p q → HeldApart m k p q)
+    → AfterWhole j l nodes → AfterWhole j m nodes
+after-held m u h held a n p q hn hp hq e w =
+    held n p q (omega (arith, u .few-nodes)) (omega (arith, h .states-are, u .few-states)) (a n p q hn hp hq e w)
+
+module _ {table : List (List ℕ)} {finals states nodes : ℕ} {l m : List ℕ} {grown : ℕ} (g : ClassesGrown table finals states nodes l m grown) where
+  -- rows grew over the edges
+  pub turn-grown : grown ≢ 0 → ClassesTurned table finals states nodes l m grown
+  turn-grown some = record {
+    kept = g .kept;
+    held = g .held;
+    sound = g .sound;
+    closed = λ e. absurd (some e);
+    returned = λ e. absurd (some e);
+    left = g .left;
+  }
+
+  -- none grew, and those that come back in were looked at
+  pub turn-returned
+      : {k : List ℕ} {more : ℕ} → Usable l table states nodes → grown ≡ 0 → ClassesReturned table finals states nodes m k more
+      → ClassesTurned table finals states nodes l k more
+  turn-returned {k} u none r = record {
+    kept = kept-both l m k classPart foundPart classPart foundPart (g .kept) (r .kept) (omega arith) (omega arith);
+    held = λ x p q a b h. r .held x p q a b (g .held x p q a b h);
+    sound = λ j h all. r .sound j (job-kept (g .kept) u h) (g .sound j h all);
+    closed = λ e n h. subst (λ (w : List ℕ). ClosedBack table finals states w n) (sym (r .none e)) (g .closed none n h);
+    returned = λ e j h a.
+        subst (ReturnsClosed j table finals states nodes) (sym (r .none e))
+        (r .closed e j (job-kept (g .kept) u h) (after-held m u h (g .held) a));
+    left = omega (arith, g .left, r .left);
+  }
+
+-- ---- turns until no row grows
+
+-- after some turns
 pub record GrowingClasses (table : List (List ℕ)) (finals states nodes : ℕ) (l m : List ℕ) (grown : ℕ) : Type 0 where
   pub kept : OnlyClasses l m
   pub held : (k p q : ℕ) → k < 512 → p < 16 → HeldApart l k p q → HeldApart m k p q
   pub sound : (j : Job) → JobHeld j l table finals states nodes → AllApart j nodes l → AllApart j nodes m
   pub closed : grown ≡ 0 → (n : ℕ) → n < nodes → ClosedBack table finals states m n
+  pub returned
+      : grown ≡ 0 → (j : Job) → JobHeld j l table finals states nodes → AfterWhole j l nodes → ReturnsClosed j table finals states nodes m
 
 -- before the first
 pub growing-start : (table : List (List ℕ)) (finals states nodes : ℕ) (l : List ℕ) → GrowingClasses table finals states nodes l l 1
@@ -442,33 +499,34 @@ growing-start table finals states nodes l = record {
   held = λ k p q a b h. h;
   sound = λ j h all. all;
   closed = λ e n h. absurd (omega arith);
+  returned = λ e. absurd (omega arith);
 }
 
 -- one more
 pub growing-more
     : (table : List (List ℕ)) (finals states nodes : ℕ) (l m k : List ℕ) (grown new : ℕ) → Usable l table states nodes
-    → GrowingClasses table finals states nodes l m grown → ClassesGrown table finals states nodes m k new
+    → GrowingClasses table finals states nodes l m grown → ClassesTurned table finals states nodes m k new
     → GrowingClasses table finals states nodes l k new
 growing-more table finals states nodes l m k grown new u s g = record {
   kept = kept-both l m k classPart foundPart classPart foundPart (s .kept) (g .kept) (omega arith) (omega arith);
   held = λ x p q a b h. g .held x p q a b (s .held x p q a b h);
   sound = λ j h all. g .sound j (job-kept (s .kept) u h) (s .sound j h all);
   closed = g .closed;
+  returned = λ e j h a. g .returned e j (job-kept (s .kept) u h) (after-held m u h (s .held) a);
 }
 
 -- the after words of the exits are told apart
 pub after-apart : (j : Job) (l : List ℕ) (nodes : ℕ) → AfterHeld j l nodes → AllApart j nodes l
 after-apart j l nodes a n p q h b e =
     let r = a .sound n p q h b e in
-    apart-moved (begin-after (r .0)) (word-apart (λ k l h. absurd h) (r .0) (r .1))
+    apart-moved (begins-after (r .0)) (word-apart (λ k l h. absurd h) (r .0) (r .1))
 
--- rows that are closed and hold the after words are closed backwards
+-- rows that are closed are closed backwards
 pub closed-nodes
     : (table : List (List ℕ)) (finals states nodes : ℕ) (l m : List ℕ) (j : Job) → Usable l table states nodes → OnlyClasses l m
-    → JobHeld j l table finals states nodes → AfterHeld j l nodes
-    → ((k p q : ℕ) → k < 512 → p < 16 → HeldApart l k p q → HeldApart m k p q)
-    → ((n : ℕ) → n < nodes → ClosedBack table finals states m n) → NodeBackwards j full full (HeldApart m)
-closed-nodes table finals states nodes l m j u kept old a held closed = record {
+    → JobHeld j l table finals states nodes → ((n : ℕ) → n < nodes → ClosedBack table finals states m n)
+    → ReturnsClosed j table finals states nodes m → NodeBackwards j full full (HeldApart m)
+closed-nodes table finals states nodes l m j u kept old closed returned = record {
   edges = λ x n p q r e t.
       let there = in-nodes n (h .formed .edges x n e .1) in
       closed x (in-nodes x (r .node)) p q (in-states p (r .one))
@@ -487,9 +545,11 @@ closed-nodes table finals states nodes l m j u kept old a held closed = record {
       by-call n s p q r i
       (apart-by-rows table finals (classRowIn m n) s p q
       (pair-cells h (u .cells) s p q (symbol-small n s i) (small p (r .one)) (small q (r .other)) (HeldApart m n) t));
-  after-words = λ n p q r e t.
-      held n p q (omega (arith, in-nodes n (r .node), u .few-nodes)) (small p (r .one))
-      (a .whole n p q (in-nodes n (r .node)) (r .one) (r .other) e t);
+  after-words = λ n p q r e t. returned .returns n p q (in-nodes n (r .node)) (r .one) (r .other) e t;
+  enters = λ x n p q r k e t.
+      let there = in-nodes n (is-entry-node j n e) in
+      returned .enters x n p q (in-nodes x (r .node)) there (small p (r .one)) k e
+      (before-row-whole h (u .cells) m n p q (h .node n there) (small p (r .one)) (in-states q (r .other)) (u .few-states) t);
 }
   where
     h : JobHeld j m table finals states nodes
@@ -536,7 +596,7 @@ growing-end table finals states nodes l m grown u s z = record {
       e
       ∙ sym
       (apart-false (h .formed) n p q node hp hq
-      (node-backwards (closed-nodes table finals states nodes l m j u (s .kept) h a (s .held) (s .closed z)))
+      (node-backwards (closed-nodes table finals states nodes l m j u (s .kept) h (s .closed z) (s .returned z j h (a .whole))))
       (λ x. true≢false (sym x ∙ e))))
       (passes-or-fails (has (classRowIn m n p) q));
 }

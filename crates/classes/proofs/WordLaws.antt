@@ -10,11 +10,12 @@ use native.Mathlib.Omega.{arith}
 use lib.Dec.{ltb}
 use lib.Bits.{bitAnd, bitOr}
 use lib.Count.{trailingZeros}
+use lib.ListN.{getD}
 use borrow.Author.Tests.{lt-ltb, ltb-true}
 use Rattle.laws.specs.Bounded.{anyBelow}
 use Rattle.laws.specs.Bits.{has}
 use Rattle.laws.proofs.Tests.{test-ext, or-passes, or-left, or-right}
-use Rattle.laws.proofs.Bounded.{any-at, any-of}
+use Rattle.laws.proofs.Bounded.{any-at, any-of, any-cong, sum-bound}
 use Rattle.laws.proofs.Bits.{same-set, has-or, has-empty}
 use Rattle.laws.proofs.Walk.{Rest, rest-start, rest-from, rest-low, rest-lt, rest-none, rest-next, rest-done}
 use Rattle.automaton.specs.Automaton.{Automaton, cell, next}
@@ -22,14 +23,11 @@ use Rattle.job.specs.Words.{WordApart, apart-here, apart-later, apart-after}
 use Rattle.job.specs.Search.{unlike}
 use Rattle.job.specs.Found.{setOf}
 use Rattle.job.proofs.FoundLaws.{has-set-of}
-use Rattle.buffer.specs.Layout.{classSize, classPlace}
-use Rattle.buffer.specs.Views.{classRowIn, HeldApart}
-use Rattle.buffer.proofs.KeptLaws.{kept-none, kept-both}
-use Rattle.buffer.specs.ClassRows.{OnlyClassesOf, ApartGrown}
 use Rattle.tables.specs.Rows.{CellsBelow, unlikeStates, preimageOf}
-use Rattle.classes.specs.Backwards.{RuleHeld, apartBy, wordRow, RowPairs, WordsGrown, WordsClosed}
+use Rattle.tables.specs.Sixteen.{InRows, Sixteen, rowsLeft, RowJoined}
 use Rattle.tables.proofs.RowLaws.{has-unlike, has-preimage}
-use Rattle.classes.proofs.GrownLaws.{AllHeld, RowsGrown, rows-more}
+use Rattle.tables.proofs.SetLaws.{set-of-cong}
+use Rattle.classes.specs.Backwards.{RuleHeld, apartBy, wordRow, rowsOf, RowPairs, WordsIn, WordsGrown, WordsClosed}
 
 -- ---- one row: a walk over the symbols of the set
 
@@ -174,14 +172,6 @@ unlike-says true false = (λ e. refl, λ e. refl)
 unlike-says false true = (λ e. refl, λ e. refl)
 unlike-says false false = (λ e. absurd (false≢true e), λ e. absurd (false≢true e))
 
--- the pairs that one turn of the words adds at node n
-abbrev pub WordPairs : List (List ℕ) → ℕ → ℕ → ℕ → ℕ → List ℕ → ℕ → ℕ → Type 0
-WordPairs table finals states n set w p q = has (wordRow table finals states (classRowIn w n) set p) q ≡ true
-
--- at node n, some word over the set and the rows after it tell the pair apart
-abbrev pub WordsAt : ℕ → ℕ → Automaton × (ℕ → ℕ) → ℕ → ℕ → ℕ → Type 0
-WordsAt n set i k p q = k ≡ n → WordApart (i .0) set (RowPairs (i .1)) p q
-
 -- a symbol tells two states apart by what follows it, or at once
 pub apart-by-cases
     : (table : List (List ℕ)) (finals : ℕ) (rows : ℕ → ℕ) (s p q : ℕ) → cell table q s < 16 → apartBy table finals rows s p q ≡ true
@@ -215,74 +205,136 @@ module _ {a : Automaton} {table : List (List ℕ)} {finals states : ℕ} (r : Ru
 
   -- a row of words is right where the rows that it reads are
   pub word-row-sound
-      : (n set : ℕ) (more : ℕ → ℕ) (w : List ℕ) → n < 512 → states ≤ 16 → AllHeld (WordsAt n set (a, more)) w → (p q : ℕ) → p < 16
-      → WordPairs table finals states n set w p q → WordsAt n set (a, more) n p q
-  word-row-sound n set more w hn hs all p q hp h e =
-      let m = has-word-row table finals states (classRowIn w n) set p q .0 h in
-      apart-by-words set (RowPairs more) (classRowIn w n) (m .1) p q (m .2) hp (omega (arith, m .0)) (m .3) (λ k l b x. all n k l hn b x refl) (m .4)
+      : (set : ℕ) (more : ℕ → ℕ) (rows : List ℕ) → states ≤ 16 → WordsIn a set more rows → (p q : ℕ) → p < 16
+      → has (wordRow table finals states (rowsOf rows) set p) q ≡ true → WordApart a set (RowPairs more) p q
+  word-row-sound set more rows hs all p q hp h =
+      let m = has-word-row table finals states (rowsOf rows) set p q .0 h in
+      apart-by-words set (RowPairs more) (rowsOf rows) (m .1) p q (m .2) hp (omega (arith, m .0)) (m .3) all (m .4)
+
+-- it is that of other rows that are the same below 16
+pub word-row-same
+    : (table : List (List ℕ)) (finals states : ℕ) (one other : ℕ → ℕ) (set p : ℕ) → CellsBelow table → p < 16
+    → ((x : ℕ) → x < 16 → one x ≡ other x) → wordRow table finals states one set p ≡ wordRow table finals states other set p
+unfolding wordRow
+word-row-same table finals states one other set p below hp same =
+    set-of-cong states
+    (λ (q : ℕ). anyBelow 16 (λ (a : ℕ). has set a && apartBy table finals one a p q))
+    (λ (q : ℕ). anyBelow 16 (λ (a : ℕ). has set a && apartBy table finals other a p q))
+    (λ q h.
+    any-cong 16 (λ (a : ℕ). has set a && apartBy table finals one a p q) (λ (a : ℕ). has set a && apartBy table finals other a p q)
+    (λ a k.
+    ap (λ (x : ℕ). has set a && has (bitOr x (unlikeStates finals (cell table p a))) (cell table q a))
+    (same (cell table p a) (below p a hp k))))
+
+-- the rows below p were joined, each with what a symbol of the set and the rows of its turn tell apart
+pub record JoiningWords (table : List (List ℕ)) (finals states : ℕ) (l m : List ℕ) (set grown p : ℕ) : Type 0 where
+  pub sixteen : Sixteen m
+  pub held : (r q : ℕ) → r < 16 → InRows l r q → InRows m r q
+  pub sound : (a : Automaton) (more : ℕ → ℕ) → RuleHeld a table finals states → WordsIn a set more l → WordsIn a set more m
+  pub none : grown ≡ 0 → m ≡ l
+  pub closed : grown ≡ 0 → (r q : ℕ) → r < p → has (wordRow table finals states (rowsOf l) set r) q ≡ true → InRows l r q
+  pub left : rowsLeft m + grown ≤ rowsLeft l
+
+-- no row is joined
+pub round-none
+    : (table : List (List ℕ)) (finals states : ℕ) (l : List ℕ) (set : ℕ) → Sixteen l → JoiningWords table finals states l l set 0 0
+round-none table finals states l set s = record {
+  sixteen = s;
+  held = λ r q h m. m;
+  sound = λ a more rule all. all;
+  none = λ e. refl;
+  closed = λ e r q h f. absurd (omega arith);
+  left = omega arith;
+}
 
 -- one row more
 pub round-more
-    : (table : List (List ℕ)) (finals states : ℕ) (l m k : List ℕ) (n set grown p row count : ℕ) → n < 512 → p < 16
-    → RowsGrown (WordsAt n set) (WordPairs table finals states n set) l m n grown p
-    → row ≡ wordRow table finals states (classRowIn m n) set p → ApartGrown m k n p row count
-    → RowsGrown (WordsAt n set) (WordPairs table finals states n set) l k n (grown + count) (p + 1)
-round-more table finals states l m k n set grown p row count hn hp s e g =
-    rows-more (WordsAt n set) (WordPairs table finals states n set) l m k n grown p row count hn hp s
-    (λ q. (λ h. ap (λ (x : ℕ). has x q) (sym e) ∙ h, λ h. ap (λ (x : ℕ). has x q) e ∙ h)) g
+    : (table : List (List ℕ)) (finals states : ℕ) (l m k : List ℕ) (set grown p row count : ℕ) → p < 16 → states ≤ 16 → CellsBelow table
+    → JoiningWords table finals states l m set grown p → row ≡ wordRow table finals states (rowsOf m) set p → RowJoined m k p row count
+    → JoiningWords table finals states l k set (grown + count) (p + 1)
+round-more table finals states l m k set grown p row count hp few below s e g = record {
+  sixteen = g .sixteen;
+  held = λ r q h i. g .held r q h (s .held r q h i);
+  sound = λ a more rule all r q h i.
+      let before : WordsIn a set more m = s .sound a more rule all in
+      ⊎-elim
+      (λ (old : InRows m r q). before r q h old)
+      (λ (new : (r ≡ p) × (has row q ≡ true)).
+      subst (λ (y : ℕ). WordApart a set (RowPairs more) y q) (sym (new .0))
+      (word-row-sound rule below set more m few before p q hp (ap (λ (x : ℕ). has x q) (sym e) ∙ new .1)))
+      (g .new r q h i);
+  none = λ z. g .none (omega arith) ∙ s .none (omega arith);
+  closed = λ z r q h f. closed z r q h f;
+  left = omega (arith, s .left, g .left);
+}
+  where
+    closed
+        : grown + count ≡ 0 → (r q : ℕ) → r < p + 1 → has (wordRow table finals states (rowsOf l) set r) q ≡ true → InRows l r q
+    closed z r q h f =
+        let same : m ≡ l = s .none (omega arith) in
+        let same′ : k ≡ m = g .none (omega arith) in
+        by-cases (ℕ-discrete r p)
+        (λ (x : r ≡ p).
+        let there : has row q ≡ true =
+        ap (λ (y : ℕ). has y q) e
+        ∙ subst (λ (w : List ℕ). has (wordRow table finals states (rowsOf w) set p) q ≡ true) (sym same)
+        (subst (λ (y : ℕ). has (wordRow table finals states (rowsOf l) set y) q ≡ true) x f) in
+        subst (λ (y : ℕ). InRows l y q) (sym x) (subst (λ (w : List ℕ). InRows w p q) (same′ ∙ same) (g .here q there)))
+        (λ (x : r ≢ p). s .closed (omega arith) r q (omega arith) f)
 
 -- a round that has joined all rows
 pub round-end
-    : (table : List (List ℕ)) (finals states : ℕ) (l m : List ℕ) (n set grown p : ℕ) → n < 512 → states ≤ 16 → CellsBelow table
-    → RowsGrown (WordsAt n set) (WordPairs table finals states n set) l m n grown p → states ≤ p
-    → WordsGrown table finals states l m n set grown
-round-end table finals states l m n set grown p hn hs below g all = record {
-  kept = g .kept;
-  held = λ x y h e. g .held n x y hn h e;
-  sound = λ a more r old x y h e.
-      g .sound (a, more) (λ w k at-all. word-row-sound r below n set more w hn hs at-all) (λ k b c d f v i. old b c f (subst (λ (z : ℕ). HeldApart l z b c) i v))
-      n x y hn h e refl;
+    : (table : List (List ℕ)) (finals states : ℕ) (l m : List ℕ) (set grown p : ℕ) → JoiningWords table finals states l m set grown p
+    → states ≤ p → WordsGrown table finals states l m set grown
+round-end table finals states l m set grown p g all = record {
+  sixteen = g .sixteen;
+  held = g .held;
+  sound = g .sound;
   closed = λ e x y h f.
-      subst (λ (w : List ℕ). HeldApart w n x y) (sym (g .none e))
-      (g .closed e x y (omega arith) (subst (λ (w : List ℕ). WordPairs table finals states n set w x y) (g .none e) f));
+      subst (λ (w : List ℕ). InRows w x y) (sym (g .none e))
+      (g .closed e x y (omega arith) (subst (λ (w : List ℕ). has (wordRow table finals states (rowsOf w) set x) y ≡ true) (g .none e) f));
   left = g .left;
 }
+
+-- the room in sixteen rows is no large number
+pub rows-left-small : (l : List ℕ) → rowsLeft l ≤ 1048560
+unfolding rowsLeft
+rows-left-small l = sum-bound 16 65535 (λ p. 65535 - getD l p 0) (λ i h. omega arith)
 
 -- ---- rounds until no row grows
 
 -- after some rounds
-pub record ClosingWords (table : List (List ℕ)) (finals states : ℕ) (l m : List ℕ) (n set grown : ℕ) : Type 0 where
-  pub kept : OnlyClassesOf n l m
-  pub sound
-      : (a : Automaton) → RuleHeld a table finals states → (p q : ℕ) → p < 16 → HeldApart m n p q
-      → WordApart a set (RowPairs (classRowIn l n)) p q
-  pub held : (p q : ℕ) → p < 16 → HeldApart l n p q → HeldApart m n p q
-  pub closed : grown ≡ 0 → (p q : ℕ) → p < states → WordPairs table finals states n set m p q → HeldApart m n p q
+pub record ClosingWords (table : List (List ℕ)) (finals states : ℕ) (l m : List ℕ) (set grown : ℕ) : Type 0 where
+  pub sixteen : Sixteen m
+  pub sound : (a : Automaton) → RuleHeld a table finals states → WordsIn a set (rowsOf l) m
+  pub held : (p q : ℕ) → p < 16 → InRows l p q → InRows m p q
+  pub closed : grown ≡ 0 → (p q : ℕ) → p < states → has (wordRow table finals states (rowsOf m) set p) q ≡ true → InRows m p q
 
 -- no word over the empty set tells anything apart
 no-words
-    : (table : List (List ℕ)) (finals states n set : ℕ) (m : List ℕ) (p q : ℕ) → set ≡ 0 → WordPairs table finals states n set m p q → ⊥
-no-words table finals states n set m p q e w =
-    let r = has-word-row table finals states (classRowIn m n) set p q .0 w in
+    : (table : List (List ℕ)) (finals states : ℕ) (rows : ℕ → ℕ) (set p q : ℕ) → set ≡ 0
+    → has (wordRow table finals states rows set p) q ≡ true → ⊥
+no-words table finals states rows set p q e w =
+    let r = has-word-row table finals states rows set p q .0 w in
     true≢false (sym (r .3) ∙ ap (λ (x : ℕ). has x (r .1)) e ∙ has-empty (r .1))
 
 -- before the first: the rows are closed where the set is empty
-pub closing-start : (table : List (List ℕ)) (finals states : ℕ) (l : List ℕ) (n set : ℕ) → ClosingWords table finals states l l n set set
-closing-start table finals states l n set = record {
-  kept = kept-none l (classPlace n) (classPlace n + classSize);
+pub closing-start
+    : (table : List (List ℕ)) (finals states : ℕ) (l : List ℕ) (set : ℕ) → Sixteen l → ClosingWords table finals states l l set set
+closing-start table finals states l set s = record {
+  sixteen = s;
   sound = λ a r p q h m. apart-after (h, m);
   held = λ p q h m. m;
-  closed = λ e p q h w. absurd (no-words table finals states n set l p q e w);
+  closed = λ e p q h w. absurd (no-words table finals states (rowsOf l) set p q e w);
 }
 
 -- one more
 pub closing-more
-    : (table : List (List ℕ)) (finals states : ℕ) (l m k : List ℕ) (n set grown new : ℕ) → ClosingWords table finals states l m n set grown
-    → WordsGrown table finals states m k n set new → ClosingWords table finals states l k n set new
-closing-more table finals states l m k n set grown new s g = record {
-  kept = kept-both l m k (classPlace n) (classPlace n + classSize) (classPlace n) (classPlace n + classSize) (s .kept) (g .kept)
-      (omega arith) (omega arith);
-  sound = λ a r p q h m. g .sound a (classRowIn l n) r (s .sound a r) p q h m;
+    : (table : List (List ℕ)) (finals states : ℕ) (l m k : List ℕ) (set grown new : ℕ) → ClosingWords table finals states l m set grown
+    → WordsGrown table finals states m k set new → ClosingWords table finals states l k set new
+closing-more table finals states l m k set grown new s g = record {
+  sixteen = g .sixteen;
+  sound = λ a r. g .sound a (rowsOf l) r (s .sound a r);
   held = λ p q h m. g .held p q h (s .held p q h m);
   closed = g .closed;
 }
@@ -307,34 +359,34 @@ apart-by-rows table finals rows s p q h =
 
 -- rows that are closed hold what words tell apart
 pub words-whole
-    : (table : List (List ℕ)) (finals states : ℕ) (more : ℕ → ℕ) (m : List ℕ) (n set : ℕ) (a : Automaton) → RuleHeld a table finals states
-    → CellsBelow table → states ≤ 16 → ((p q : ℕ) → RowPairs more p q → HeldApart m n p q)
+    : (table : List (List ℕ)) (finals states : ℕ) (more : ℕ → ℕ) (m : List ℕ) (set : ℕ) (a : Automaton) → RuleHeld a table finals states
+    → CellsBelow table → states ≤ 16 → ((p q : ℕ) → RowPairs more p q → InRows m p q)
     → ((s : ℕ) → has set s ≡ true → s < a .symbols)
-    → ((p q : ℕ) → p < states → WordPairs table finals states n set m p q → HeldApart m n p q)
-    → (p q : ℕ) → p < states → q < states → WordApart a set (RowPairs more) p q → HeldApart m n p q
-words-whole table finals states more m n set a r below few after symbols closed p q hp hq (apart-here s h d) =
+    → ((p q : ℕ) → p < states → has (wordRow table finals states (rowsOf m) set p) q ≡ true → InRows m p q)
+    → (p q : ℕ) → p < states → q < states → WordApart a set (RowPairs more) p q → InRows m p q
+words-whole table finals states more m set a r below few after symbols closed p q hp hq (apart-here s h d) =
     closed p q hp
-    (has-word-row table finals states (classRowIn m n) set p q .1 (
+    (has-word-row table finals states (rowsOf m) set p q .1 (
       hq,
       s,
       hs,
       h,
-      apart-by-unlike table finals (classRowIn m n) s p q (below q s (omega arith) hs)
+      apart-by-unlike table finals (rowsOf m) s p q (below q s (omega arith) hs)
           (rw (r .finals-are, r .cells p s (omega arith) hs, r .cells q s (omega arith) hs) d),
     ))
   where
     hs : s < 16
     hs = omega (arith, symbols s h, r .formed .few-symbols)
-words-whole table finals states more m n set a r below few after symbols closed p q hp hq (apart-later s h w) =
+words-whole table finals states more m set a r below few after symbols closed p q hp hq (apart-later s h w) =
     closed p q hp
-    (has-word-row table finals states (classRowIn m n) set p q .1 (
+    (has-word-row table finals states (rowsOf m) set p q .1 (
       hq,
       s,
       hs,
       h,
-      apart-by-rows table finals (classRowIn m n) s p q
+      apart-by-rows table finals (rowsOf m) s p q
           (rw (r .cells p s (omega arith) hs, r .cells q s (omega arith) hs)
-          (words-whole table finals states more m n set a r below few after symbols closed (next a p s) (next a q s)
+          (words-whole table finals states more m set a r below few after symbols closed (next a p s) (next a q s)
           (leads-below p hp) (leads-below q hq) w)),
     ))
   where
@@ -343,15 +395,15 @@ words-whole table finals states more m n set a r below few after symbols closed 
 
     leads-below : (x : ℕ) → x < states → next a x s < states
     leads-below x l = omega (arith, r .formed .next-below x s (omega (arith, r .states-are)) (symbols s h), r .states-are)
-words-whole table finals states more m n set a r below few after symbols closed p q hp hq (apart-after h) = after p q h
+words-whole table finals states more m set a r below few after symbols closed p q hp hq (apart-after h) = after p q h
 
 -- no row has grown
 pub closing-end
-    : (table : List (List ℕ)) (finals states : ℕ) (l m : List ℕ) (n set grown : ℕ) → CellsBelow table → states ≤ 16
-    → ClosingWords table finals states l m n set grown → grown ≡ 0 → WordsClosed table finals states l m n set
-closing-end table finals states l m n set grown below few s e = record {
-  kept = s .kept;
+    : (table : List (List ℕ)) (finals states : ℕ) (l m : List ℕ) (set grown : ℕ) → CellsBelow table → states ≤ 16
+    → ClosingWords table finals states l m set grown → grown ≡ 0 → WordsClosed table finals states l m set
+closing-end table finals states l m set grown below few s e = record {
+  sixteen = s .sixteen;
   sound = s .sound;
   whole = λ a r symbols p q hp hq w.
-      words-whole table finals states (classRowIn l n) m n set a r below few (λ x y h. s .held x y (h .0) (h .1)) symbols (s .closed e) p q hp hq w;
+      words-whole table finals states (rowsOf l) m set a r below few (λ x y h. s .held x y (h .0) (h .1)) symbols (s .closed e) p q hp hq w;
 }

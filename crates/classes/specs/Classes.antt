@@ -37,15 +37,16 @@ pub record ApartNext (table : List (List ℕ)) (finals states : ℕ) (work : Lis
 abbrev pub NextRow : List (List ℕ) → ℕ → ℕ → List ℕ → ℕ → ℕ → ℕ → Type 0
 NextRow table finals states work n p r = (q : ℕ) → (has r q ≡ true) ↔ ApartNext table finals states work n p q
 
--- the rows of a buffer tell the pair apart past node n: by a symbol of its call word, or before a successor
-abbrev pub ApartBack : List (List ℕ) → ℕ → ℕ → List ℕ → ℕ → ℕ → ℕ → ℕ → Type 0
-ApartBack table finals states work n set p q =
-    (has (wordRow table finals states (classRowIn work n) set p) q ≡ true) ⊎ ApartNext table finals states work n p q
+-- the pair is told apart past node n: by a symbol of its call word and given rows, or before a successor by the rows of a buffer
+abbrev pub ApartBack : List (List ℕ) → ℕ → ℕ → (ℕ → ℕ) → List ℕ → ℕ → ℕ → ℕ → ℕ → Type 0
+ApartBack table finals states rows work n set p q =
+    (has (wordRow table finals states rows set p) q ≡ true) ⊎ ApartNext table finals states work n p q
 
 -- node n holds each pair that the rows tell apart past it
 abbrev pub ClosedBack : List (List ℕ) → ℕ → ℕ → List ℕ → ℕ → Type 0
 ClosedBack table finals states work n =
-    (p q : ℕ) → p < states → ApartBack table finals states work n (callSet (nodeIn work n .kind)) p q → HeldApart work n p q
+    (p q : ℕ) → p < states → ApartBack table finals states (classRowIn work n) work n (callSet (nodeIn work n .kind)) p q
+    → HeldApart work n p q
 
 -- every pair that is held is told apart by some continuation
 abbrev pub AllApart : Job → ℕ → List ℕ → Type 0

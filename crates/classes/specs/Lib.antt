@@ -2,4 +2,5 @@
 -- Assumes nothing.
 pub mod Backwards
 pub mod Classes
+pub mod Returns
 pub mod FoundSays

@@ -1,11 +1,14 @@
-// The growth of the class rows from the after words of the exits, backwards over the edges.
+// The growth of the class rows from the after words of the exits, backwards over the edges and by calls that may come back in.
 ghost use Prim.Native.Nat.{_<_, _≤_};
 ghost use Rattle.buffer.specs.Layout.{Lent};
 ghost use Rattle.tables.specs.Rows.{CellsBelow};
 ghost use Rattle.tables.specs.Held.{EdgesWithin, Usable};
 ghost use Rattle.classes.specs.Backwards.{ClassesFound};
 ghost use Rattle.classes.specs.Classes.{NodeGrown, ClassesGrown};
+ghost use Rattle.classes.specs.Returns.{ClassesTurned};
 use afterwords::word_row;
+use classreturns::class_returns;
+use classrows::class_rows;
 use classrows::join_classes;
 use nextrows::successor_row;
 use nodereads::call_set;
@@ -22,10 +25,11 @@ fn class_node(
     ensures { λ r. ⌜ NodeGrown (now (table .entry)) finals states (now (work .entry)) (now (work .exit)) n r ⌝ }
 {
     let set = call_set(work, n);
+    let rows = class_rows(work, n);
     let mut grown = 0;
     let mut p = 0;
     while p < states {
-        let words = word_row(work, table, finals, states, n, set, p);
+        let words = word_row(&rows, table, finals, states, set, p);
         let row = words | successor_row(work, table, finals, states, n, p);
         grown += join_classes(work, n, p, row);
         p += 1;
@@ -53,6 +57,24 @@ fn class_round(
     grown
 }
 
+// Grows the rows of all nodes once over the edges and, where none grew, by calls that may come back in: the number of rows that grew.
+fn class_turn(
+    work: &mut [u8],
+    table: &[[u8; 16]; 16],
+    finals: u16,
+    states: usize,
+    nodes: usize,
+) -> usize
+    requires { ⌜ Usable (now work) (now table) states nodes ⌝ }
+    ensures { λ r. ⌜ ClassesTurned (now (table .entry)) finals states nodes (now (work .entry)) (now (work .exit)) r ⌝ }
+{
+    let grown = class_round(work, table, finals, states, nodes);
+    if grown != 0 {
+        return grown;
+    }
+    class_returns(work, table, finals, states, nodes)
+}
+
 // Grows the class rows, which hold the after words of the exits, until they hold every pair told apart past each node.
 pub fn grow_classes(
     work: &mut [u8],
@@ -66,6 +88,6 @@ pub fn grow_classes(
 {
     let mut grown = 1;
     while grown != 0 {
-        grown = class_round(work, table, finals, states, nodes);
+        grown = class_turn(work, table, finals, states, nodes);
     }
 }

@@ -1,6 +1,6 @@
 -- Bounds on the walks of a well-formed job: they keep to its nodes, its symbols and the states of its rule.
 -- Assumes nothing.
-use mathlib.Core.Path.{_≡_, sym, ap, _∙_}
+use mathlib.Core.Path.{_≡_, refl, sym, ap, _∙_}
 use mathlib.Core.Bool.{Bool, true, false, cond, true≢false}
 use Prim.Native.Nat.{ℕ, _<_}
 use native.Mathlib.Nat.{lt-of-not-le}
@@ -8,11 +8,11 @@ use lib.ListN.{length, List·getD-eq-default}
 use Rattle.laws.specs.Bits.{has}
 use Rattle.laws.proofs.Bits.{has-empty}
 use Rattle.automaton.specs.Automaton.{next}
-use Rattle.job.specs.Job.{Node, Job, nodeAt, noNode, WellFormedJob}
+use Rattle.job.specs.Job.{isReentrant, Node, isEntry, Job, nodeAt, noNode, WellFormedJob}
 use Rattle.job.specs.Walk.{Event, symbolOf, Place, before, past, ended, Silent}
 use Rattle.job.specs.Walk.{Told}
 use Rattle.job.specs.Plan.{Enabling, takes, stateAt}
-use Rattle.job.proofs.KindLaws.{SilentBy, by-pass, by-edge, by-exit, silent-by, ToldBy, by-point, by-words, by-after, told-by}
+use Rattle.job.proofs.KindLaws.{SilentBy, by-pass, by-edge, by-exit, by-entry, by-return, silent-by, ToldBy, by-point, by-words, by-after, told-by}
 use Rattle.job.proofs.Pairs.{Pairs, Pair, Admitted, admitted, Kept, pair-least}
 
 -- the node of a place
@@ -27,11 +27,25 @@ pub record Within (j : Job) (x : Place) (p q : ℕ) : Type 0 where
   pub one : p < j .rule .states
   pub other : q < j .rule .states
 
+-- a node that passes a test which no node past the last one passes is one of the job
+pub node-by : (j : Job) (n : ℕ) (f : Node → Bool) → f noNode ≡ false → f (nodeAt j n) ≡ true → n < length (j .nodes)
+node-by j n f none h = lt-of-not-le (λ l. true≢false (sym h ∙ ap f (List·getD-eq-default (j .nodes) noNode l) ∙ none))
+
 -- an entry is a node of the job
 pub entry-node : (j : Job) (n q : ℕ) → has (nodeAt j n .entry) q ≡ true → n < length (j .nodes)
-entry-node j n q h =
-    lt-of-not-le (λ l.
-    true≢false (sym h ∙ ap (λ (m : Node). has (m .entry) q) (List·getD-eq-default (j .nodes) noNode l) ∙ has-empty q))
+entry-node j n q h = node-by j n (λ m. has (m .entry) q) (has-empty q) h
+
+-- so is every node with an entry set that is not empty
+pub is-entry-node : (j : Job) (n : ℕ) → isEntry (nodeAt j n) ≡ true → n < length (j .nodes)
+is-entry-node j n h = node-by j n isEntry refl h
+
+-- and every call that may come back in
+pub reentrant-node : (j : Job) (n : ℕ) → isReentrant (nodeAt j n .kind) ≡ true → n < length (j .nodes)
+reentrant-node j n h = node-by j n (λ m. isReentrant (m .kind)) refl h
+
+-- and every exit
+pub exit-node : (j : Job) (n : ℕ) → nodeAt j n .exit ≡ true → n < length (j .nodes)
+exit-node j n h = node-by j n (λ m. m .exit) refl h
 
 -- an admitted start is at a node of the job, in a state of the rule
 pub admitted-within : {j : Job} {x : Place} {p q : ℕ} → WellFormedJob j → Admitted j x p q → Within j x p q
@@ -54,6 +68,8 @@ silent-within {j} wf l s = go l (silent-by s)
     go l (by-pass e) = l
     go l (by-edge {m = m} {n = n} h) = wf .edges m n h .1
     go l (by-exit h) = l
+    go l (by-entry {n = n} h e) = is-entry-node j n e
+    go l (by-return {n = n} x h) = reentrant-node j n h
 
 -- so does an event
 told-within : {j : Job} {x y : Place} {e : Event} → nodeOf x < length (j .nodes) → Told j x e y → nodeOf y < length (j .nodes)

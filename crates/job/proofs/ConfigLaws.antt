@@ -4,7 +4,7 @@
 use mathlib.Core.Path.{_≡_, refl, sym, ap, _∙_}
 use mathlib.Core.Logic.{_⊎_, inl, inr, ⊎-elim, _↔_, Iff·trans}
 use mathlib.Core.Bool.{Bool, true, false, cond, not, _&&_, true≢false, false≢true, and-eq-true-iff}
-use mathlib.Core.List.{List, [], _∷_, map, List·Memᴰ as Member, List·Memᴰ·head as first, List·Memᴰ·tail as later}
+use mathlib.Core.List.{List, [], _∷_, _++_, map, List·Memᴰ as Member, List·Memᴰ·head as first, List·Memᴰ·tail as later}
 use mathlib.Core.List.{List·Memᴰ·cases-cons as member-cases, List·Memᴰ·not-nil as member-none, List·Memᴰ·eq-of-singleton as member-one}
 use mathlib.Core.List.{List·Memᴰ·append-cases as append-cases, Memᴰ·append-left as append-left, Memᴰ·append-right as append-right}
 use mathlib.Core.List.{Memᴰ·map as map-member, Memᴰ·of-map as map-from}
@@ -17,17 +17,17 @@ use lib.ListN.{length}
 use borrow.Author.Tests.{eq-eqb, eqb-true}
 use Rattle.laws.specs.Bits.{has}
 use Rattle.laws.proofs.Tests.{or-passes, or-left, or-right}
-use Rattle.job.specs.Job.{Point, no-point, point, pointOf, callSet, Edge, Job, nodeAt, holds, WellFormedJob}
-use Rattle.job.specs.Walk.{Event, word, Place, before, past, ended, Silent, take-edge, begin-after}
+use Rattle.job.specs.Job.{Point, no-point, point, pointOf, callSet, isReentrant, Node, isEntry, Edge, Job, nodeAt, holds, WellFormedJob}
+use Rattle.job.specs.Walk.{Event, word, Place, before, past, ended, Silent}
 use Rattle.job.specs.Walk.{Told, after-word}
 use Rattle.job.specs.Plan.{Enabling, alarmAt, ApartAt}
-use Rattle.job.specs.Search.{anyOf, numbersOf, Config, configOf, placeCode, configCode, configCount, targets, entered, silentMoves}
+use Rattle.job.specs.Search.{anyOf, numbersOf, Config, configOf, placeCode, configCode, configCount, targets, entered, beforeNodes, silentMoves}
 use Rattle.job.specs.Search.{Telling, telling, words, reports, toldMoves, toldConfig, afterConfig, unlike, splits, startsBelow, configs}
-use Rattle.job.proofs.KindLaws.{enters, reports-point, reports-word, SilentBy, by-pass, by-edge, by-exit, silent-by, ToldBy, by-point, by-words, by-after, told-by}
+use Rattle.job.proofs.KindLaws.{enters, takes-edge, begins-after, comes-in, comes-back, reports-point, reports-word, SilentBy, by-pass, by-edge, by-exit, by-entry, by-return, silent-by, ToldBy, by-point, by-words, by-after, told-by}
 use Rattle.job.proofs.SearchLaws.{Reached, at-start, further, any-of-says, any-reached-says}
 use Rattle.job.proofs.Pairs.{Pairs, Pair, begins, moves, tells, Admitted, admitted, Only, only, Kept, pair-least}
 use Rattle.job.proofs.Pairs.{Splits, apart-now, pair-apart, apart-splits}
-use Rattle.job.proofs.Bounds.{nodeOf, Within, entry-node, admitted-within, within-kept}
+use Rattle.job.proofs.Bounds.{nodeOf, Within, entry-node, is-entry-node, reentrant-node, admitted-within, within-kept}
 
 -- ---- lists
 
@@ -83,6 +83,44 @@ targets-say (e ∷ es) m n =
 
 -- ---- moves
 
+-- a node that passes is in the list of places before nodes
+those-listed
+    : (b : Bool) (j : Job) (f : Node → Bool) (n : ℕ) → n < length (j .nodes) → b ≡ true → f (nodeAt j n) ≡ true
+    → Member (before n) (beforeNodes b j f)
+those-listed true j f n l e h = map-member before (numbers-say (length (j .nodes)) (λ n. f (nodeAt j n)) n .1 (l, h))
+those-listed false j f n l e h = absurd (false≢true e)
+
+-- a silent move is in the list
+moves-listed : {j : Job} {x y : Place} → SilentBy j x y → Member y (silentMoves j x)
+unfolding silentMoves
+moves-listed (by-pass e) = rw e (first refl)
+moves-listed {j} (by-edge {m = m} {n = n} h) =
+    append-left (cond (nodeAt j m .exit) (ended m ∷ []) [] ++ beforeNodes (isReentrant (nodeAt j m .kind)) j isEntry)
+    (map-member before (targets-say (j .edges) m n .1 h))
+moves-listed {j} (by-exit {n = n} h) =
+    append-right (map before (targets (j .edges) n))
+    (append-left (beforeNodes (isReentrant (nodeAt j n .kind)) j isEntry) (member-cond (nodeAt j n .exit) .1 (inl (h, refl))))
+moves-listed {j} (by-entry {m = m} {n = n} h e) =
+    append-right (map before (targets (j .edges) m))
+    (append-right (cond (nodeAt j m .exit) (ended m ∷ []) [])
+    (those-listed (isReentrant (nodeAt j m .kind)) j isEntry n (is-entry-node j n e) h e))
+moves-listed {j} (by-return {m = m} {n = n} x h) =
+    those-listed (nodeAt j m .exit) j (λ k. isReentrant (k .kind)) n (reentrant-node j n h) x h
+
+-- whatever the kind of the node
+silent-listed : {j : Job} {x y : Place} → Silent j x y → Member y (silentMoves j x)
+silent-listed m = moves-listed (silent-by m)
+
+-- what that list holds is one
+those-from
+    : {y : Place} (b : Bool) (j : Job) (f : Node → Bool) → Member y (beforeNodes b j f)
+    → (n : ℕ) × (b ≡ true) × (f (nodeAt j n) ≡ true) × (y ≡ before n)
+those-from {y} true j f m =
+    let nodes = numbersOf (length (j .nodes)) (λ n. f (nodeAt j n)) in
+    let r = map-from before nodes m in
+    (r .0, refl, numbers-say (length (j .nodes)) (λ n. f (nodeAt j n)) (r .0) .0 (r .1) .1, sym (r .2))
+those-from false j f m = absurd (member-none m)
+
 -- what the list of silent moves holds is one
 silent-from : (j : Job) (x y : Place) → Member y (silentMoves j x) → Silent j x y
 unfolding silentMoves
@@ -94,41 +132,47 @@ silent-from j (before n) y m = go (pointOf (nodeAt j n .kind)) refl m
 silent-from j (past n) y m =
     ⊎-elim
     (λ (t : Member y (map before (targets (j .edges) n))).
-    let r = map-from before (targets (j .edges) n) t in rw (← r .2) (take-edge (targets-say (j .edges) n (r .0) .0 (r .1))))
+    let r = map-from before (targets (j .edges) n) t in rw (← r .2) (takes-edge (targets-say (j .edges) n (r .0) .0 (r .1))))
+    (λ (rest : Member y (cond (nodeAt j n .exit) (ended n ∷ []) [] ++ beforeNodes (isReentrant (nodeAt j n .kind)) j isEntry)).
+    ⊎-elim
     (λ (t : Member y (cond (nodeAt j n .exit) (ended n ∷ []) [])).
     ⊎-elim
-    (λ (h : (nodeAt j n .exit ≡ true) × (y ≡ ended n)). rw (h .1) (begin-after (h .0)))
+    (λ (h : (nodeAt j n .exit ≡ true) × (y ≡ ended n)). rw (h .1) (begins-after (h .0)))
     (λ (none : Member y []). absurd (member-none none))
     (member-cond (nodeAt j n .exit) .0 t))
+    (λ (t : Member y (beforeNodes (isReentrant (nodeAt j n .kind)) j isEntry)).
+    let r = those-from (isReentrant (nodeAt j n .kind)) j isEntry t in rw (r .3) (comes-in (r .1) (r .2)))
+    (append-cases (cond (nodeAt j n .exit) (ended n ∷ []) []) rest))
     (append-cases (map before (targets (j .edges) n)) m)
-silent-from j (ended n) y m = absurd (member-none m)
-
--- a silent move is in the list
-moves-listed : {j : Job} {x y : Place} → SilentBy j x y → Member y (silentMoves j x)
-unfolding silentMoves
-moves-listed (by-pass e) = rw e (first refl)
-moves-listed {j} (by-edge {m = m} {n = n} h) =
-    append-left (cond (nodeAt j m .exit) (ended m ∷ []) []) (map-member before (targets-say (j .edges) m n .1 h))
-moves-listed {j} (by-exit {n = n} h) =
-    append-right (map before (targets (j .edges) n)) (member-cond (nodeAt j n .exit) .1 (inl (h, refl)))
-
--- whatever the kind of the node
-silent-listed : {j : Job} {x y : Place} → Silent j x y → Member y (silentMoves j x)
-silent-listed m = moves-listed (silent-by m)
+silent-from j (ended n) y m =
+    let r = those-from (nodeAt j n .exit) j (λ k. isReentrant (k .kind)) m in rw (r .3) (comes-back (r .1) (r .2))
 
 -- `silentMoves` lists the silent moves
 pub silent-says : (j : Job) (x y : Place) → Member y (silentMoves j x) ↔ Silent j x y
 silent-says j x y = (silent-from j x y, silent-listed)
+
+-- a symbol of the set is in its words
+words-listed : (a set : ℕ) (x : Place) (s : ℕ) → s < a → has set s ≡ true → Member (telling (word s) x) (words a set x)
+words-listed a set x s l h = map-member (λ s. telling (word s) x) (numbers-say a (has set) s .1 (l, h))
+
+-- a told move is in the list
+tells-listed : {j : Job} {x y : Place} {e : Event} → WellFormedJob j → ToldBy j x e y → Member (telling e y) (toldMoves j x)
+unfolding toldMoves
+tells-listed wf (by-point k) = rw k (first refl)
+tells-listed {j} wf (by-words {n = n} {a = a} h) =
+    words-listed (j .rule .symbols) (callSet (nodeAt j n .kind)) (past n) a (wf .kinds n .words-below a h) h
+tells-listed {j} wf (by-after {n = n} {a = a} x h) =
+    rw x (words-listed (j .rule .symbols) (nodeAt j n .after) (ended n) a (wf .afters n a h) h)
+
+-- whatever the kind of the node
+told-listed : {j : Job} {x y : Place} {e : Event} → WellFormedJob j → Told j x e y → Member (telling e y) (toldMoves j x)
+told-listed wf t = tells-listed wf (told-by t)
 
 -- what the words of a set hold is a symbol of it
 words-from : (a set : ℕ) (x : Place) (t : Telling) → Member t (words a set x) → (s : ℕ) × (has set s ≡ true) × (t ≡ telling (word s) x)
 words-from a set x t m =
     let r = map-from (λ s. telling (word s) x) (numbersOf a (has set)) m in
     (r .0, numbers-say a (has set) (r .0) .0 (r .1) .1, sym (r .2))
-
--- a symbol of the set is in its words
-words-listed : (a set : ℕ) (x : Place) (s : ℕ) → s < a → has set s ≡ true → Member (telling (word s) x) (words a set x)
-words-listed a set x s l h = map-member (λ s. telling (word s) x) (numbers-say a (has set) s .1 (l, h))
 
 -- what the list of told moves holds is one
 told-from : (j : Job) (x : Place) (t : Telling) → Member t (toldMoves j x) → Told j x (t .event) (t .to)
@@ -147,19 +191,6 @@ told-from j (ended n) t m = go (nodeAt j n .exit) refl m
         → Told j (ended n) (t .event) (t .to)
     go true e m = let r = words-from (j .rule .symbols) (nodeAt j n .after) (ended n) t m in rw (r .2) (after-word e (r .1))
     go false e m = absurd (member-none m)
-
--- a told move is in the list
-tells-listed : {j : Job} {x y : Place} {e : Event} → WellFormedJob j → ToldBy j x e y → Member (telling e y) (toldMoves j x)
-unfolding toldMoves
-tells-listed wf (by-point k) = rw k (first refl)
-tells-listed {j} wf (by-words {n = n} {a = a} h) =
-    words-listed (j .rule .symbols) (callSet (nodeAt j n .kind)) (past n) a (wf .kinds n .words-below a h) h
-tells-listed {j} wf (by-after {n = n} {a = a} x h) =
-    rw x (words-listed (j .rule .symbols) (nodeAt j n .after) (ended n) a (wf .afters n a h) h)
-
--- whatever the kind of the node
-told-listed : {j : Job} {x y : Place} {e : Event} → WellFormedJob j → Told j x e y → Member (telling e y) (toldMoves j x)
-told-listed wf t = tells-listed wf (told-by t)
 
 -- `toldMoves` lists the told moves
 pub told-says

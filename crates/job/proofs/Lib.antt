@@ -6,6 +6,7 @@ pub mod PlanSays
 pub mod Pairs
 pub mod Bounds
 pub mod ConfigLaws
+pub mod WithoutReentry
 pub mod Decide
 pub mod FoundLaws
 pub mod Rules

@@ -8,15 +8,15 @@ use mathlib.Core.Bool.{true, not}
 use Prim.Native.Nat.{ℕ}
 use Rattle.laws.specs.Bits.{has}
 use Rattle.automaton.specs.Automaton.{Automaton, next, final}
-use Rattle.job.specs.Job.{no-point, point, pointOf, callSet, Job, nodeAt, leads, WellFormedJob}
-use Rattle.job.specs.Walk.{Event, shadow, Place, before, past, ended, take-edge, begin-after}
+use Rattle.job.specs.Job.{no-point, point, pointOf, callSet, isReentrant, isEntry, Job, nodeAt, leads, WellFormedJob}
+use Rattle.job.specs.Walk.{Event, shadow, Place, before, past, ended}
 use Rattle.job.specs.Walk.{after-word}
 use Rattle.job.specs.Plan.{Enabling, stateAt, alarmAt, ApartAt}
-use Rattle.job.specs.Words.{WordApart, apart-here, apart-later, apart-after, NothingMore}
+use Rattle.job.specs.Words.{WordApart, apart-here, apart-later, apart-after, Spelt, no-word, one-more, ReturnApart}
 use Rattle.job.proofs.Pairs.{Pairs, Pair, begins, moves, tells, Admitted, admitted, Kept, Invariant}
 use Rattle.job.proofs.Pairs.{told-splits, apart-now, apart-moved, apart-told, Backwards}
 use Rattle.job.proofs.Bounds.{Within, pair-within}
-use Rattle.job.proofs.KindLaws.{point-some, point-or-none, words-none, enters, reports-point, reports-word, SilentBy, by-pass, by-edge, by-exit, silent-by, ToldBy, by-point, by-words, by-after, told-by}
+use Rattle.job.proofs.KindLaws.{point-some, point-or-none, words-none, reentrant-none, enters, takes-edge, begins-after, comes-in, comes-back, reports-point, reports-word, SilentBy, by-pass, by-edge, by-exit, by-entry, by-return, silent-by, ToldBy, by-point, by-words, by-after, told-by}
 use Rattle.job.proofs.Rules.{at-admitted}
 
 -- a set of pairs for each node
@@ -33,13 +33,6 @@ pub data PastNode (j : Job) (v w : Enabling) (H : Table) (n : ℕ) : ℕ → ℕ
   past-event
       : {a p q : ℕ} → pointOf (nodeAt j n .kind) ≡ point a → H n p q
       → PastNode j v w H n (stateAt (j .rule) v p (shadow n a)) (stateAt (j .rule) w q (shadow n a))
-
--- the pairs that a word over a set leads to from given ones
-pub data Spelt (m : Automaton) (set : ℕ) (P : ℕ → ℕ → Type 0) : ℕ → ℕ → Type 0 where
-  -- the empty word
-  no-word : {p q : ℕ} → P p q → Spelt m set P p q
-  -- a word and one symbol more
-  one-more : (a : ℕ) {p q : ℕ} → has set a ≡ true → Spelt m set P p q → Spelt m set P (next m p a) (next m q a)
 
 -- the pairs at all places
 abbrev pub placesOf : Job → Enabling → Enabling → Table → Pairs
@@ -109,7 +102,7 @@ module _ {j : Job} {v w : Enabling} where
   pub spelt-pair
       : {n p q : ℕ} → nodeAt j n .exit ≡ true → Spelt (j .rule) (nodeAt j n .after) (PastNode j v w (PairAt j v w) n) p q
       → Pair j v w (Admitted j) (ended n) p q
-  spelt-pair e (no-word h) = moves (past-pair h) (begin-after e)
+  spelt-pair e (no-word h) = moves (past-pair h) (begins-after e)
   spelt-pair e (one-more a m h) = tells (spelt-pair e h) (after-word e m)
 
   -- a start is in the set of its node
@@ -118,7 +111,7 @@ module _ {j : Job} {v w : Enabling} where
 
   -- what an edge leads to is in the set there
   pub pair-at-edge : {m n p q : ℕ} → PastNode j v w (PairAt j v w) m p q → leads j m n ≡ true → PairAt j v w n p q
-  pair-at-edge h l = pair-enters (moves (past-pair h) (take-edge l))
+  pair-at-edge h l = pair-enters (moves (past-pair h) (takes-edge l))
 
   -- what a symbol of a call word leads to is in the set of the call
   pub pair-at-word
@@ -126,6 +119,17 @@ module _ {j : Job} {v w : Enabling} where
       → PairAt j v w n (next (j .rule) p a) (next (j .rule) q a)
   pair-at-word a {n} m h =
       let none = words-none (nodeAt j n .kind) a m in pair-silent none (tells (pair-at-silent none h) (reports-word n a m))
+
+  -- what a call that may come back in leads to is in the set of every entry
+  pub pair-at-entry
+      : {m n p q : ℕ} → isReentrant (nodeAt j m .kind) ≡ true → isEntry (nodeAt j n) ≡ true → PairAt j v w m p q → PairAt j v w n p q
+  pair-at-entry {m} k e h = pair-enters (moves (pair-at-silent (reentrant-none (nodeAt j m .kind) k) h) (comes-in k e))
+
+  -- what the words after an exit lead to is in the set of every call that may come back in
+  pub pair-at-return
+      : {m n p q : ℕ} → nodeAt j m .exit ≡ true → isReentrant (nodeAt j n .kind) ≡ true
+      → Spelt (j .rule) (nodeAt j m .after) (PastNode j v w (PairAt j v w) m) p q → PairAt j v w n p q
+  pair-at-return e k h = pair-enters (moves (spelt-pair e h) (comes-back e k))
 
   -- a reached pair is of the job
   pub pair-at-within : {n p q : ℕ} → WellFormedJob j → PairAt j v w n p q → Within j (before n) p q
@@ -138,13 +142,18 @@ module _ {j : Job} {v w : Enabling} where
 abbrev pub ReachedIn : Job → Enabling → Enabling → Table → Table
 ReachedIn j v w H n p q = PairAt j v w n p q × H n p q
 
--- a table that holds the starts and that edges and call words keep
+-- a table that holds the starts and that edges, call words, re-entries and returns keep
 pub record NodeKept (j : Job) (v w : Enabling) (H : Table) : Type 0 where
   pub starts : (n q : ℕ) → has (nodeAt j n .entry) q ≡ true → H n q q
   pub edges : (m n p q : ℕ) → PastNode j v w (ReachedIn j v w H) m p q → leads j m n ≡ true → H n p q
   pub words
       : (n a p q : ℕ) → has (callSet (nodeAt j n .kind)) a ≡ true → ReachedIn j v w H n p q
       → H n (next (j .rule) p a) (next (j .rule) q a)
+  pub enters
+      : (m n p q : ℕ) → isReentrant (nodeAt j m .kind) ≡ true → isEntry (nodeAt j n) ≡ true → ReachedIn j v w H m p q → H n p q
+  pub returns
+      : (m n p q : ℕ) → nodeAt j m .exit ≡ true → isReentrant (nodeAt j n .kind) ≡ true
+      → Spelt (j .rule) (nodeAt j m .after) (PastNode j v w (ReachedIn j v w H) m) p q → H n p q
 
 -- a kept table under which the two monitors alarm alike at every event that may come next
 pub record NodeInvariant (j : Job) (v w : Enabling) (H : Table) : Type 0 where
@@ -174,6 +183,10 @@ module _ {j : Job} {v w : Enabling} {H : Table} where
       moved p q (by-pass e) h = past-silent e h
       moved p q (by-edge {m = m} {n = n} l) h = (pair-at-edge (past-map (λ a b r. r .0) h) l, k .edges m n p q h l)
       moved p q (by-exit e) h = no-word h
+      moved p q (by-entry {m = m} {n = n} a e) h =
+          let r = past-at-silent (reentrant-none (nodeAt j m .kind) a) h in (pair-at-entry a e (r .0), k .enters m n p q a e r)
+      moved p q (by-return {m = m} {n = n} x a) h =
+          (pair-at-return x a (spelt-map (λ c d r. past-map (λ e f t. t .0) r) h), k .returns m n p q x a h)
 
       told
           : {x y : Place} {e : Event} (p q : ℕ) → ToldBy j x e y → placesOf j v w (ReachedIn j v w H) x p q
@@ -211,17 +224,19 @@ pub data BeforeNode (j : Job) (v w : Enabling) (T : Table) (n : ℕ) : ℕ → �
       : {a p q : ℕ} → pointOf (nodeAt j n .kind) ≡ point a → alarmAt (j .rule) v p (shadow n a) ≡ not (alarmAt (j .rule) w q (shadow n a))
       → BeforeNode j v w T n p q
 
--- the pairs told apart where the word after an exit ends, by a table of those told apart past nodes
-abbrev pub AfterExit : Job → Enabling → Enabling → Table → ℕ → ℕ → Type 0
-AfterExit j v w T = NothingMore
-
 -- the pairs at all places
 abbrev pub placesBack : Job → Enabling → Enabling → Table → Pairs
 placesBack j v w T (before n) p q = BeforeNode j v w T n p q
 placesBack j v w T (past n) p q = T n p q
-placesBack j v w T (ended n) p q = WordApart (j .rule) (nodeAt j n .after) (AfterExit j v w T) p q
+placesBack j v w T (ended n) p q = WordApart (j .rule) (nodeAt j n .after) (ReturnApart j T) p q
 
--- a table that holds, of the pairs of the job, those that edges, call words and after words lead back to
+-- at a node with no event of its own, what is told apart before it is told apart past it
+pub before-at-silent : {j : Job} {v w : Enabling} {T : Table} {n p q : ℕ} → pointOf (nodeAt j n .kind) ≡ no-point → BeforeNode j v w T n p q → T n p q
+before-at-silent s (before-silent t h) = h
+before-at-silent s (before-event e h) = absurd (point-some e s)
+before-at-silent s (event-splits e h) = absurd (point-some e s)
+
+-- a table that holds, of the pairs of the job, those that edges, call words, after words and re-entries lead back to
 pub record NodeBackwards (j : Job) (v w : Enabling) (T : Table) : Type 0 where
   pub edges : (m n p q : ℕ) → Within j (past m) p q → leads j m n ≡ true → BeforeNode j v w T n p q → T m p q
   pub call-splits
@@ -232,7 +247,10 @@ pub record NodeBackwards (j : Job) (v w : Enabling) (T : Table) : Type 0 where
       → T n (next (j .rule) p a) (next (j .rule) q a) → T n p q
   pub after-words
       : (n p q : ℕ) → Within j (past n) p q → nodeAt j n .exit ≡ true
-      → WordApart (j .rule) (nodeAt j n .after) (AfterExit j v w T) p q → T n p q
+      → WordApart (j .rule) (nodeAt j n .after) (ReturnApart j T) p q → T n p q
+  pub enters
+      : (m n p q : ℕ) → Within j (past m) p q → isReentrant (nodeAt j m .kind) ≡ true → isEntry (nodeAt j n) ≡ true
+      → BeforeNode j v w T n p q → T m p q
 
 module _ {j : Job} {v w : Enabling} where
   -- a table that is closed backwards is a set of pairs that is
@@ -255,6 +273,9 @@ module _ {j : Job} {v w : Enabling} where
       moving p q d (by-pass k) t = before-silent k t
       moving p q d (by-edge {m = m} {n = n} l) t = b .edges m n p q d l t
       moving p q d (by-exit {n = n} k) t = b .after-words n p q d k t
+      moving p q d (by-entry {m = m} {n = n} k e) t = b .enters m n p q d k e t
+      moving p q d (by-return {n = n} x k) t =
+          apart-after (record { node = n; again = k; apart = before-at-silent (reentrant-none (nodeAt j n .kind) k) t })
 
       telling
           : {x y : Place} {e : Event} (p q : ℕ) → Within j x p q → ToldBy j x e y
@@ -279,15 +300,18 @@ module _ {j : Job} {v w : Enabling} where
 
   -- what tells them apart where the word after an exit ends
   pub exit-apart
-      : (n k l : ℕ) → AfterExit j v w (λ m. ApartAt j v w (past m)) k l → ApartAt j v w (ended n) k l
-  exit-apart n k l h = absurd h
+      : (n k l : ℕ) → nodeAt j n .exit ≡ true → ReturnApart j (λ m. ApartAt j v w (past m)) k l → ApartAt j v w (ended n) k l
+  exit-apart n k l e h =
+      let m = h .node in
+      apart-moved (comes-back e (h .again)) (apart-moved (enters m (reentrant-none (nodeAt j m .kind) (h .again))) (h .apart))
 
   -- the pairs told apart past nodes are closed backwards
   pub apart-nodes : NodeBackwards j v w (λ n. ApartAt j v w (past n))
   apart-nodes =
       record {
-        edges = λ m n p q r l h. apart-moved (take-edge l) (before-apart h);
+        edges = λ m n p q r l h. apart-moved (takes-edge l) (before-apart h);
         call-splits = λ n a p q r m d. apart-now (told-splits (reports-word n a m) d);
         call-words = λ n a p q r m h. apart-told (reports-word n a m) h;
-        after-words = λ n p q r k h. apart-moved (begin-after k) (word-apart (exit-apart n) k h);
+        after-words = λ n p q r k h. apart-moved (begins-after k) (word-apart (λ a b. exit-apart n a b k) k h);
+        enters = λ m n p q r k e h. apart-moved (comes-in k e) (before-apart h);
       }

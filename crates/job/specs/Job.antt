@@ -1,7 +1,7 @@
--- The job: a rule and a flow graph (document 01, "Nodes and walks").
+-- The job: a rule and a flow graph (document 01, "Nodes and walks"; document 02, "Procedures that call themselves").
 -- Assumes nothing.
 use mathlib.Core.Path.{_≡_}
-use mathlib.Core.Bool.{Bool, true, false, _&&_, _||_}
+use mathlib.Core.Bool.{Bool, true, false, not, _&&_, _||_}
 use mathlib.Core.List.{List, [], _∷_}
 use Prim.Native.Nat.{ℕ, zero, suc, _<_}
 use lib.Dec.{eqb}
@@ -9,11 +9,19 @@ use lib.ListN.{getD, length}
 use Rattle.laws.specs.Bits.{has}
 use Rattle.automaton.specs.Automaton.{Automaton, WellFormed}
 
--- "kinds of node": plain; event, with a symbol; call, with a set of symbols
+-- "kinds of node": plain; event, with a symbol; call, with a set of symbols, which may come back in or not
 pub data Kind : Type 0 where
   plain : Kind
   event : ℕ → Kind
-  call : ℕ → Kind
+  calls : Bool → ℕ → Kind
+
+-- "a call never comes back into this procedure": kind 2
+abbrev pub call : ℕ → Kind
+call set = calls false set
+
+-- "a call that may come back in": kind 3
+abbrev pub reentrant : ℕ → Kind
+reentrant set = calls true set
 
 -- the event that a node has of its own ("point"): none, or one with its symbol
 pub data Point : Type 0 where
@@ -24,13 +32,19 @@ pub data Point : Type 0 where
 abbrev pub pointOf : Kind → Point
 pointOf plain = no-point
 pointOf (event a) = point a
-pointOf (call set) = no-point
+pointOf (calls again set) = no-point
 
 -- the set over which a node of this kind reports words; where it is no call 0, over which there is the empty word alone
 abbrev pub callSet : Kind → ℕ
 callSet plain = 0
 callSet (event a) = 0
-callSet (call set) = set
+callSet (calls again set) = set
+
+-- a node of this kind is a call that may come back in
+abbrev pub isReentrant : Kind → Bool
+isReentrant plain = false
+isReentrant (event a) = false
+isReentrant (calls again set) = again
 
 -- there is a point
 abbrev pub isPoint : Point → Bool
@@ -45,19 +59,25 @@ isEvent k = isPoint (pointOf k)
 abbrev pub kindOf : ℕ → ℕ → Kind
 kindOf zero value = plain
 kindOf (suc zero) value = event value
-kindOf (suc (suc k)) value = call value
+kindOf (suc (suc zero)) value = call value
+kindOf (suc (suc (suc k))) value = reentrant value
+
+-- the number of the kind of a call
+abbrev pub callKind : Bool → ℕ
+callKind false = 2
+callKind true = 3
 
 -- the number of a kind in a job file
 abbrev pub kindNumber : Kind → ℕ
 kindNumber plain = 0
 kindNumber (event a) = 1
-kindNumber (call s) = 2
+kindNumber (calls again s) = callKind again
 
 -- the value of a kind: "0, symbol or set"
 abbrev pub valueNumber : Kind → ℕ
 valueNumber plain = 0
 valueNumber (event a) = a
-valueNumber (call s) = s
+valueNumber (calls again s) = s
 
 -- a node: its kind, its entry set (nonzero at an entry), whether it is an exit, and its after set
 pub record Node : Type 0 where
@@ -65,6 +85,10 @@ pub record Node : Type 0 where
   pub entry : ℕ
   pub exit : Bool
   pub after : ℕ
+
+-- a node is an entry: its entry set is not empty
+abbrev pub isEntry : Node → Bool
+isEntry n = not (eqb (n .entry) 0)
 
 -- an edge of the flow graph
 pub record Edge : Type 0 where

@@ -5,6 +5,7 @@ pub mod Walk
 pub mod Plan
 pub mod PlanSays
 pub mod Search
+pub mod WithoutReentry
 pub mod Found
 pub mod FoundSays
 pub mod SearchSays

@@ -6,7 +6,7 @@ use Prim.Native.Nat.{ℕ, zero, suc, _+_, _*_, _^_}
 use lib.Dec.{eqb}
 use lib.ListN.{length}
 use Rattle.laws.specs.Bits.{has}
-use Rattle.job.specs.Job.{Point, no-point, point, pointOf, callSet, Edge, Job, nodeAt}
+use Rattle.job.specs.Job.{Point, no-point, point, pointOf, callSet, isReentrant, Node, isEntry, Edge, Job, nodeAt}
 use Rattle.job.specs.Walk.{Event, shadow, word, Place, before, past, ended}
 use Rattle.job.specs.Plan.{Enabling, full, enables, stateAt, alarmAt}
 
@@ -88,12 +88,18 @@ abbrev pub entered : ℕ → Point → List Place
 entered n no-point = past n ∷ []
 entered n (point a) = []
 
+-- the places before the nodes that pass a test, where another test does
+abbrev pub beforeNodes : Bool → Job → (Node → Bool) → List Place
+beforeNodes goes j f = cond goes (map before (numbersOf (length (j .nodes)) (λ n. f (nodeAt j n)))) []
+
 -- the silent moves from a place
 unfoldable pub silentMoves : Job → Place → List Place
-unfolding targets
+unfolding targets numbersOf
 silentMoves j (before n) = entered n (pointOf (nodeAt j n .kind))
-silentMoves j (past n) = map before (targets (j .edges) n) ++ cond (nodeAt j n .exit) (ended n ∷ []) []
-silentMoves j (ended n) = []
+silentMoves j (past n) =
+    map before (targets (j .edges) n)
+    ++ (cond (nodeAt j n .exit) (ended n ∷ []) [] ++ beforeNodes (isReentrant (nodeAt j n .kind)) j isEntry)
+silentMoves j (ended n) = beforeNodes (nodeAt j n .exit) j (λ m. isReentrant (m .kind))
 
 -- a move that reports: the event, and the place after it
 pub record Telling : Type 0 where

@@ -18,7 +18,7 @@ use Rattle.jobfile.specs.FileTrials.{AllRead, done, _and_, pairFile, pai
 pub file-trials-pass : AllRead fileTrials
 unfolding fileTrials allBelow has digitsOf fieldOf fieldsOf lineOf linesOf finalsOf someEntry readRest readJob
 file-trials-pass =
-    refl and refl and refl
+    refl and refl and refl and refl and refl and refl
     and refl
     and refl and refl and refl
     and refl and refl and refl
@@ -30,7 +30,7 @@ file-trials-pass =
     and refl and refl and refl and refl and refl
     and refl and refl and refl
     and refl and refl
-    and done
+    and refl and refl and done
 
 -- PAIR's file is written from its job
 pub pair-written : writeJob pair ≡ pairFile

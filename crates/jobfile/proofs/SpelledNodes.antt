@@ -15,7 +15,7 @@ use Rattle.laws.specs.Bounded.{tab}
 use Rattle.laws.specs.Bits.{has}
 use Rattle.laws.proofs.Bounded.{length-tab, getD-tab}
 use Rattle.laws.proofs.Bits.{has-empty, below-says}
-use Rattle.job.specs.Job.{Kind, plain, event, call, kindOf, kindNumber, valueNumber, Node, noNode, KindBelow}
+use Rattle.job.specs.Job.{Kind, plain, event, calls, kindOf, kindNumber, valueNumber, Node, noNode, KindBelow}
 use Rattle.job.proofs.KindLaws.{plain-below, event-below, call-below}
 use Rattle.lines.specs.Line.{line, at, writeLines}
 use Rattle.jobfile.specs.File.{nodeLine, nodeOf, mark, writeNodes}
@@ -51,7 +51,8 @@ nodes-count i (n ∷ ns) = ap suc (nodes-count (suc i) ns)
 kind-read : (k : Kind) → kindOf (kindNumber k) (valueNumber k) ≡ k
 kind-read plain = refl
 kind-read (event a) = refl
-kind-read (call s) = refl
+kind-read (calls false s) = refl
+kind-read (calls true s) = refl
 
 -- a node is read back
 node-read : (i : ℕ) (n : Node) → nodeOf (nodeNumbers i n) ≡ n
@@ -73,21 +74,23 @@ list-tab ns =
 
 -- a kind and value within the job are those of the kind that they spell
 kind-exact
-    : (a k v : ℕ) → k ≤ 2 → (k ≡ 0 → v ≡ 0) → (k ≡ 1 → v < a) → (k ≡ 2 → (q : ℕ) → has v q ≡ true → q < a)
+    : (a k v : ℕ) → k ≤ 3 → (k ≡ 0 → v ≡ 0) → (k ≡ 1 → v < a) → (2 ≤ k → (q : ℕ) → has v q ≡ true → q < a)
     → (kindNumber (kindOf k v) ≡ k) × (valueNumber (kindOf k v) ≡ v) × KindBelow a (kindOf k v)
 kind-exact a zero v h none symbol set = (refl, sym (none refl), plain-below)
 kind-exact a (suc zero) v h none symbol set = (refl, refl, event-below (symbol refl))
-kind-exact a (suc (suc zero)) v h none symbol set = (refl, refl, call-below (set refl))
-kind-exact a (suc (suc (suc k))) v h none symbol set = absurd (omega arith)
+kind-exact a (suc (suc zero)) v h none symbol set = (refl, refl, call-below (set (omega arith)))
+kind-exact a (suc (suc (suc zero))) v h none symbol set = (refl, refl, call-below (set (omega arith)))
+kind-exact a (suc (suc (suc (suc k)))) v h none symbol set = absurd (omega arith)
 
 -- a kind of the job is written as a kind and value within it
 kind-within
     : (a : ℕ) (k : Kind) → KindBelow a k
-    → (kindNumber k ≤ 2) × (kindNumber k ≡ 0 → valueNumber k ≡ 0) × (kindNumber k ≡ 1 → valueNumber k < a)
-    × (kindNumber k ≡ 2 → (q : ℕ) → has (valueNumber k) q ≡ true → q < a)
+    → (kindNumber k ≤ 3) × (kindNumber k ≡ 0 → valueNumber k ≡ 0) × (kindNumber k ≡ 1 → valueNumber k < a)
+    × (2 ≤ kindNumber k → (q : ℕ) → has (valueNumber k) q ≡ true → q < a)
 kind-within a plain b = (omega arith, λ e. refl, λ e. absurd (omega arith), λ e. absurd (omega arith))
 kind-within a (event s) b = (omega arith, λ e. absurd (omega arith), λ e. b .point-below s refl, λ e. absurd (omega arith))
-kind-within a (call set) b = (omega arith, λ e. absurd (omega arith), λ e. absurd (omega arith), λ e. b .words-below)
+kind-within a (calls false set) b = (omega arith, λ e. absurd (omega arith), λ e. absurd (omega arith), λ e. b .words-below)
+kind-within a (calls true set) b = (omega arith, λ e. absurd (omega arith), λ e. absurd (omega arith), λ e. b .words-below)
 
 -- ---- numbers of few digits
 
@@ -99,13 +102,14 @@ set-small w s h below = omega (arith, pow-mono h, below-says w s .1 below)
 kind-small : (k : Kind) → kindNumber k < 1000000
 kind-small plain = omega arith
 kind-small (event a) = omega arith
-kind-small (call s) = omega arith
+kind-small (calls false s) = omega arith
+kind-small (calls true s) = omega arith
 
 -- its value
 value-small : (a : ℕ) (k : Kind) → a ≤ 16 → KindBelow a k → valueNumber k < 1000000
 value-small a plain h b = omega arith
 value-small a (event s) h b = omega (arith, b .point-below s refl)
-value-small a (call set) h b = set-small a set h (b .words-below)
+value-small a (calls again set) h b = set-small a set h (b .words-below)
 
 -- ---- good lines
 

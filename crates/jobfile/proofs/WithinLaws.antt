@@ -85,11 +85,15 @@ rule-says s a i before ns = (
       ),
 )
 
+-- the set of a call
+set-says : (a v : ℕ) → (ltb v (2 ^ a) ≡ true) ↔ ((q : ℕ) → has v q ≡ true → q < a)
+set-says a v = (λ t. below-says a v .0 (ltb-true v (2 ^ a) t), λ w. lt-ltb v (2 ^ a) (below-says a v .1 w))
+
 -- the value of a P line, by its kind
 pub value-says
     : (a k v : ℕ)
     → (goodValue a k v ≡ true)
-    ↔ ((k ≤ 2) × (k ≡ 0 → v ≡ 0) × (k ≡ 1 → v < a) × (k ≡ 2 → (q : ℕ) → has v q ≡ true → q < a))
+    ↔ ((k ≤ 3) × (k ≡ 0 → v ≡ 0) × (k ≡ 1 → v < a) × (2 ≤ k → (q : ℕ) → has v q ≡ true → q < a))
 value-says a zero v = (
   λ t. (omega arith, λ e. eqb-true v 0 t, λ e. absurd (omega arith), λ e. absurd (omega arith)),
   λ w. eq-eqb v 0 (w .1 refl),
@@ -99,10 +103,14 @@ value-says a (suc zero) v = (
   λ w. lt-ltb v a (w .2 refl),
 )
 value-says a (suc (suc zero)) v = (
-  λ t. (omega arith, λ e. absurd (omega arith), λ e. absurd (omega arith), λ e. below-says a v .0 (ltb-true v (2 ^ a) t)),
-  λ w. lt-ltb v (2 ^ a) (below-says a v .1 (w .3 refl)),
+  λ t. (omega arith, λ e. absurd (omega arith), λ e. absurd (omega arith), λ e. set-says a v .0 t),
+  λ w. set-says a v .1 (w .3 (omega arith)),
 )
-value-says a (suc (suc (suc k))) v = (λ t. absurd (true≢false (sym t)), λ w. absurd (omega (arith, w .0)))
+value-says a (suc (suc (suc zero))) v = (
+  λ t. (omega arith, λ e. absurd (omega arith), λ e. absurd (omega arith), λ e. set-says a v .0 t),
+  λ w. set-says a v .1 (w .3 (omega arith)),
+)
+value-says a (suc (suc (suc (suc k)))) v = (λ t. absurd (true≢false (sym t)), λ w. absurd (omega (arith, w .0)))
 
 -- the after set of a P line, by its exit mark
 after-says : (x f : ℕ) → x ≤ 1 → ((eqb x 1 || eqb f 0) ≡ true) ↔ (x ≡ 0 → f ≡ 0)

@@ -1,6 +1,6 @@
 -- The job file (document 01, "The job file" and "Turned back, by number", 1 and 3 to 10).
 -- Assumes nothing.
-use mathlib.Core.Bool.{Bool, true, false, cond, _&&_, _||_, not}
+use mathlib.Core.Bool.{Bool, true, false, cond, _&&_, _||_}
 use mathlib.Core.List.{List, [], _∷_, _++_, map}
 use Prim.Native.Nat.{ℕ, zero, suc, _+_, _^_}
 use lib.Dec.{eqb, leb, ltb}
@@ -8,7 +8,7 @@ use lib.ListN.{length, drop}
 use Rattle.laws.specs.Bounded.{allBelow}
 use Rattle.laws.specs.Bits.{has, with}
 use Rattle.automaton.specs.Automaton.{Automaton}
-use Rattle.job.specs.Job.{kindOf, kindNumber, valueNumber, Node, Edge, Job}
+use Rattle.job.specs.Job.{kindOf, kindNumber, valueNumber, Node, isEntry, Edge, Job}
 use Rattle.lines.specs.Line.{line, at}
 use Rattle.lines.specs.Lines.{LineKind, Lines, lines, refused, linesOf}
 
@@ -36,16 +36,17 @@ goodRule s a i before ns = eqb (at ns 0) i && leb (at ns 1) 1 && allBelow a (λ 
 abbrev pub ruleLine : ℕ → ℕ → LineKind
 ruleLine s a = record { letter = 82; count = a + 2; refusal = 6; good = goodRule s a }
 
--- "value (0, symbol or set)" names what the job has, and is 0 at kind 0; a kind is 0 to 2
+-- "value (0, symbol or set)" names what the job has, and is 0 at kind 0; a kind is 0 to 3, the last two with a set
 abbrev pub goodValue : ℕ → ℕ → ℕ → Bool
 goodValue a zero value = eqb value 0
 goodValue a (suc zero) value = ltb value a
 goodValue a (suc (suc zero)) value = ltb value (2 ^ a)
-goodValue a (suc (suc (suc k))) value = false
+goodValue a (suc (suc (suc zero))) value = ltb value (2 ^ a)
+goodValue a (suc (suc (suc (suc k)))) value = false
 
 -- "P, one per node in order: node, kind, value, entry set, exit 0 or 1, after set (0 where exit is 0)"; 7: "a node out of order,
 -- a kind above 2, a value or set naming what the job lacks, a nonzero value at kind 0, an exit mark above 1, or a nonzero after
--- set without exit"
+-- set without exit"; in document 02 "a kind is now wrong above 3"
 abbrev pub goodNode : ℕ → ℕ → ℕ → List ℕ → List ℕ → Bool
 goodNode s a i before ns =
     eqb (at ns 0) i && goodValue a (at ns 1) (at ns 2) && ltb (at ns 3) (2 ^ s) && leb (at ns 4) 1 && ltb (at ns 5) (2 ^ a)
@@ -95,7 +96,7 @@ jobOf head rules nodes edges =
 -- 10: "no node is an entry"
 unfoldable pub someEntry : List Node → Bool
 someEntry [] = false
-someEntry (n ∷ ns) = not (eqb (n .entry) 0) || someEntry ns
+someEntry (n ∷ ns) = isEntry n || someEntry ns
 
 -- ---- reading
 

@@ -2,11 +2,14 @@
 -- That they are read so, `AllRead fileTrials`, is a theorem of `proofs/`.
 -- Assumes nothing.
 use mathlib.Core.Path.{_≡_}
+use mathlib.Core.Bool.{false}
 use mathlib.Core.List.{List, [], _∷_, _++_}
 use Prim.Native.Nat.{ℕ}
 use Prim.Native.String.{String}
 use lib.ListN.{replicate}
-use Rattle.planning.specs.Trials.{pair}
+use Rattle.automaton.specs.Automaton.{automatonOf}
+use Rattle.job.specs.Job.{Kind, call, reentrant, Job}
+use Rattle.planning.specs.Trials.{node, jobOf, pair}
 use Rattle.lines.specs.FieldTrials.{bytesIn}
 use Rattle.jobfile.specs.File.{Answer, accepted, turned, readJob}
 
@@ -111,6 +114,10 @@ withRule text = linesIn (smallHead ∷ text ∷ smallNode ∷ [])
 abbrev pub withNode : String → List ℕ
 withNode text = linesIn (smallHead ∷ smallRule ∷ text ∷ [])
 
+-- its job with another kind
+abbrev pub oneNode : Kind → Job
+oneNode kind = jobOf (automatonOf ((0 ∷ []) ∷ []) 1 1 0) (node kind 1 false 0 ∷ []) []
+
 -- the file of a job of two nodes with these edges
 abbrev pub withEdges : String → String → List ℕ
 withEdges first second =
@@ -127,6 +134,10 @@ fileTrials =
     -- the same job, with zeros before the numbers' digits
     ∷ reads pairWithZeros (accepted pair)
     ∷ reads pairWithSomeZeros (accepted pair)
+    -- a call of either kind, with a set and with none
+    ∷ reads (withNode "P     0     2     1     1     0     0") (accepted (oneNode (call 1)))
+    ∷ reads (withNode "P     0     3     1     1     0     0") (accepted (oneNode (reentrant 1)))
+    ∷ reads (withNode "P     0     3     0     1     0     0") (accepted (oneNode (reentrant 0)))
     -- 1: too long, though it would be 4 too
     ∷ reads (replicate 49915 32) (turned 1)
     -- 3: nothing at all; nothing where an F line is due
@@ -173,20 +184,22 @@ fileTrials =
     -- with zeros, a state out of order and a next state of S
     ∷ reads (withRule "R000001000000000000") (turned 6)
     ∷ reads (withRule "R     0000000000001") (turned 6)
-    -- 7: a node out of order; a kind of 3; a value at kind 0; a symbol of A; a call set, entry set or after set past what the job
-    -- has; an exit mark of 2; an after set without exit
+    -- 7: a node out of order; a kind of 4, and of 259, whose low byte is 3; a value at kind 0; a symbol of A; the set of a call of either
+    -- kind, an entry set or after set past what the job has; an exit mark of 2; an after set without exit
     ∷ reads (withNode "P     1     0     0     1     0     0") (turned 7)
-    ∷ reads (withNode "P     0     3     0     1     0     0") (turned 7)
+    ∷ reads (withNode "P     0     4     0     1     0     0") (turned 7)
+    ∷ reads (withNode "P     0   259     0     1     0     0") (turned 7)
     ∷ reads (withNode "P     0     0     1     1     0     0") (turned 7)
     ∷ reads (withNode "P     0     1     1     1     0     0") (turned 7)
     ∷ reads (withNode "P     0     2     2     1     0     0") (turned 7)
+    ∷ reads (withNode "P     0     3     2     1     0     0") (turned 7)
     ∷ reads (withNode "P     0     0     0     2     0     0") (turned 7)
     ∷ reads (withNode "P     0     0     0 65537     0     0") (turned 7)
     ∷ reads (withNode "P     0     0     0     1     1     2") (turned 7)
     ∷ reads (withNode "P     0     0     0     1     2     0") (turned 7)
     ∷ reads (withNode "P     0     0     0     1     0     1") (turned 7)
-    -- with zeros, a kind of 3 and a symbol of A
-    ∷ reads (withNode "P000000000003000000000001000000000000") (turned 7)
+    -- with zeros, a kind of 4 and a symbol of A
+    ∷ reads (withNode "P000000000004000000000001000000000000") (turned 7)
     ∷ reads (withNode "P     0000001    01     1    00     0") (turned 7)
     -- 8: the same edge twice; one that descends; a node of N
     ∷ reads (withEdges "F     0     1" "F     0     1") (turned 8)

@@ -34,10 +34,10 @@ pub record RuleWithin (s a i : ℕ) (ns : List ℕ) : Type 0 where
 -- 7: the P line at place i of such a job
 pub record NodeWithin (s a i : ℕ) (ns : List ℕ) : Type 0 where
   pub node : at ns 0 ≡ i
-  pub kind : at ns 1 ≤ 2
+  pub kind : at ns 1 ≤ 3
   pub plain-value : at ns 1 ≡ 0 → at ns 2 ≡ 0
   pub symbol : at ns 1 ≡ 1 → at ns 2 < a
-  pub call-set : at ns 1 ≡ 2 → (q : ℕ) → has (at ns 2) q ≡ true → q < a
+  pub call-set : 2 ≤ at ns 1 → (q : ℕ) → has (at ns 2) q ≡ true → q < a
   pub entry-set : (q : ℕ) → has (at ns 3) q ≡ true → q < s
   pub exit-mark : at ns 4 ≤ 1
   pub after-set : (q : ℕ) → has (at ns 5) q ≡ true → q < a

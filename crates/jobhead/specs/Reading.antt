@@ -33,7 +33,7 @@ SameRest = Kept (λ k. Outside nodesPart pairPart k × Outside rulePart marksPar
 
 -- the answer's numbers are returned; an accepted job is held by the buffer, with zeros in the rule's cells past S or A, and the starts
 -- ascend up to the number of edges. Free are the bytes of the job's parts in which `jobIn` does not tell two buffers apart: nodes and
--- starts past N, targets past E, the value of a plain node, kinds above 2 (they read as 2), exit marks above 1 (they read as 0); and
+-- starts past N, targets past E, the value of a plain node, kinds above 3 (they read as 3), exit marks above 1 (they read as 0); and
 -- after a refusal other than 1 all bytes of these parts. The call that has the file read clears them
 pub record JobRead (answer : Answer) (l m : List ℕ) (r : Head) : Type 0 where
   pub exact : r ≡ headOfAnswer answer

@@ -8,7 +8,8 @@ use Prim.Native.Nat.{ℕ, _≤_}
 use Prim.Native.String.{String}
 use lib.ListN.{length}
 use lib.Seq.{sets}
-use Rattle.planning.specs.Trials.{turn, lastSeal, writeTwice, aroundTheRing}
+use Rattle.job.specs.Job.{reentrant}
+use Rattle.planning.specs.Trials.{turn, lastSeal, writeTwice, aroundTheRing, returns, nopLost, callAtEntry, callAtExit, noExit, neitherAdmits, ownWord, twoCalls, callsIntoCall}
 use Rattle.jobfile.specs.File.{Answer, writeJob}
 use Rattle.jobfile.specs.FileTrials.{linesIn, pairFile, pairWithZeros, smallHead, smallRule, smallNode, withNode}
 use Rattle.buffer.specs.Buffer.{workSize, cleared}
@@ -60,6 +61,45 @@ loopLines =
     ∷ "F     1     0"
     ∷ []
 
+-- the file of a job whose call comes in again, a node of kind 3
+abbrev pub comesInLines : List String
+comesInLines =
+    "J     3     2     3     2"
+    ∷ "R     0     0     1     0"
+    ∷ "R     1     0     1     2"
+    ∷ "R     2     1     1     2"
+    ∷ "P     0     1     1     1     0     0"
+    ∷ "P     1     1     0     0     0     0"
+    ∷ "P     2     3     0     0     0     0"
+    ∷ "F     0     1"
+    ∷ "F     1     2"
+    ∷ []
+
+-- an exit that returns to a call to which no edge leads
+abbrev pub noEdgeLines : List String
+noEdgeLines =
+    "J     3     2     2     0"
+    ∷ "R     0     0     1     0"
+    ∷ "R     1     0     1     2"
+    ∷ "R     2     1     1     2"
+    ∷ "P     0     1     0     1     1     0"
+    ∷ "P     1     3     2     0     0     0"
+    ∷ []
+
+-- an exit with an after set whose word is told sealed only after a return
+abbrev pub lateWordLines : List String
+lateWordLines =
+    "J     3     2     3     2"
+    ∷ "R     0     0     1     0"
+    ∷ "R     1     0     1     2"
+    ∷ "R     2     1     1     2"
+    ∷ "P     0     0     0     1     1     2"
+    ∷ "P     1     3     0     0     0     0"
+    ∷ "P     2     1     0     0     0     0"
+    ∷ "F     1     2"
+    ∷ "F     2     0"
+    ∷ []
+
 -- PAIR's listing
 abbrev pub pairListing : List String
 pairListing =
@@ -99,6 +139,33 @@ callTrials =
     ∷ [])
     -- a set of five digits
     ∷ lists (writeJob aroundTheRing) (Length 58) ("W     0     0 65535     2     0     1" ∷ "T     1     1     1" ∷ [])
+    -- calls that may come back in
+    ∷ lists (linesIn comesInLines) (Length 96)
+    ("W     0     1     3     1     0     1" ∷ "W     1     0     5     2     0     1" ∷ "T     2     2     1" ∷ [])
+    ∷ lists (linesIn noEdgeLines) (Length 58) ("W     0     0     7     2     0     1" ∷ "T     1     1     1" ∷ [])
+    ∷ lists (linesIn lateWordLines) (Length 58) ("W     2     0     7     2     0     1" ∷ "T     1     1     1" ∷ [])
+    ∷ lists (writeJob (returns reentrant)) (Length 96)
+    ("W     2     1     3     1     0     1" ∷ "W     3     0     3     2     0     1" ∷ "T     2     2     1" ∷ [])
+    ∷ lists (writeJob (nopLost reentrant)) (Length 134)
+    ("W     0     0     1     1     1     0"
+    ∷ "W     1     1     2     2     0     0"
+    ∷ "W     3     2     1     1     1     0"
+    ∷ "T     3     0     2"
+    ∷ [])
+    ∷ lists (writeJob (callAtEntry reentrant)) (Length 58) ("W     1     0     7     2     0     1" ∷ "T     1     1     1" ∷ [])
+    ∷ lists (writeJob (callAtExit reentrant)) (Length 58) ("W     0     1     7     2     0     1" ∷ "T     1     1     1" ∷ [])
+    ∷ lists (writeJob (noExit reentrant)) (Length 96)
+    ("W     0     0     1     1     1     0" ∷ "W     2     1     0     2     1     0" ∷ "T     2     0     2" ∷ [])
+    ∷ lists (writeJob (neitherAdmits reentrant)) (Length 96)
+    ("W     0     0    13     2     0     1" ∷ "W     1     0    14     2     0     1" ∷ "T     2     2     1" ∷ [])
+    ∷ lists (writeJob (ownWord reentrant)) (Length 58) ("W     0     1     7     2     0     1" ∷ "T     1     1     1" ∷ [])
+    ∷ lists (writeJob (twoCalls reentrant)) (Length 134)
+    ("W     0     0     7     2     0     1"
+    ∷ "W     3     1     2     1     0     1"
+    ∷ "W     4     1     6     1     0     1"
+    ∷ "T     3     3     1"
+    ∷ [])
+    ∷ lists (writeJob (callsIntoCall reentrant)) (Length 58) ("W     1     1     7     2     0     1" ∷ "T     1     1     1" ∷ [])
     -- no event node
     ∷ lists (linesIn (smallHead ∷ smallRule ∷ smallNode ∷ [])) (Length 20) ("T     0     0     1" ∷ [])
     -- the empty file, and no entry: nothing is written

@@ -26,7 +26,7 @@ use Rattle.tables.specs.Held.{JobHeld, PlanHeld}
 use Rattle.spread.specs.Spreading.{WordFrom, Spread}
 use Rattle.look.specs.Looking.{pastNode, Follows, by-word, AlikePair, SplitPair, split-point, split-call, split-exit, LookedAt}
 use Rattle.spread.proofs.SpreadLaws.{apart-meets, some-meets}
-use Rattle.look.proofs.PastLaws.{PastSays, past-says, past-state}
+use Rattle.look.proofs.PastLaws.{PastSays, past-says, past-state, plan-enabled}
 use Rattle.tables.proofs.RowLaws.{meets-says, meets-none}
 use Rattle.tables.proofs.KeptLaws.{grown-none, node-same, class-same, enabled-same}
 
@@ -61,11 +61,6 @@ pub spread-told
     : {table : List (List ℕ)} {finals : ℕ} {l m : List ℕ} {n p s set : ℕ} {b c : Bool} → b ≡ c
     → Spread table finals l m n p s set b → Spread table finals l m n p s set c
 spread-told {table} {finals} {l} {m} {n} {p} {s} {set} e h = subst (λ (x : Bool). Spread table finals l m n p s set x) e h
-
--- a plan that is held says what is enabled
-plan-enabled : (plan l : List ℕ) (nodes n : ℕ) → PlanHeld plan l nodes → n < nodes → enabledIn l n ≡ enables plan n
-unfolding enabledIn
-plan-enabled plan l nodes n planned inside = ap (λ (x : ℕ). eqb x 1) (planned n inside)
 
 -- ---- for a job that is held
 

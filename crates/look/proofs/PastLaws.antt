@@ -4,19 +4,22 @@ use mathlib.Core.Path.{_≡_, refl, sym, ap, subst, _∙_}
 use mathlib.Core.Bool.{Bool, true, false, not, false≢true}
 use mathlib.Core.List.{List}
 use Prim.Native.Nat.{ℕ, _^_, _<_}
+use lib.Dec.{eqb}
 use lib.Count.{trailingZeros}
 use Rattle.laws.specs.Bits.{has}
 use Rattle.laws.proofs.Bits.{has-below}
 use Rattle.laws.proofs.Walk.{trailing-member}
 use Rattle.automaton.specs.Automaton.{Automaton, next, final, cell}
-use Rattle.job.specs.Job.{Point, no-point, point, isPoint}
+use Rattle.job.specs.Job.{Point, no-point, point, pointOf, isPoint, Job, nodeAt}
 use Rattle.job.specs.Walk.{shadow}
-use Rattle.job.specs.Plan.{Enabling, full, alarmAt}
-use Rattle.job.proofs.KindLaws.{point-some, point-same}
+use Rattle.job.specs.Plan.{Enabling, full, enables, alarmAt}
+use Rattle.job.proofs.KindLaws.{point-some, point-same, event-small}
 use Rattle.moves.specs.declared.Past.{Past}
+use Rattle.buffer.specs.Views.{enabledIn}
 use Rattle.tables.specs.Rows.{CellsBelow}
+use Rattle.tables.specs.Held.{JobHeld, PlanHeld}
 use Rattle.moves.specs.Past.{pastShadow, pastRow}
-use Rattle.look.specs.Looking.{pastState}
+use Rattle.look.specs.Looking.{pastState, pastNode}
 use Rattle.spread.proofs.SpreadLaws.{moved-alike, moved-split}
 use Rattle.tables.proofs.RowLaws.{has-image-of}
 
@@ -112,3 +115,25 @@ pub past-state
 past-state table finals a p s cells row symbol true true = cells p a row symbol
 past-state table finals a p s cells row symbol true false = cells p a row symbol
 past-state table finals a p s cells row symbol false enabled = row
+
+-- ---- for a job that is held
+
+module _
+    {j : Job} {o : List ℕ} {table : List (List ℕ)} {finals states nodes : ℕ} (cells : CellsBelow table)
+    (job : JobHeld j o table finals states nodes) where
+  -- a next state is below 16
+  pub next-small : (p a : ℕ) → p < 16 → a < 16 → next (j .rule) p a < 16
+  next-small p a lp la = subst (λ (x : ℕ). x < 16) (job .cells p a lp la) (cells p a lp la)
+
+  -- and so is a state past a node
+  pub past-small : (n p : ℕ) → p < 16 → pastNode j full n p < 16
+  past-small n p lp = go (pointOf (nodeAt j n .kind)) refl
+    where
+      go : (x : Point) → pointOf (nodeAt j n .kind) ≡ x → pastState (j .rule) full n x p < 16
+      go no-point e = lp
+      go (point a) e = next-small p a lp (event-small n (job .formed) e)
+
+-- a plan that is held says what is enabled
+pub plan-enabled : (plan l : List ℕ) (nodes n : ℕ) → PlanHeld plan l nodes → n < nodes → enabledIn l n ≡ enables plan n
+unfolding enabledIn
+plan-enabled plan l nodes n planned inside = ap (λ (x : ℕ). eqb x 1) (planned n inside)

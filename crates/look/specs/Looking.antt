@@ -8,9 +8,10 @@ use mathlib.Core.List.{List}
 use Prim.Native.Nat.{ℕ, _<_}
 use Rattle.laws.specs.Bits.{has}
 use Rattle.automaton.specs.Automaton.{Automaton, next, final}
-use Rattle.job.specs.Job.{Point, no-point, point, pointOf, callSet, Job, nodeAt, leads}
+use Rattle.job.specs.Job.{Point, no-point, point, pointOf, callSet, isReentrant, isEntry, Job, nodeAt, leads}
 use Rattle.job.specs.Walk.{shadow}
 use Rattle.job.specs.Plan.{Enabling, full, enables, stateAt, alarmAt}
+use Rattle.job.specs.Words.{Spelt}
 use Rattle.buffer.specs.Views.{classRowIn, Held, HeldApart}
 use Rattle.tables.specs.Tables.{Grown}
 use Rattle.moves.specs.declared.Past.{Past}
@@ -25,12 +26,17 @@ pastState m v n (point a) p = stateAt m v p (shadow n a)
 abbrev pub pastNode : Job → Enabling → ℕ → ℕ → ℕ
 pastNode j v n p = pastState (j .rule) v n (pointOf (nodeAt j n .kind)) p
 
--- what follows a pair in the set of node n: over an edge, or by a symbol of its call word
+-- what follows a pair in the set of node n: over an edge, by a symbol of its call word, at an entry where the call comes in again, or at a
+-- call that the word after an exit comes back to
 pub data Follows (j : Job) (w : Enabling) (n p q : ℕ) : ℕ → ℕ → ℕ → Type 0 where
   over-edge : {m : ℕ} → leads j n m ≡ true → Follows j w n p q m (pastNode j full n p) (pastNode j w n q)
   by-word
       : (a : ℕ) → has (callSet (nodeAt j n .kind)) a ≡ true
       → Follows j w n p q n (next (j .rule) p a) (next (j .rule) q a)
+  by-entry : {m : ℕ} → isReentrant (nodeAt j n .kind) ≡ true → isEntry (nodeAt j m) ≡ true → Follows j w n p q m p q
+  by-return
+      : {m r s : ℕ} → nodeAt j n .exit ≡ true → isReentrant (nodeAt j m .kind) ≡ true
+      → Spelt (j .rule) (nodeAt j n .after) (λ x y. (x ≡ pastNode j full n p) × (y ≡ pastNode j w n q)) r s → Follows j w n p q m r s
 
 -- at every event that may come next the monitors alarm alike, and what a symbol of the call word leads to is held
 pub record AlikePair (j : Job) (w : Enabling) (work : List ℕ) (n p q : ℕ) : Type 0 where

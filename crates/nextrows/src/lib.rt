@@ -1,6 +1,7 @@
 // The states told apart before a node, and before the successors of one.
 ghost use mathlib.Core.Path.{_≡_};
 ghost use Prim.Native.Nat.{_<_, _≤_};
+ghost use Rattle.laws.specs.Bounded.{tab};
 ghost use Rattle.buffer.specs.Layout.{Lent};
 ghost use Rattle.tables.specs.Rows.{CellsBelow};
 ghost use Rattle.tables.specs.Held.{EdgesWithin};
@@ -33,6 +34,26 @@ fn before_row(
         return preimage_under(table, states, a, apart);
     }
     class_row(work, m, p)
+}
+
+// All rows of the states told apart before node m.
+pub fn before_rows(
+    work: &[u8],
+    table: &[[u8; 16]; 16],
+    finals: u16,
+    states: usize,
+    m: usize,
+) -> [u16; 16]
+    requires { ⌜ (Lent (now work)) × ((m < 512) × ((states ≤ 16) × CellsBelow (now table))) ⌝ }
+    ensures { λ r. ⌜ r ≡ tab 16 (beforeRow (now (table .entry)) finals states (now (work .entry)) m) ⌝ }
+{
+    let mut rows = [0u16; 16];
+    let mut p = 0;
+    while p < 16 {
+        rows[p] = before_row(work, table, finals, states, m, p);
+        p += 1;
+    }
+    rows
 }
 
 // The states told apart from p before some successor of node n.

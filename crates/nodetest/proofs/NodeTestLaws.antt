@@ -24,12 +24,21 @@ shr-test v a =
     (λ h. lt-ltb v (2 ^ a) (shr-zero-says a v .0 (eqb-true (v / 2 ^ a) 0 h)))
     (λ h. eq-eqb (v / 2 ^ a) 0 (shr-zero-says a v .1 (ltb-true v (2 ^ a) h)))
 
--- a kind above 2
-pub value-none : (a k v : ℕ) → (k ≡ 0 → ⊥) → (k ≡ 1 → ⊥) → (k ≡ 2 → ⊥) → goodValue a k v ≡ false
-value-none a zero v p q r = absurd (p refl)
-value-none a (suc zero) v p q r = absurd (q refl)
-value-none a (suc (suc zero)) v p q r = absurd (r refl)
-value-none a (suc (suc (suc k))) v p q r = refl
+-- the kinds of a call
+pub value-set : (a k v : ℕ) → (k ≡ 0 → ⊥) → (k ≡ 1 → ⊥) → k < 4 → eqb (v / 2 ^ a) 0 ≡ goodValue a k v
+value-set a zero v p q r = absurd (p refl)
+value-set a (suc zero) v p q r = absurd (q refl)
+value-set a (suc (suc zero)) v p q r = shr-test v a
+value-set a (suc (suc (suc zero))) v p q r = shr-test v a
+value-set a (suc (suc (suc (suc k)))) v p q r = absurd (omega arith)
+
+-- a kind above 3
+pub value-none : (a k v : ℕ) → 4 ≤ k → goodValue a k v ≡ false
+value-none a zero v h = absurd (omega arith)
+value-none a (suc zero) v h = absurd (omega arith)
+value-none a (suc (suc zero)) v h = absurd (omega arith)
+value-none a (suc (suc (suc zero))) v h = absurd (omega arith)
+value-none a (suc (suc (suc (suc k)))) v h = refl
 
 module _ (s a place : ℕ) (ns : List ℕ) where
   -- the test of the code's numbers
@@ -93,7 +102,8 @@ value-small : (a k v : ℕ) → a ≤ 16 → goodValue a k v ≡ true → v < 65
 value-small a zero v h g = omega (arith, eqb-true v 0 g)
 value-small a (suc zero) v h g = omega (arith, ltb-true v a g)
 value-small a (suc (suc zero)) v h g = lt-of-lt-of-le (ltb-true v (2 ^ a) g) (pow-small a h)
-value-small a (suc (suc (suc k))) v h g = absurd (true≢false (sym g))
+value-small a (suc (suc (suc zero))) v h g = lt-of-lt-of-le (ltb-true v (2 ^ a) g) (pow-small a h)
+value-small a (suc (suc (suc (suc k)))) v h g = absurd (true≢false (sym g))
 
 -- a line that passes fits the bytes of a node
 pub node-fits : (s a place : ℕ) (ns : List ℕ) → s ≤ 16 → a ≤ 16 → Test s a place ns ≡ true → NodeFits ns

@@ -15,7 +15,7 @@ fn is_value(symbols: u64, kind: u64, value: u64) -> bool
     if kind == 1 {
         return value < symbols;
     }
-    if kind == 2 {
+    if kind < 4 {
         return value >> symbols == 0;
     }
     false

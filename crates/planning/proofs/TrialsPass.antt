@@ -63,4 +63,32 @@ trials-pass =
     and row refl refl
     and row refl refl
     and row refl refl
+    and row refl refl
+    and row refl refl
+    and row refl refl
+    and row refl refl
+    and row refl refl
+    and row refl refl
+    and row refl refl
+    and row refl refl
+    and row refl refl
+    and row refl refl
+    and row refl refl
+    and row refl refl
+    and row refl refl
+    and row refl refl
+    and row refl refl
+    and row refl refl
+    and row refl refl
+    and row refl refl
+    and row refl refl
+    and row refl refl
+    and row refl refl
+    and row refl refl
+    and row refl refl
+    and row refl refl
+    and row refl refl
+    and row refl refl
+    and row refl refl
+    and row refl refl
     and done

@@ -1,4 +1,5 @@
--- Trial jobs with the right answer to each: those of document 01 ("One listing in full", "Trial jobs"), then our own.
+-- Trial jobs with the right answer to each: those of document 01 ("One listing in full", "Trial jobs"), then our own, the last of them
+-- with calls that may come back in (document 02, "Procedures that call themselves").
 -- That they all pass, `AllPass trials`, is a theorem of `proofs/`.
 -- Assumes nothing.
 use mathlib.Core.Path.{_≡_}
@@ -6,7 +7,7 @@ use mathlib.Core.Bool.{Bool, true, false}
 use mathlib.Core.List.{List, [], _∷_}
 use Prim.Native.Nat.{ℕ}
 use Rattle.automaton.specs.Automaton.{Automaton, automatonOf}
-use Rattle.job.specs.Job.{Kind, plain, event, call, Node, Edge, edge, Job, WellFormedJob}
+use Rattle.job.specs.Job.{Kind, plain, event, call, reentrant, Node, Edge, edge, Job, WellFormedJob}
 use Rattle.job.specs.Plan.{enables, Faithful, Different}
 use Rattle.planning.specs.Listing.{ShadowLine, TotalLine, planOf, listingOf}
 
@@ -218,6 +219,97 @@ aroundTheRing = jobOf (ringRule 43690) (node (event 0) 32768 false 0 ∷ []) (ed
 abbrev pub highestState : Job
 highestState = jobOf (ringRule 1) (node (event 0) 32768 false 0 ∷ []) []
 
+-- ---- jobs with a call of either kind: what a call that may come back in changes
+
+-- PAIR's rule without reopen: symbols seal, write
+abbrev pub sealRule : Automaton
+sealRule = automatonOf ((1 ∷ 0 ∷ []) ∷ (1 ∷ 2 ∷ []) ∷ (1 ∷ 2 ∷ []) ∷ []) 3 2 4
+
+-- write, seal, a call with nothing to report. Where it comes in again, the write is sealed and alarms, though the entry set has the open
+-- state alone; only so the seal must stay watched
+abbrev pub comesIn : (ℕ → Kind) → Job
+comesIn kind =
+    jobOf sealRule
+    (node (event 1) 1 false 0 ∷ node (event 0) 0 false 0 ∷ node (kind 0) 0 false 0 ∷ [])
+    (edge 0 1 ∷ edge 1 2 ∷ [])
+
+-- a plain node, then a call and behind it a write, or a seal at an exit. Where the exit returns, the write behind the call is sealed: a
+-- point after a return, of a call that need not have been made
+abbrev pub returns : (ℕ → Kind) → Job
+returns kind =
+    jobOf sealRule
+    (node plain 1 false 0 ∷ node (kind 0) 0 false 0 ∷ node (event 1) 0 false 0 ∷ node (event 0) 0 true 0 ∷ [])
+    (edge 0 1 ∷ edge 0 3 ∷ edge 1 2 ∷ [])
+
+-- seal, reopen at an exit; a call and behind it a write, to which no edge leads. By a return the write follows the reopen, which tells
+-- sealed from open: its nop mark is lost, and it goes nevertheless, since the seal goes first
+abbrev pub nopLost : (ℕ → Kind) → Job
+nopLost kind =
+    jobOf pairRule
+    (node (event 0) 1 false 0 ∷ node (event 1) 0 true 0 ∷ node (kind 0) 0 false 0 ∷ node (event 2) 0 false 0 ∷ [])
+    (edge 0 1 ∷ edge 2 3 ∷ [])
+
+-- an entry that is a call with words of write, then a seal at an exit: by a return the call's word follows again, sealed
+abbrev pub callAtEntry : (ℕ → Kind) → Job
+callAtEntry kind = jobOf sealRule (node (kind 2) 1 false 0 ∷ node (event 0) 0 true 0 ∷ []) (edge 0 1 ∷ [])
+
+-- a write, then a call with nothing to report at an exit with after words of seal: the after word comes first, then the return to the
+-- call itself, then the write again, sealed
+abbrev pub callAtExit : (ℕ → Kind) → Job
+callAtExit kind = jobOf sealRule (node (event 1) 1 false 0 ∷ node (kind 0) 0 true 1 ∷ []) (edge 0 1 ∷ [])
+
+-- a seal at an exit, and a call with words of write to which no edge leads: a return reaches it, by the empty after word
+abbrev pub noEdge : (ℕ → Kind) → Job
+noEdge kind = jobOf sealRule (node (event 0) 1 true 0 ∷ node (kind 2) 0 false 0 ∷ []) []
+
+-- a seal that is no exit; a call and behind it a write at an exit, to which no edge leads: no exit is reached, and so nothing returns to
+-- the call. What follows the write counts for its classes, reached or not
+abbrev pub noExit : (ℕ → Kind) → Job
+noExit kind =
+    jobOf sealRule
+    (node (event 0) 1 false 0 ∷ node (kind 2) 0 false 0 ∷ node (event 1) 0 true 0 ∷ [])
+    (edge 1 2 ∷ [])
+
+-- a rule of one symbol that alarms at the second event: 0 and 1 lead to 2, which leads to 3, the one final state
+abbrev pub secondRule : Automaton
+secondRule = automatonOf ((2 ∷ []) ∷ (2 ∷ []) ∷ (3 ∷ []) ∷ (3 ∷ []) ∷ []) 4 1 8
+
+-- two entries, one admitted in state 0 and one in 1, and a call behind both: it comes in again in state 2, which neither entry set has
+abbrev pub neitherAdmits : (ℕ → Kind) → Job
+neitherAdmits kind =
+    jobOf secondRule
+    (node (event 0) 1 false 0 ∷ node (event 0) 2 false 0 ∷ node (kind 0) 0 false 0 ∷ [])
+    (edge 0 2 ∷ edge 1 2 ∷ [])
+
+-- a plain exit with after words of write; a call and behind it a seal that leads back to the exit: at first the after word is told open,
+-- and only after a return sealed
+abbrev pub lateWord : (ℕ → Kind) → Job
+lateWord kind =
+    jobOf sealRule
+    (node plain 1 true 2 ∷ node (kind 0) 0 false 0 ∷ node (event 0) 0 false 0 ∷ [])
+    (edge 1 2 ∷ edge 2 0 ∷ [])
+
+-- a write, then a call with words of seal: its word comes before it comes in again
+abbrev pub ownWord : (ℕ → Kind) → Job
+ownWord kind = jobOf sealRule (node (event 1) 1 false 0 ∷ node (kind 1) 0 false 0 ∷ []) (edge 0 1 ∷ [])
+
+-- a seal at an exit that has an edge too; two calls, one with words of write and one with a write behind it, and a write that is an entry in
+-- state 2: by returns to both calls, and by coming in again there, every write is sealed
+abbrev pub twoCalls : (ℕ → Kind) → Job
+twoCalls kind =
+    jobOf sealRule
+    (node (event 0) 1 true 0 ∷ node (kind 2) 0 false 0 ∷ node (kind 0) 0 false 0 ∷ node (event 1) 0 false 0 ∷ node (event 1) 4 false 0
+    ∷ node plain 0 false 0 ∷ [])
+    (edge 0 5 ∷ edge 2 3 ∷ [])
+
+-- an entry that is a call with words of seal, a write, and a call behind it that comes in again there, at the first call, whose word goes
+-- before the write again
+abbrev pub callsIntoCall : (ℕ → Kind) → Job
+callsIntoCall kind =
+    jobOf sealRule
+    (node (kind 1) 1 false 0 ∷ node (event 1) 0 false 0 ∷ node (kind 0) 0 false 0 ∷ [])
+    (edge 0 1 ∷ edge 1 2 ∷ [])
+
 -- all trial jobs: those that document 01 marks with a star, then our own
 abbrev pub trials : List Trial
 trials =
@@ -261,4 +353,34 @@ trials =
     -- sixteen states
     ∷ trial aroundTheRing (lists (line 0 0 65535 2 0 1 ∷ []) (total 1 1 1))
     ∷ trial highestState (lists (line 0 0 32768 1 0 1 ∷ []) (total 1 1 1))
+    -- calls that may come back in, each beside the call of kind 2 that does not
+    ∷ trial (comesIn reentrant) (lists (line 0 1 3 1 0 1 ∷ line 1 0 5 2 0 1 ∷ []) (total 2 2 1))
+    ∷ trial (comesIn call) (lists (line 0 1 1 1 1 0 ∷ line 1 0 1 1 1 0 ∷ []) (total 2 0 2))
+    ∷ trial (returns reentrant) (lists (line 2 1 3 1 0 1 ∷ line 3 0 3 2 0 1 ∷ []) (total 2 2 1))
+    ∷ trial (returns call) (lists (line 2 1 1 1 1 0 ∷ line 3 0 1 1 1 0 ∷ []) (total 2 0 2))
+    ∷ trial (nopLost reentrant) (lists (line 0 0 1 1 1 0 ∷ line 1 1 2 2 0 0 ∷ line 3 2 1 1 1 0 ∷ []) (total 3 0 2))
+    ∷ trial (nopLost call) (lists (line 0 0 1 1 1 0 ∷ line 1 1 2 1 1 0 ∷ line 3 2 0 1 1 0 ∷ []) (total 3 0 2))
+    ∷ trial (nopLost reentrant) (checks (1 ∷ 0 ∷ 0 ∷ 1 ∷ []) false)
+    ∷ trial (callAtEntry reentrant) (lists (line 1 0 7 2 0 1 ∷ []) (total 1 1 1))
+    ∷ trial (callAtEntry call) (lists (line 1 0 1 1 1 0 ∷ []) (total 1 0 2))
+    ∷ trial (callAtExit reentrant) (lists (line 0 1 7 2 0 1 ∷ []) (total 1 1 1))
+    ∷ trial (callAtExit call) (lists (line 0 1 1 1 1 0 ∷ []) (total 1 0 2))
+    ∷ trial (noEdge reentrant) (lists (line 0 0 7 2 0 1 ∷ []) (total 1 1 1))
+    ∷ trial (noEdge call) (lists (line 0 0 1 1 1 0 ∷ []) (total 1 0 2))
+    ∷ trial (noExit reentrant) (lists (line 0 0 1 1 1 0 ∷ line 2 1 0 2 1 0 ∷ []) (total 2 0 2))
+    ∷ trial (noExit call) (lists (line 0 0 1 1 1 0 ∷ line 2 1 0 1 1 0 ∷ []) (total 2 0 2))
+    ∷ trial (neitherAdmits reentrant) (lists (line 0 0 13 2 0 1 ∷ line 1 0 14 2 0 1 ∷ []) (total 2 2 1))
+    ∷ trial (neitherAdmits call) (lists (line 0 0 1 1 1 0 ∷ line 1 0 2 1 1 0 ∷ []) (total 2 0 2))
+    ∷ trial (lateWord reentrant) (lists (line 2 0 7 2 0 1 ∷ []) (total 1 1 1))
+    ∷ trial (lateWord call) (lists (line 2 0 0 2 1 0 ∷ []) (total 1 0 2))
+    ∷ trial (ownWord reentrant) (lists (line 0 1 7 2 0 1 ∷ []) (total 1 1 1))
+    ∷ trial (ownWord call) (lists (line 0 1 1 1 1 0 ∷ []) (total 1 0 2))
+    ∷ trial (twoCalls reentrant) (lists (line 0 0 7 2 0 1 ∷ line 3 1 2 1 0 1 ∷ line 4 1 6 1 0 1 ∷ []) (total 3 3 1))
+    ∷ trial (twoCalls call) (lists (line 0 0 1 1 1 0 ∷ line 3 1 0 1 1 0 ∷ line 4 1 4 1 0 1 ∷ []) (total 3 1 2))
+    ∷ trial (callsIntoCall reentrant) (lists (line 1 1 7 2 0 1 ∷ []) (total 1 1 1))
+    ∷ trial (callsIntoCall call) (lists (line 1 1 3 1 0 1 ∷ []) (total 1 1 1))
+    -- plans without the seal that stays only because the procedure comes in again, and without the write
+    ∷ trial (comesIn reentrant) (checks (1 ∷ 0 ∷ 0 ∷ []) false)
+    ∷ trial (comesIn call) (checks (1 ∷ 0 ∷ 0 ∷ []) true)
+    ∷ trial (comesIn reentrant) (checks (0 ∷ 1 ∷ 0 ∷ []) false)
     ∷ []

@@ -2,23 +2,22 @@
 -- Assumes nothing.
 use mathlib.Core.Path.{_≡_, refl, sym, ap, subst, _∙_}
 use mathlib.Core.Logic.{_⊎_, inl, inr, ⊎-elim, _≢_, by-cases}
-use mathlib.Core.Bool.{true, false, _||_}
-use mathlib.Core.List.{List, [], _∷_}
-use Prim.Native.Nat.{ℕ, zero, suc, _+_, _-_, _≤_, _<_}
+use mathlib.Core.Bool.{true, false}
+use mathlib.Core.List.{List}
+use Prim.Native.Nat.{ℕ, _+_, _-_, _≤_, _<_}
 use native.Mathlib.Nat.{le-refl}
 use native.Mathlib.Decide.{ℕ-discrete}
 use native.Mathlib.Omega.{arith}
 use lib.Bits.{bitAnd, bitOr}
 use lib.Count.{trailingZeros}
 use lib.ListN.{length, getD, set, length-set}
-use lib.Seq.{getD-set-same, getD-set-other}
 use Rattle.laws.specs.Bits.{has}
-use Rattle.laws.proofs.Bits.{has-below, has-or}
-use Rattle.laws.proofs.Tests.{passes-or-fails, or-left, or-right, or-passes}
+use Rattle.laws.proofs.Bits.{has-below}
+use Rattle.laws.proofs.Tests.{passes-or-fails}
 use Rattle.laws.proofs.Walk.{Rest, rest-start, rest-from, rest-lt, rest-next, members-more, members-end}
 use Rattle.automaton.specs.Automaton.{next}
-use Rattle.job.proofs.KindLaws.{event-small, call-small}
-use Rattle.job.specs.Job.{Point, no-point, point, pointOf, Job, nodeAt}
+use Rattle.job.proofs.KindLaws.{call-small}
+use Rattle.job.specs.Job.{Job}
 use Rattle.job.specs.Plan.{Enabling, full, enables}
 use Rattle.moves.specs.declared.Past.{Past}
 use Rattle.buffer.specs.Views.{marksIn, markedIn, EdgeIn, Held}
@@ -26,28 +25,16 @@ use Rattle.tables.specs.Tables.{pairsLeft, SearchKept, Grown, NextMarked, Marks
 use Rattle.tables.specs.Held.{Usable, JobHeld, PlanHeld}
 use Rattle.rounds.specs.declared.Seen.{Seen}
 use Rattle.rounds.specs.declared.Seen.the-variants.{Nothing, Rows, Difference}
-use Rattle.successors.specs.Joined.{InRows, JoinedPast}
-use Rattle.look.specs.Looking.{pastState, pastNode, Follows, over-edge, AlikePair, ClosedPair, SplitPair, split-point, split-call, split-exit, Looked, LookedAt}
+use Rattle.successors.specs.Joined.{JoinedPast}
+use Rattle.tables.specs.Sixteen.{InRows}
+use Rattle.look.specs.Looking.{pastNode, Follows, over-edge, AlikePair, ClosedPair, SplitPair, split-point, split-call, split-exit, Looked, LookedAt}
 use Rattle.rounds.specs.Rounds.{Following, held-first, follows, SettledRow, Settled, Rounded, RoundedAt}
+use Rattle.look.proofs.PastLaws.{next-small, past-small}
 use Rattle.tables.proofs.RowLaws.{has-nothing}
+use Rattle.tables.proofs.SixteenLaws.{rows-old, rows-here, rows-fresh}
 use Rattle.tables.proofs.KeptLaws.{search-kept-none, search-kept-both, grown-none, grown-both, class-same, usable-same, job-same, plan-same}
 
 -- ---- from one buffer to another
-
-module _
-    {j : Job} {o : List ℕ} {table : List (List ℕ)} {finals states nodes : ℕ} (u : Usable o table states nodes)
-    (job : JobHeld j o table finals states nodes) where
-  -- a next state is below 16
-  next-small : (p a : ℕ) → p < 16 → a < 16 → next (j .rule) p a < 16
-  next-small p a lp la = subst (λ (x : ℕ). x < 16) (job .cells p a lp la) (u .cells p a lp la)
-
-  -- and so is a state past a node
-  past-small : (n p : ℕ) → p < 16 → pastNode j full n p < 16
-  past-small n p lp = go (pointOf (nodeAt j n .kind)) refl
-    where
-      go : (x : Point) → pointOf (nodeAt j n .kind) ≡ x → pastState (j .rule) full n x p < 16
-      go no-point e = lp
-      go (point a) e = next-small p a lp (event-small n (job .formed) e)
 
 -- pairs of one buffer are held in another
 abbrev pub HeldIn : List ℕ → List ℕ → Type 0
@@ -61,11 +48,11 @@ module _
   alike-kept held n p q ln lp c = record {
     words = λ a h.
         held n (next (j .rule) p a) (next (j .rule) q a) ln
-        (next-small u job p a lp (call-small n a (job .formed) h)) (c .words a h);
+        (next-small (u .cells) job p a lp (call-small n a (job .formed) h)) (c .words a h);
     at-point = c .at-point;
     at-call = c .at-call;
     at-exit =
-        ap (λ (x : ℕ). has x (pastNode j w n q)) (class-same k n (pastNode j full n p) ln (past-small u job n p lp)) ∙ c .at-exit;
+        ap (λ (x : ℕ). has x (pastNode j w n q)) (class-same k n (pastNode j full n p) ln (past-small (u .cells) job n p lp)) ∙ c .at-exit;
   }
 
   -- a closed pair is closed where no pair is lost
@@ -74,7 +61,7 @@ module _
     alike = alike-kept held n p q ln lp (c .alike);
     edges = λ a h.
         held a (pastNode j full n p) (pastNode j w n q)
-        (omega (arith, job .formed .edges n a h .1, job .nodes-are, u .few-nodes)) (past-small u job n p lp) (c .edges a h);
+        (omega (arith, job .formed .edges n a h .1, job .nodes-are, u .few-nodes)) (past-small (u .cells) job n p lp) (c .edges a h);
   }
 
   -- a pair that splits does so in the other buffer
@@ -83,17 +70,17 @@ module _
   split-kept n p q ln lp (split-call a h d) = split-call a h d
   split-kept n p q ln lp (split-exit h) =
       split-exit
-      (ap (λ (x : ℕ). has x (pastNode j w n q)) (sym (class-same k n (pastNode j full n p) ln (past-small u job n p lp))) ∙ h)
+      (ap (λ (x : ℕ). has x (pastNode j w n q)) (sym (class-same k n (pastNode j full n p) ln (past-small (u .cells) job n p lp))) ∙ h)
 
 -- what follows pairs that follow
-following-both
+pub following-both
     : {j : Job} {w : Enabling} {l m : List ℕ} {n p q : ℕ}
     → ((n p q : ℕ) → n < 512 → p < 16 → Held m n p q → Following j w l n p q) → Following j w m n p q → Following j w l n p q
 following-both f (held-first {n = n} {p = p} {q = q} ln lp h) = f n p q ln lp h
 following-both f (follows g h) = follows (following-both f g) h
 
 -- a member of one set is one of the same set
-member-same : {s t : ℕ} (q : ℕ) → s ≡ t → has s q ≡ true → has t q ≡ true
+pub member-same : {s t : ℕ} (q : ℕ) → s ≡ t → has s q ≡ true → has t q ≡ true
 member-same q e h = sym (ap (λ (x : ℕ). has x q) e) ∙ h
 
 -- ---- the rows of one node
@@ -145,46 +132,6 @@ pub record NodeLooked (table : List (List ℕ)) (finals states nodes : ℕ) (l m
       → NodeFor j (enables plan) l m n due
 
 -- ---- the rows past a node, gathered
-
--- rows without pairs
-unfoldable pub emptyRows : ℕ → List ℕ
-emptyRows zero = []
-emptyRows (suc k) = 0 ∷ emptyRows k
-
--- each of them is 0
-pub empty-row : (k p : ℕ) → getD (emptyRows k) p 0 ≡ 0
-unfolding emptyRows
-empty-row zero p = refl
-empty-row (suc k) zero = refl
-empty-row (suc k) (suc p) = empty-row k p
-
-module _ (rows : List ℕ) (state s word : ℕ) (sixteen : length rows ≡ 16) (small : state < 16) (joined : word ≡ bitOr (getD rows state 0) s) where
-  -- the row that a set was joined into
-  word-here : (q : ℕ) → has (getD (set rows state word) state 0) q ≡ (has (getD rows state 0) q || has s q)
-  word-here q =
-      ap (λ (x : ℕ). has x q) (getD-set-same rows state word 0 (omega arith) ∙ joined) ∙ has-or (getD rows state 0) s q
-
-  -- the pairs that were there
-  rows-old : (p q : ℕ) → InRows rows p q → InRows (set rows state word) p q
-  rows-old p q h =
-      by-cases (ℕ-discrete p state)
-      (λ (e : p ≡ state). rw e (word-here q ∙ or-left (has (getD rows state 0) q) (has s q) (rw e at h)))
-      (λ (ne : p ≡ state → ⊥). rw (getD-set-other rows state p word 0 ne) h)
-
-  -- those of the set
-  rows-here : (q : ℕ) → has s q ≡ true → InRows (set rows state word) state q
-  rows-here q h = word-here q ∙ or-right (has (getD rows state 0) q) (has s q) h
-
-  -- and no others
-  rows-fresh : (p q : ℕ) → InRows (set rows state word) p q → InRows rows p q ⊎ ((p ≡ state) × (has s q ≡ true))
-  rows-fresh p q h =
-      by-cases (ℕ-discrete p state)
-      (λ (e : p ≡ state).
-      ⊎-elim
-      (λ (y : has (getD rows state 0) q ≡ true). inl (rw e y))
-      (λ (y : has s q ≡ true). inr (e, y))
-      (or-passes (has (getD rows state 0) q) (has s q) (sym (word-here q) ∙ (rw e at h))))
-      (λ (ne : p ≡ state → ⊥). inl (rw (getD-set-other rows state p word 0 ne) at h))
 
 module _ {table : List (List ℕ)} {finals states nodes : ℕ} where
   -- none yet
@@ -331,7 +278,7 @@ module _ {table : List (List ℕ)} {finals states nodes : ℕ} where
           (was .0) q (member-same q (was .1) x) in
           record {
             alike = alike-kept u held (join .grown .kept) (join .grown .held) n r q small few (c .0);
-            edges = λ a e. join .here a _ _ (job-now held .edges n a ln .0 e) (past-small u held n r few) (c .1);
+            edges = λ a e. join .here a _ _ (job-now held .edges n a ln .0 e) (past-small (u .cells) held n r few) (c .1);
           }
 
       -- the node is done
@@ -479,6 +426,7 @@ module _ {table : List (List ℕ)} {finals states nodes : ℕ} where
         record {
           kept = search-kept-both taken-kept (search-kept-both (r .grown .kept) (look .grown .kept));
           held = λ a x y la lx h. look .grown .held a x y la lx (taken-held (r .grown) a x y la lx (i .held a x y la lx h));
+          most = omega (arith, i .left, t .left, r .grown .left, look .grown .left);
           left = λ e. absurd (rows-difference (sym e));
           none = λ e. absurd (nothing-difference (sym e));
           exact = λ j plan held plan-held. rounded j plan held plan-held;
@@ -502,6 +450,7 @@ module _ {table : List (List ℕ)} {finals states nodes : ℕ} where
                     one = p;
                     other = f .0;
                     small = ln;
+                    row = lp;
                     follows = taken-new j plan held plan-held (r .exact j plan there there-plan .new n p (f .0) (omega (arith, u .few-nodes)) lp (f .1));
                     splits = split-kept u held (search-kept-both taken-kept (r .grown .kept)) n p (f .0) (omega (arith, u .few-nodes)) lp (f .2);
                   };
@@ -515,6 +464,7 @@ module _ {table : List (List ℕ)} {finals states nodes : ℕ} where
       record {
         kept = i .kept;
         held = i .held;
+        most = i .left;
         left = i .less;
         none = λ z a la. i .none z a (omega arith);
         exact = λ j plan held plan-held.

@@ -4,7 +4,7 @@
 use mathlib.Core.Path.{_≡_}
 use mathlib.Core.Bool.{false}
 use mathlib.Core.List.{List}
-use Prim.Native.Nat.{ℕ, _<_}
+use Prim.Native.Nat.{ℕ, _≤_, _<_}
 use Rattle.job.specs.Job.{Job}
 use Rattle.job.specs.Plan.{Enabling, enables}
 use Rattle.buffer.specs.Views.{marksIn, markedIn, Held}
@@ -37,6 +37,7 @@ pub record SplitAfter (j : Job) (w : Enabling) (l : List ℕ) (nodes : ℕ) : Ty
   pub one : ℕ
   pub other : ℕ
   pub small : node < nodes
+  pub row : one < 16
   pub follows : Following j w l node one other
   pub splits : SplitPair j w l node one other
 
@@ -50,6 +51,7 @@ pub record Rounded (j : Job) (w : Enabling) (nodes : ℕ) (l m : List ℕ) (seen
 pub record RoundedAt (table : List (List ℕ)) (finals states nodes : ℕ) (l m : List ℕ) (seen : Seen) : Type 0 where
   pub kept : SearchKept l m
   pub held : (n p q : ℕ) → n < 512 → p < 16 → Held l n p q → Held m n p q
+  pub most : pairsLeft m ≤ pairsLeft l
   pub left : seen ≡ Rows → pairsLeft m < pairsLeft l
   pub none : seen ≡ Nothing → (n : ℕ) → n < nodes → marksIn m n ≡ 0
   pub exact

@@ -2,7 +2,7 @@
 -- Assumes nothing.
 use mathlib.Core.Path.{_≡_, refl, sym, ap, subst, _∙_}
 use mathlib.Core.Logic.{⊎-elim}
-use mathlib.Core.Bool.{true, false, not, true≢false}
+use mathlib.Core.Bool.{Bool, true, false, not, true≢false}
 use mathlib.Core.List.{List}
 use Prim.Native.Nat.{ℕ, _≤_, _<_}
 use native.Mathlib.Nat.{lt-of-not-le}
@@ -13,28 +13,30 @@ use Rattle.laws.proofs.Bits.{has-empty}
 use Rattle.laws.proofs.Tests.{same-or-contrary}
 use Rattle.automaton.specs.Automaton.{next, final}
 use Rattle.job.specs.Job.{Point, no-point, point, pointOf, isEvent, Node, Job, nodeAt, noNode, leads, WellFormedJob}
-use Rattle.job.specs.Walk.{shadow, before, begin-after}
-use Rattle.job.proofs.KindLaws.{event-point, words-none, reports-point, reports-word}
+use Rattle.job.specs.Walk.{shadow, before}
+use Rattle.job.proofs.KindLaws.{event-point, words-none, begins-after, reports-point, reports-word}
 use Rattle.job.specs.Plan.{Enabling, full, enables, stateAt, ArrivesAt, Different}
 use Rattle.job.specs.Search.{faithful}
-use Rattle.job.specs.Words.{WordApart, apart-here, apart-later, NothingMore}
+use Rattle.job.specs.Words.{WordApart, apart-here, apart-later, Spelt, no-word, one-more, NothingMore}
 use Rattle.job.proofs.Pairs.{pair-least, arrives-at-says, told-splits, apart-now, apart-moved}
-use Rattle.job.proofs.Bounds.{entry-node, pair-within}
+use Rattle.job.proofs.Bounds.{entry-node, is-entry-node, reentrant-node, exit-node, pair-within}
 use Rattle.job.proofs.Decide.{different-says}
 use Rattle.job.proofs.Rules.{pair-different, faithful-true}
-use Rattle.job.proofs.Nodes.{Table, PastNode, past-silent, past-event, Spelt, no-word, one-more, past-map}
-use Rattle.job.proofs.Nodes.{PairAt, pair-at-start, pair-at-event, pair-at-silent, past-pair, pair-at-edge, pair-at-word, pair-at-within}
+use Rattle.job.proofs.Nodes.{Table, PastNode, past-silent, past-event, spelt-map, past-map, spelt-pair}
+use Rattle.job.proofs.Nodes.{PairAt, pair-at-start, pair-at-event, pair-at-silent, past-pair, pair-at-edge, pair-at-word, pair-at-entry, pair-at-return, pair-at-within}
 use Rattle.job.proofs.Nodes.{ReachedIn, NodeKept, NodeInvariant, node-kept, node-invariant, word-apart}
 use Rattle.buffer.specs.Views.{classRowIn, Held}
 use Rattle.tables.specs.Tables.{SearchKept}
 use Rattle.tables.specs.Held.{Usable, JobHeld, PlanHeld, AfterHeld}
-use Rattle.look.specs.Looking.{pastState, pastNode, Follows, over-edge, by-word, ClosedPair, SplitPair, split-point, split-call, split-exit}
-use Rattle.rounds.specs.Rounds.{ClosedAt, Following, held-first, follows, Settled, Rounded, RoundedAt}
+use Rattle.look.specs.Looking.{pastState, pastNode, Follows, over-edge, by-word, by-entry, by-return, ClosedPair, SplitPair, split-point, split-call, split-exit}
+use Rattle.rounds.specs.Rounds.{ClosedAt, Following, held-first, follows, Settled, RoundedAt}
+use Rattle.exitrows.specs.Ended.{PastHeld}
+use Rattle.returns.specs.CameBack.{NothingBack, NoMarks, CameBackAt}
 use Rattle.search.specs.Searched.{SearchedAt}
+use Rattle.search.proofs.RoundsLaws.{Further}
 use Rattle.starts.specs.Started.{Started}
-use Rattle.rounds.proofs.RoundLaws.{nothing-difference, rows-difference}
 use Rattle.rounds.specs.declared.Seen.{Seen}
-use Rattle.rounds.specs.declared.Seen.the-variants.{Nothing, Rows, Difference}
+use Rattle.rounds.specs.declared.Seen.the-variants.{Difference}
 use Rattle.tables.proofs.RowLaws.{has-nothing}
 use Rattle.tables.proofs.KeptLaws.{search-kept-none, search-kept-both, node-same, class-same, usable-same, job-same, plan-same}
 
@@ -84,6 +86,12 @@ pub follows-reached
     : {j : Job} {w : Enabling} {n p q k r s : ℕ} → PairAt j full w n p q → Follows j w n p q k r s → PairAt j full w k r s
 follows-reached {n = n} {p = p} {q = q} h (over-edge l) = pair-at-edge (past-of n p q h) l
 follows-reached h (by-word a m) = pair-at-word a m h
+follows-reached h (by-entry k e) = pair-at-entry k e h
+follows-reached {j} {w} {n} {p} {q} h (by-return x k t) =
+    pair-at-return x k
+    (spelt-map
+    (λ a b f. both-moved (PastNode j full w (PairAt j full w) n) (sym (f .0)) (sym (f .1)) (past-of n p q h))
+    t)
 
 -- what follows a table of reached pairs
 pub following-reached
@@ -104,15 +112,16 @@ split-different {j} {n = n} wf a l r (split-call s m d) =
 split-different {j} {w} {n = n} {p = p} {q = q} wf a l r (split-exit h) =
     let x = past-pair (past-of n p q r) in
     let s = a .sound n (pastNode j full n p) (pastNode j w n q) l (omega (arith, pair-within wf x .one, wf .rule .few-states)) h in
-    pair-different x (apart-moved (begin-after (s .0)) (word-apart (λ k l h. absurd h) (s .0) (s .1)))
+    pair-different x (apart-moved (begins-after (s .0)) (word-apart (λ k l h. absurd h) (s .0) (s .1)))
 
 -- ---- a closed table
 
--- the starts are held, every node is closed, and the class rows hold the after words
+-- the starts are held, every node is closed, what comes in again and what returns is held, and the class rows hold the after words
 pub record ClosedTable (j : Job) (w : Enabling) (work : List ℕ) : Type 0 where
   pub formed : WellFormedJob j
   pub starts : (n q : ℕ) → has (nodeAt j n .entry) q ≡ true → Held work n q q
   pub closed : (n : ℕ) → n < length (j .nodes) → ClosedAt j w work n
+  pub back : NothingBack j w (length (j .nodes)) work
   pub after : AfterHeld j work (length (j .nodes))
 
 module _ {j : Job} {w : Enabling} {work : List ℕ} (t : ClosedTable j w work) where
@@ -148,7 +157,27 @@ module _ {j : Job} {w : Enabling} {work : List ℕ} (t : ClosedTable j w work) w
         starts = t .starts;
         edges = λ m n p q h l. edge-held n h l;
         words = λ n a p q m h. closed-pair h .alike .words a m;
+        enters = λ m n p q k e h.
+            t .back .enters m n p q (reentrant-node j m k) (is-entry-node j n e) k e (small (pair-at-within (t .formed) (h .0) .one)) (h .1);
+        returns = λ m n p q x k h.
+            t .back .returns m n p q (exit-node j m x) (reentrant-node j n k) x k
+            (small (pair-within (t .formed) (spelt-pair x (spelt-map (λ a b f. past-map (λ c d r. r .0) f) h)) .one))
+            (spelt-map (λ a b f. past-held f) h);
       }
+    where
+      -- a state of the rule is below 16
+      small : {p : ℕ} → p < j .rule .states → p < 16
+      small l = omega (arith, t .formed .rule .few-states)
+
+      -- a pair past a node
+      past-held : {n p q : ℕ} → PastNode j full w (ReachedIn j full w (Held work)) n p q → PastHeld j w work n p q
+      past-held h =
+          let f = past-from h in
+          record {
+            index = f .one;
+            below = small (pair-at-within (t .formed) (f .from .0) .one);
+            holds = record { other = f .other; from = f .from .1; one-is = sym (f .one-is); other-is = sym (f .other-is) };
+          }
 
   -- and under it the monitors alarm alike
   closed-invariant : NodeInvariant j full w (Held work)
@@ -235,75 +264,99 @@ searching-start {nodes = nodes} {l = l} {m = m} few s =
     }
 
 module _
-    {table : List (List ℕ)} {finals states nodes : ℕ} {o l m k : List ℕ} {seen : Seen} (before : SearchKept o l) (u : Usable o table states nodes)
-    (s : Searching table finals states nodes l m) (r : RoundedAt table finals states nodes m k seen) where
+    {table : List (List ℕ)} {finals states nodes : ℕ} {l m : List ℕ} (u : Usable l table states nodes)
+    (s : Searching table finals states nodes l m) where
+  -- a job of the first buffer is held
+  now-held : {j : Job} → JobHeld j l table finals states nodes → JobHeld j m table finals states nodes
+  now-held held = job-same (s .kept) u held
+
+  -- and so is a plan
+  now-plan : (plan : List ℕ) → PlanHeld plan l nodes → PlanHeld plan m nodes
+  now-plan plan held = plan-same (s .kept) plan (u .few-nodes) held
+
+  -- the search goes on after such a step
+  searching-further
+      : {k : List ℕ} → SearchKept m k → ((n p q : ℕ) → n < 512 → p < 16 → Held m n p q → Held k n p q)
+      → ((j : Job) (plan : List ℕ) → JobHeld j m table finals states nodes → PlanHeld plan m nodes → Further j (enables plan) nodes m k)
+      → Searching table finals states nodes l k
+  searching-further kept stays exact =
+      record {
+        kept = search-kept-both (s .kept) kept;
+        exact = λ j plan held plan-held after.
+            let i = s .exact j plan held plan-held after in
+            let x = exact j plan (now-held held) (now-plan plan plan-held) in
+            record {
+              reached = λ n p q ln lp h. following-reached (i .reached) (x .new n p q ln lp h);
+              starts = λ n q h.
+                  stays n q q
+                  (omega (arith, entry-node j n q h, held .nodes-are, u .few-nodes))
+                  (omega (arith, held .formed .entries n q h, held .formed .rule .few-states))
+                  (i .starts n q h);
+              settled = x .settled (i .settled);
+            };
+      }
+
+  -- a round without a difference
+  pub searching-round
+      : {k : List ℕ} {seen : Seen} → RoundedAt table finals states nodes m k seen → (seen ≡ Difference → ⊥)
+      → Searching table finals states nodes l k
+  searching-round r alike =
+      searching-further (r .kept) (r .held)
+      (λ j plan held plan-held. let x = r .exact j plan held plan-held in record { new = x .new; settled = x .settled alike })
+
+  -- what comes back
+  pub searching-back
+      : {k : List ℕ} {more : Bool} → CameBackAt table finals states nodes m k more → Searching table finals states nodes l k
+  searching-back b =
+      searching-further (b .kept) (b .held)
+      (λ j plan held plan-held. let x = b .exact j plan held plan-held in record { new = x .new; settled = x .settled })
+
+module _
+    {table : List (List ℕ)} {finals states nodes : ℕ} {o l m : List ℕ} (before : SearchKept o l) (u : Usable o table states nodes)
+    (s : Searching table finals states nodes l m) where
   -- the bounds of all
   usable : Usable l table states nodes
   usable = usable-same before u
 
-  -- what a round says of a job and a plan
-  rounded
-      : (j : Job) (plan : List ℕ) → JobHeld j l table finals states nodes → PlanHeld plan l nodes → Rounded j (enables plan) nodes m k seen
-  rounded j plan held plan-held =
-      r .exact j plan (job-same (s .kept) usable held) (plan-same (s .kept) plan (u .few-nodes) plan-held)
+  -- the bytes that the search keeps, with a step more
+  all-kept : {k : List ℕ} → SearchKept m k → SearchKept o k
+  all-kept kept = search-kept-both before (search-kept-both (s .kept) kept)
 
-  -- a round without a difference
-  searching-alike : (seen ≡ Difference → ⊥) → Searching table finals states nodes l k
-  searching-alike alike =
-      record {
-        kept = search-kept-both (s .kept) (r .kept);
-        exact = λ j plan held plan-held after.
-            let i = s .exact j plan held plan-held after in
-            let x = rounded j plan held plan-held in
-            record {
-              reached = λ n p q ln lp h. following-reached (i .reached) (x .new n p q ln lp h);
-              starts = λ n q h.
-                  r .held n q q
-                  (omega (arith, entry-node j n q h, held .nodes-are, u .few-nodes))
-                  (omega (arith, held .formed .entries n q h, held .formed .rule .few-states))
-                  (i .starts n q h);
-              settled = x .settled alike (i .settled);
-            };
-      }
+  -- an event node lies within the table
+  inside : (j : Job) → JobHeld j o table finals states nodes → (n : ℕ) → isEvent (nodeAt j n .kind) ≡ true → n < 512
+  inside j held n e = omega (arith, event-node j n e, held .nodes-are, u .few-nodes)
 
-  -- a round more
-  pub searching-more : seen ≡ Rows → Searching table finals states nodes l k
-  searching-more some = searching-alike (λ e. rows-difference (sym some ∙ e))
-
-  -- with nothing marked the table is closed
+  -- with nothing marked and nothing that comes back the table is closed
   searching-closed
-      : {j : Job} {plan : List ℕ} → JobHeld j l table finals states nodes → AfterHeld j l nodes → SearchingFor j plan nodes k
-      → seen ≡ Nothing → ClosedTable j (enables plan) k
-  searching-closed {j} held after i none =
+      : {k : List ℕ} {j : Job} {plan : List ℕ} → SearchKept m k → JobHeld j l table finals states nodes → AfterHeld j l nodes
+      → SearchingFor j plan nodes k → NoMarks k nodes → NothingBack j (enables plan) nodes k → ClosedTable j (enables plan) k
+  searching-closed {k} {j} {plan} kept held after i none back =
       record {
         formed = held .formed;
         starts = i .starts;
         closed = λ n a p q lp h.
             let ln : n < nodes = omega (arith, held .nodes-are) in
             i .settled n p ln (omega (arith, held .formed .rule .few-states))
-            (ap (λ (x : ℕ). has x p) (r .none none n ln) ∙ has-empty p) q h;
+            (ap (λ (x : ℕ). has x p) (none n ln) ∙ has-empty p) q h;
+        back = subst (λ (x : ℕ). NothingBack j (enables plan) x k) (held .nodes-are) back;
         after = subst (λ (x : ℕ). AfterHeld j k x) (held .nodes-are)
-            (after-kept (held .formed) (search-kept-both (s .kept) (r .kept)) (u .few-nodes) after);
+            (after-kept (held .formed) (search-kept-both (s .kept) kept) (u .few-nodes) after);
       }
 
-  -- the bytes that the search keeps
-  all-kept : SearchKept o k
-  all-kept = search-kept-both before (search-kept-both (s .kept) (r .kept))
-
-  -- an event node lies within the table
-  inside : (j : Job) → JobHeld j o table finals states nodes → (n : ℕ) → isEvent (nodeAt j n .kind) ≡ true → n < 512
-  inside j held n e = omega (arith, event-node j n e, held .nodes-are, u .few-nodes)
-
-  -- a round that sees nothing ends the search: the plan is faithful
-  pub searching-end : seen ≡ Nothing → SearchedAt table finals states nodes o k true
-  searching-end none =
+  -- where nothing more comes back the search ends: the plan is faithful
+  pub searching-end
+      : {k : List ℕ} {more : Bool} → CameBackAt table finals states nodes m k more → more ≡ false
+      → SearchedAt table finals states nodes o k true
+  searching-end b over =
       record {
-        kept = all-kept;
+        kept = all-kept (b .kept);
         exact = λ j plan held plan-held after.
             let here = job-same before u held in
+            let here-plan = plan-same before plan (u .few-nodes) plan-held in
             let words = after-kept (held .formed) before (u .few-nodes) after in
-            let i = searching-alike (λ e. nothing-difference (sym none ∙ e)) .exact j plan here (plan-same before plan (u .few-nodes) plan-held) words in
-            let t = searching-closed here words i none in
+            let i = searching-back usable s b .exact j plan here here-plan words in
+            let back = b .exact j plan (now-held usable s here) (now-plan usable s plan here-plan) .over over in
+            let t = searching-closed (b .kept) here words i (b .none over) back in
             record {
               exact = sym (closed-faithful plan t);
               arrive = λ n p q e lp h. reached-arrives e (i .reached n p q (inside j held n e) lp h);
@@ -311,24 +364,27 @@ module _
             };
       }
 
-  -- and so does one that sees a difference: it is not
-  pub searching-split : seen ≡ Difference → SearchedAt table finals states nodes o k false
-  searching-split found =
+  -- and so does it at a difference: the plan is not
+  pub searching-split
+      : {k : List ℕ} {seen : Seen} → RoundedAt table finals states nodes m k seen → seen ≡ Difference
+      → SearchedAt table finals states nodes o k false
+  searching-split r found =
       record {
-        kept = all-kept;
+        kept = all-kept (r .kept);
         exact = λ j plan held plan-held after.
             let here = job-same before u held in
             let here-plan = plan-same before plan (u .few-nodes) plan-held in
             let words = after-kept (held .formed) before (u .few-nodes) after in
             let i = s .exact j plan here here-plan words in
-            let f = rounded j plan here here-plan .split found in
+            let x = r .exact j plan (now-held usable s here) (now-plan usable s plan here-plan) in
+            let f = x .split found in
             record {
               exact =
                   sym (different-says (held .formed) plan .1
                   (split-different (held .formed) (after-kept (held .formed) (s .kept) (u .few-nodes) words) (f .small)
                   (following-reached (i .reached) (f .follows)) (f .splits)));
               arrive = λ n p q e lp h.
-                  reached-arrives e (following-reached (i .reached) (rounded j plan here here-plan .new n p q (inside j held n e) lp h));
+                  reached-arrives e (following-reached (i .reached) (x .new n p q (inside j held n e) lp h));
               held = λ y. absurd (true≢false (sym y));
             };
       }

@@ -2,7 +2,7 @@
 -- Inner contracts: what functions ask of and leave to each other. No promise is stated in them; a reader need not believe them.
 -- Assumes nothing.
 use mathlib.Core.Path.{_≡_}
-use mathlib.Core.Bool.{Bool, true, not}
+use mathlib.Core.Bool.{Bool, true, false, not}
 use mathlib.Core.List.{List}
 use Prim.Native.Nat.{ℕ, _<_}
 use lib.Dec.{eqb}
@@ -13,7 +13,14 @@ use Rattle.planning.specs.Planning.{allEnabled}
 use Rattle.job.specs.Search.{faithful, arrives}
 use Rattle.buffer.specs.Views.{pairRowIn, Held}
 use Rattle.tables.specs.Tables.{SearchKept}
+use Rattle.rounds.specs.declared.Seen.{Seen}
+use Rattle.rounds.specs.declared.Seen.the-variants.{Nothing, Difference}
 use Rattle.tables.specs.Held.{JobHeld, PlanHeld, AfterHeld}
+
+-- how rounds end: with a difference, or with no row marked
+abbrev pub roundsEnd : Bool → Seen
+roundsEnd true = Difference
+roundsEnd false = Nothing
 
 -- the answer is the definition's. At an event node every pair that is held arrives there, the first state with all points watched and the
 -- second under the plan; where the answer is faithful, every pair that arrives is held

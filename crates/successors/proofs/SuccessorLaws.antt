@@ -14,7 +14,8 @@ use Rattle.laws.specs.Bits.{has}
 use Rattle.buffer.specs.Views.{startIn, targetIn, EdgeIn, Held}
 use Rattle.tables.specs.Tables.{Grown, PairsJoined}
 use Rattle.tables.specs.Held.{EdgesWithin}
-use Rattle.successors.specs.Joined.{InRows, RowsJoined, JoinedPast}
+use Rattle.successors.specs.Joined.{RowsJoined, JoinedPast}
+use Rattle.tables.specs.Sixteen.{InRows}
 use Rattle.tables.proofs.KeptLaws.{grown-none, grown-both, target-same}
 
 -- ---- one node

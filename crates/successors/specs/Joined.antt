@@ -3,17 +3,11 @@
 -- Assumes nothing.
 use mathlib.Core.Path.{_≡_}
 use mathlib.Core.Logic.{_⊎_}
-use mathlib.Core.Bool.{true}
 use mathlib.Core.List.{List}
 use Prim.Native.Nat.{ℕ, _<_}
-use lib.ListN.{getD}
-use Rattle.laws.specs.Bits.{has}
 use Rattle.buffer.specs.Views.{EdgeIn, Held}
 use Rattle.tables.specs.Tables.{Grown}
-
--- the pair is in sixteen rows
-abbrev pub InRows : List ℕ → ℕ → ℕ → Type 0
-InRows rows p q = has (getD rows p 0) q ≡ true
+use Rattle.tables.specs.Sixteen.{InRows}
 
 -- sixteen rows were joined into those of node n
 pub record RowsJoined (l m : List ℕ) (n : ℕ) (rows : List ℕ) : Type 0 where

@@ -1,7 +1,7 @@
 -- Laws of what the searches leave in the buffer.
 -- Assumes nothing.
 use mathlib.Core.Path.{_≡_, refl, ap, _∙_}
-use mathlib.Core.Logic.{inl, inr}
+use mathlib.Core.Logic.{inl, inr, ⊎-elim}
 use mathlib.Core.List.{List}
 use Prim.Native.Nat.{ℕ, _+_, _≤_, _<_}
 use native.Mathlib.Nat.{le-refl}
@@ -13,7 +13,7 @@ use Rattle.buffer.specs.Layout.{planPart}
 use Rattle.buffer.specs.Views.{nodeIn, targetIn, classRowIn, enabledIn}
 use Rattle.buffer.specs.ClassRows.{ClassesKept}
 use Rattle.buffer.proofs.ClassRowLaws.{class-row-kept}
-use Rattle.tables.specs.Tables.{SearchKept, Grown}
+use Rattle.tables.specs.Tables.{pairsLeft, SearchKept, Grown}
 use Rattle.tables.specs.Held.{Usable, JobHeld, PlanHeld}
 use Rattle.tables.proofs.JobKeptLaws.{FrontKept, front-node, front-target, front-usable, front-job}
 
@@ -34,11 +34,12 @@ grown-none l = record {
   held = λ n p q h g i. i;
   quiet = λ n p h g i. (i, refl);
   left = le-refl _;
+  less = inl refl;
 }
 
 -- one growth after another
 pub grown-both : {l m k : List ℕ} → Grown l m → Grown m k → Grown l k
-grown-both a b = record {
+grown-both {l} {m} {k} a b = record {
   kept = search-kept-both (a .kept) (b .kept);
   held = λ n p q h g i. b .held n p q h g (a .held n p q h g i);
   quiet = λ n p h g i.
@@ -46,6 +47,12 @@ grown-both a b = record {
       let x = a .quiet n p h g (y .0) in
       (x .0, y .1 ∙ x .1);
   left = omega (arith, a .left, b .left);
+  less =
+      ⊎-elim
+      (λ (x : m ≡ l).
+      ⊎-elim (λ (y : k ≡ m). inl (y ∙ x)) (λ (y : pairsLeft k < pairsLeft m). inr (omega (arith, a .left))) (b .less))
+      (λ (x : pairsLeft m < pairsLeft l). inr (omega (arith, b .left)))
+      (a .less);
 }
 
 -- ---- what a search leaves as it was

@@ -6,3 +6,4 @@ pub mod RowLaws
 pub mod JobKeptLaws
 pub mod KeptLaws
 pub mod TableLaws
+pub mod SixteenLaws

@@ -233,7 +233,7 @@ module _ (l : List ℕ) (n p s : ℕ) (long : Lent l) (few : n < 512) (small : p
     row-joined = record { here = rw (← e) row-here; others = row-other }
 
     -- the room falls by one at least, which counts for more than the mark
-    less : pairsLeft m ≤ pairsLeft l
+    less : pairsLeft m < pairsLeft l
     unfolding pairsLeft
     less =
         let rows = room-falls row-joined (omega arith) (λ z. h (sym row-here ∙ z ∙ sym e)) (omega (arith, row-here, new-fits)) in
@@ -277,7 +277,7 @@ module _ (l : List ℕ) (n p s : ℕ) (long : Lent l) (few : n < 512) (small : p
             ← were,
             ← d,
           );
-      grown = record { kept = joined-marks .kept; held = held; quiet = quiet; left = less };
+      grown = record { kept = joined-marks .kept; held = held; quiet = quiet; left = omega (arith, less); less = inr less };
       here = λ q x. joined-here row-joined q x;
       new = fresh;
     }

@@ -42,13 +42,14 @@ pairsLeft work =
 abbrev pub SearchKept : List ℕ → List ℕ → Type 0
 SearchKept = Kept (λ k. Outside pairPart classPart k × Outside marksPart marksEnd k)
 
--- the rows have grown; a row that is not marked was not, and is as it was
+-- the rows have grown, and less is left, or nothing was stored; a row that is not marked was not, and is as it was
 pub record Grown (l m : List ℕ) : Type 0 where
   pub kept : SearchKept l m
   pub held : (n p q : ℕ) → n < 512 → p < 16 → Held l n p q → Held m n p q
   pub quiet
       : (n p : ℕ) → n < 512 → p < 16 → markedIn m n p ≡ false → (markedIn l n p ≡ false) × (pairRowIn m n p ≡ pairRowIn l n p)
   pub left : pairsLeft m ≤ pairsLeft l
+  pub less : (m ≡ l) ⊎ (pairsLeft m < pairsLeft l)
 
 -- ---- what the functions on rows leave
 

@@ -2,6 +2,7 @@
 use crate::job::set;
 use crate::names::Names;
 use crate::table::{table, Side};
+use dapohiru_second::job::Job;
 
 /// The numbers of a W line.
 struct Found {
@@ -13,8 +14,8 @@ struct Found {
     watched: bool,
 }
 
-/// The W and T lines of a job with so many states, in a table and in words.
-pub fn explained(listing: &[u8], states: usize, names: &Names) -> String {
+/// The W and T lines of a job, in a table and in words.
+pub fn explained(listing: &[u8], job: &Job, names: &Names) -> String {
     let headings = ["node", "symbol", "before", "classes", "nop", "plan"];
     let mut rows = vec![headings.map(str::to_string)];
     let mut words = String::new();
@@ -31,7 +32,7 @@ pub fn explained(listing: &[u8], states: usize, names: &Names) -> String {
                     watched: watched == 1,
                 };
                 rows.push(found.row(names));
-                words += &found.words(states, names);
+                words += &found.words(job.states(), names);
             }
             (Some(b'T'), &[points, watched, passes]) => {
                 let nodes = if points == 1 { "node" } else { "nodes" };
@@ -51,7 +52,41 @@ pub fn explained(listing: &[u8], states: usize, names: &Names) -> String {
         Side::Left,
         Side::Left,
     ];
-    table(sides, &rows) + &totals + &words
+    table(sides, &rows) + &totals + &ways_back(job) + &words
+}
+
+/// What calls that may come back in are for, if the job has any.
+fn ways_back(job: &Job) -> String {
+    let calls = job.reentrant();
+    if calls.is_empty() {
+        return String::new();
+    }
+    let is_exit = |&node: &usize| job.nodes[node].exit == 1;
+    let exits = (0..job.nodes.len()).filter(is_exit).collect::<Vec<_>>();
+    let (calls, entries) = (nodes(&calls), nodes(&job.entries()));
+    let returns = match exits.is_empty() {
+        true => "No node is an exit, so no walk returns.".to_string(),
+        false => format!(
+            "After the after word of an exit ({}) it may return to {calls}, and the word of that call follows again.",
+            nodes(&exits)
+        ),
+    };
+    format!(
+        "\nCalls that may come back in (re-entrant calls): {calls}.\n  \
+         After the word of such a call a walk may come in again at {entries}, in the state it has.\n  \
+         {returns}\n  \
+         What is said of the points counts these steps in.\n"
+    )
+}
+
+/// These nodes, named.
+fn nodes(numbers: &[usize]) -> String {
+    let listed: Vec<_> = numbers.iter().map(usize::to_string).collect();
+    match listed.split_last() {
+        Some((last, [])) => format!("node {last}"),
+        Some((last, others)) => format!("nodes {} and {last}", others.join(", ")),
+        None => "no node".to_string(),
+    }
 }
 
 /// The numbers after a line's letter.

@@ -2,7 +2,7 @@
 use crate::args::{Command, Given};
 use crate::job::{self, set};
 use crate::{dot, input, output};
-use dapohiru_second::job::{Job, Node, CALL, EVENT};
+use dapohiru_second::job::{Job, Node, CALL, EVENT, REENTRANT};
 use std::io::{self, IsTerminal};
 
 pub const COMMAND: Command = Command {
@@ -18,9 +18,11 @@ pub const COMMAND: Command = Command {
            standard output
 One of JOB and PLAN may be - for standard input.
 
-Event nodes are boxes, filled where watched and dashed where not; calls are hexagons, plain nodes
-ellipses. An entry has an arrow from its set of start states, an exit one to `exit`. A plan that is
-different is drawn too, with a note on standard error.
+Event nodes are boxes, filled where watched and dashed where not; calls are hexagons, those that may
+come back in (re-entrant calls) with a double line, plain nodes ellipses. An entry has an arrow from
+its set of start states, an exit one to `exit`. Dashed arrows lead from re-entrant calls by way of
+`comes in again` to the entries, and from exits by way of `returns` to re-entrant calls. A plan that
+is different is drawn too, with a note on standard error.
 Exit status: 0 drawn; 2 a refused job or plan, or something else that is wrong.
 ",
     names: &["JOB"],
@@ -69,7 +71,40 @@ fn drawn(job: &Job, plan: &[u8]) -> String {
     for (from, to) in &job.edges {
         text += &format!("  n{from} -> n{to};\n");
     }
-    text + "}\n"
+    text + &ways_back(job) + "}\n"
+}
+
+/// How walks come in again and return: arrows to two nodes of their own, and on from there.
+fn ways_back(job: &Job) -> String {
+    let calls = job.reentrant();
+    if calls.is_empty() {
+        return String::new();
+    }
+    let named = |letters: &str, nodes: &[usize]| -> Vec<_> {
+        let names = nodes.iter().map(|node| format!("{letters}{node}"));
+        names.collect()
+    };
+    let calls = named("n", &calls);
+    let entries = named("n", &job.entries());
+    let is_exit = |&node: &usize| job.nodes[node].exit == 1;
+    let exits = (0..job.nodes.len()).filter(is_exit).collect::<Vec<_>>();
+    let mut text = way("again", "comes in again", &calls, &entries);
+    if !exits.is_empty() {
+        text += &way("back", "returns", &named("exit", &exits), &calls);
+    }
+    text
+}
+
+/// A node with this label, with arrows from and to these.
+fn way(name: &str, label: &str, from: &[String], to: &[String]) -> String {
+    let mut text = format!("  {name} [label=\"{label}\", shape=plaintext];\n");
+    for from in from {
+        text += &format!("  {from} -> {name} [style=\"dashed\"];\n");
+    }
+    for to in to {
+        text += &format!("  {name} -> {to} [style=\"dashed\"];\n");
+    }
+    text
 }
 
 /// A node with its entry and its exit.
@@ -86,6 +121,10 @@ fn drawn_node(number: usize, node: &Node, watched: bool) -> String {
         CALL => (
             format!("{number}: call {}", set(node.value)),
             "shape=hexagon",
+        ),
+        REENTRANT => (
+            format!("{number}: re-entrant call {}", set(node.value)),
+            "shape=hexagon, peripheries=2",
         ),
         _ => (number.to_string(), "shape=ellipse"),
     };

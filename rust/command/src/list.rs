@@ -11,7 +11,8 @@ pub const COMMAND: Command = Command {
     summary: "Plans a job and lists what was found at each point.",
     details: "
   JOB           a job file, or - for standard input
-  --explain     a table with headings, and in words what it says of each point
+  --explain     a table with headings, in words what it says of each point, and where walks come in again
+                and return
   --names FILE  with --explain, names for the symbols: a line for each, its number, a space and its name
 
 Without --explain it prints a W line for each event node (node, symbol, before set, class count, nop
@@ -53,7 +54,7 @@ fn run(given: &Given) -> Result<u8, String> {
     if given.has("--explain") {
         let job = job::accepted(&file)?;
         let names = Names::read(names, job.symbols as usize)?;
-        listing = explained(&listing, job.states(), &names).into_bytes();
+        listing = explained(&listing, &job, &names).into_bytes();
     }
     output::print(&listing).map(|()| 0)
 }

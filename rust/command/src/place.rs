@@ -19,6 +19,8 @@ const NODE: [&str; 6] = [
     "the exit mark",
     "the after set",
 ];
+/// The second field of a P line.
+const KINDS: &str = "the kind, 0 plain, 1 event, 2 call or 3 call that may come back in";
 /// The fields of an F line.
 const EDGE: [&str; 2] = ["the node that the edge leaves", "the node that it goes to"];
 
@@ -113,6 +115,7 @@ fn value(kind: u64, symbols: u64) -> (u64, String) {
             let last = symbols - 1;
             (last, format!("the symbol of an event node, 0 to {last}"))
         }
+        3 => set("the re-entrant call's set", symbols, "symbols"),
         _ => set("the call's set", symbols, "symbols"),
     }
 }
@@ -125,7 +128,7 @@ fn node(stop: &Stop) -> Option<Fault> {
     first_wrong(stop, |field, number| {
         let (highest, expected) = match field {
             0 => (node, format!("the node, {node} in this line")),
-            1 => (2, "the kind, 0 plain, 1 event or 2 call".to_string()),
+            1 => (3, KINDS.to_string()),
             2 => value(kind, symbols),
             3 => set("the entry set", states, "states"),
             4 => (1, "the exit mark, 0 or 1".to_string()),

@@ -4,7 +4,7 @@ use crate::fault::Fault;
 use crate::input::{Input, Plan};
 use crate::place::first_fault;
 use dapohiru::Refusal;
-use dapohiru_second::job::EVENT;
+use dapohiru_second::job::{EVENT, REENTRANT};
 use dapohiru_second::reading;
 
 /// What is said of a refused job file.
@@ -61,6 +61,7 @@ fn plan_fault(job: &Input, plan: &[u8]) -> Option<Fault> {
     let node = plan.iter().enumerate().position(place)?;
     let expected = match nodes[node].kind {
         EVENT => format!("0 or 1 at node {node}, an event node"),
+        REENTRANT => format!("0 at node {node}, a call that may come back in and no event node"),
         _ => format!("0 at node {node}, which is no event node"),
     };
     fault(12, node + 1, format!("`{}`", plan[node]), expected)

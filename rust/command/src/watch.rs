@@ -18,8 +18,10 @@ pub const COMMAND: Command = Command {
   --state Q  the state to begin in; without it the lowest admitted state of the lowest entry
 
 An event is a line: the number of an event node, or = and a symbol for an event of a call word or an
-after word (`2`, `=0`). Events at unwatched points are not given to the monitor. An alarm is printed
-with the number of its event, counted from 1, before the next line is read; the totals come last.
+after word (`2`, `=0`), the words of calls that may come back in too. A walk that comes in again or
+returns reports nothing by it, so these steps have no line. Events at unwatched points are not given
+to the monitor. An alarm is printed with the number of its event, counted from 1, before the next line
+is read; the totals come last.
 A line that is no event of the job is named on standard error with its number, stands for no event,
 and is counted. That the events are a walk of the job is not tested; the promise is about walks.
 Exit status: 0 no alarm; 1 one or more alarms; 2 a line that is no event, a refused job or plan, or

@@ -23,6 +23,10 @@ pub struct Walked {
     pub tally: Tally,
     /// How often the walk came to the point that it came to most.
     pub rounds: u64,
+    /// How often the walk came in again.
+    pub came_in: u64,
+    /// How often the walk returned.
+    pub returned: u64,
     /// Whether the reports differ at the last event.
     pub differs: bool,
 }
@@ -46,6 +50,8 @@ pub fn walk(
     })?;
     Ok(Walked {
         tally: records.tally,
+        came_in: walker.came_in,
+        returned: walker.returned,
         rounds: walker.visits.into_iter().max().unwrap_or(0),
         differs: differs.is_some(),
     })
@@ -57,6 +63,10 @@ pub struct Needed {
     pub points: usize,
     /// The events of the longest of the walks.
     pub longest: usize,
+    /// Walks that come in again.
+    pub came_in: usize,
+    /// Walks that return.
+    pub returned: usize,
     pub tally: Tally,
 }
 
@@ -96,6 +106,8 @@ pub fn needed(
             needed.tally.add(records.tally);
         }
         needed.points += 1;
+        needed.came_in += usize::from(found.came_in > 0);
+        needed.returned += usize::from(found.returned > 0);
         needed.longest = needed.longest.max(found.events.len());
     }
     Ok(needed)

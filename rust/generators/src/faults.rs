@@ -103,7 +103,7 @@ impl Fault {
                 ],
                 b'P' => vec![
                     (0, line.numbers[0] + 1),
-                    (1, 3),
+                    (1, 4),
                     (2, 1 << job.symbols),
                     (3, 1 << states),
                     (4, 2),

@@ -1,5 +1,5 @@
 //! What of interest a small job has.
-use dapohiru_second::job::{Job, CALL};
+use dapohiru_second::job::{Job, CALL, REENTRANT};
 use dapohiru_second::walk::{Place, Walks};
 
 /// What of interest a job has.
@@ -12,6 +12,10 @@ pub struct Features {
     pub exit_with_word_and_edge: bool,
     pub node_in_loop: bool,
     pub node_unreached: bool,
+    /// Some walk comes in again.
+    pub comes_in: bool,
+    /// Some walk returns.
+    pub returns: bool,
 }
 
 impl Features {
@@ -20,21 +24,23 @@ impl Features {
         let walks = Walks::new(job, None);
         let exit_with_edge = |&(from, _): &(u64, u64)| job.nodes[from as usize].after != 0;
         let entries = job.entries();
+        let starts = entries.iter().map(|&entry| Place::Before(entry)).collect();
+        let reached = places_from(&walks, starts);
+        let is_call = |kind: u64| matches!(kind, CALL | REENTRANT);
         Features {
             several_entries: entries.len() > 1,
             call: job
                 .nodes
                 .iter()
-                .any(|node| node.kind == CALL && node.value != 0),
+                .any(|node| is_call(node.kind) && node.value != 0),
             exit_with_word_and_edge: job.edges.iter().any(exit_with_edge),
             node_in_loop: (0..job.nodes.len()).any(|node| {
                 places_from(&walks, vec![Place::Past(node)]).contains(&Place::Before(node))
             }),
-            node_unreached: {
-                let starts = entries.into_iter().map(Place::Before).collect();
-                let places = places_from(&walks, starts);
-                (0..job.nodes.len()).any(|node| !places.contains(&Place::Before(node)))
-            },
+            node_unreached: (0..job.nodes.len())
+                .any(|node| !reached.contains(&Place::Before(node))),
+            comes_in: reached.contains(&Place::ComingIn),
+            returns: reached.contains(&Place::Returning),
         }
     }
 }
@@ -43,7 +49,7 @@ impl Features {
 #[derive(Debug, Default)]
 pub struct FeatureCounts {
     jobs: usize,
-    counts: [usize; 5],
+    counts: [usize; 7],
 }
 
 impl FeatureCounts {
@@ -55,6 +61,8 @@ impl FeatureCounts {
             of.exit_with_word_and_edge,
             of.node_in_loop,
             of.node_unreached,
+            of.comes_in,
+            of.returns,
         ];
         self.jobs += 1;
         for (count, has) in self.counts.iter_mut().zip(has) {
@@ -65,7 +73,7 @@ impl FeatureCounts {
     /// Says the counts.
     pub fn print(&self) {
         let counts = self.counts;
-        println!("several entries, calls, exits with a word and an edge, loops, unreached nodes: {counts:?}");
+        println!("several entries, calls, exits with a word and an edge, loops, unreached nodes, walks that come in again, walks that return: {counts:?}");
     }
 
     /// Asks that a tenth of the jobs or more has each feature.

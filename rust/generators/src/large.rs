@@ -1,6 +1,7 @@
 //! Random jobs of 512 nodes for the benchmarks, and smaller ones of the same kind: a long procedure
 //! with half of its nodes in loops, under a rule for which about half of the points matter.
 use crate::random::Random;
+use crate::reentry::{turned, Reentry};
 use dapohiru_second::job::{Job, Node, CALL, EVENT, PLAIN};
 use std::collections::BTreeSet;
 
@@ -23,13 +24,28 @@ impl Order {
     }
 }
 
-/// A random large job: 8 to 16 states and symbols, 1,000 to 2,048 edges, loops of 3 to 40 nodes.
+/// A random large job: 8 to 16 states and symbols, 1,000 to 2,048 edges, loops of 3 to 40 nodes; one of two has
+/// calls that may come back in, 1 to 8 of them.
 pub fn job(random: &mut Random, order: Order) -> Job {
-    job_of(random, order, NODES)
+    job_with(random, order, Reentry::Often)
+}
+
+/// The same, with calls that may come back in or without.
+pub fn job_with(random: &mut Random, order: Order, reentry: Reentry) -> Job {
+    job_of(random, order, NODES, reentry)
 }
 
 /// A job of the same kind with so many nodes, at least 16, and as many edges for each of them.
-pub fn job_of(random: &mut Random, order: Order, count: u64) -> Job {
+pub fn job_of(random: &mut Random, order: Order, count: u64, reentry: Reentry) -> Job {
+    let job = job_of_kinds_to_2(random, order, count);
+    reentry.apply(random, job, |random, job| {
+        let calls = random.between(1, 8);
+        turned(random, job, calls)
+    })
+}
+
+/// A job of so many nodes of kinds 0 to 2.
+fn job_of_kinds_to_2(random: &mut Random, order: Order, count: u64) -> Job {
     let states = random.between(8, 16);
     let symbols = random.between(8, 16);
     let rule = Rule::random(random, states, symbols);

@@ -8,6 +8,7 @@ pub mod features;
 pub mod large;
 pub mod mixed;
 pub mod random;
+pub mod reentry;
 pub mod rings;
 pub mod samples;
 pub mod shape;

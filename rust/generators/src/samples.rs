@@ -1,5 +1,5 @@
 //! The trial jobs of document 01, written by hand.
-use dapohiru_second::job::{Job, Node, CALL, EVENT, PLAIN};
+use dapohiru_second::job::{Job, Node, CALL, EVENT, PLAIN, REENTRANT};
 
 /// A rule as document 01 writes it: the next states of each state, and the final states.
 pub struct Rule<'a> {
@@ -49,6 +49,14 @@ pub fn call(set: u64) -> Node {
         kind: CALL,
         value: set,
         ..PLAIN_NODE
+    }
+}
+
+/// A call that may come back in and is neither entry nor exit.
+pub fn reentrant(set: u64) -> Node {
+    Node {
+        kind: REENTRANT,
+        ..call(set)
     }
 }
 

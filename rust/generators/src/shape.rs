@@ -10,6 +10,8 @@ pub struct Shape {
     pub edges: usize,
     pub points: usize,
     pub calls: usize,
+    /// Calls that may come back in.
+    pub reentrant: usize,
     pub exits: usize,
     /// Nodes on a cycle of edges.
     pub in_loops: usize,
@@ -79,6 +81,7 @@ impl Shape {
             edges: job.edges.len(),
             points: of_kind(dapohiru_second::job::EVENT),
             calls: of_kind(dapohiru_second::job::CALL),
+            reentrant: of_kind(dapohiru_second::job::REENTRANT),
             exits: job.nodes.iter().filter(|node| node.exit == 1).count(),
             in_loops: parts.values().map(Vec::len).sum(),
             nested: parts
@@ -161,7 +164,14 @@ impl Shapes {
             }
             shape.loops.iter().for_each(|&size| all[9].add(size));
         }
-        Shapes(all.into())
+        let mut all = Vec::from(all);
+        if shapes.iter().any(|shape| shape.reentrant > 0) {
+            let mut reentrant = Histogram::new("calls that may come back in", 1);
+            let counts = shapes.iter().map(|shape| shape.reentrant);
+            counts.for_each(|count| reentrant.add(count));
+            all.push(reentrant);
+        }
+        Shapes(all)
     }
 
     /// Says the histograms, a line for each.

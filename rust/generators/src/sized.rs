@@ -1,5 +1,6 @@
 //! Random jobs of given sizes.
 use crate::random::Random;
+use crate::reentry::{half_turned, Reentry};
 use dapohiru_second::job::{Job, Node};
 
 /// How many states, symbols, nodes and edges a job has.
@@ -19,8 +20,19 @@ pub const FULL: Sizes = Sizes {
     edges: 2048,
 };
 
-/// A random job of these sizes.
+/// A random job of these sizes, one of two with calls that may come back in.
 pub fn job(random: &mut Random, sizes: Sizes) -> Job {
+    job_with(random, sizes, Reentry::Often)
+}
+
+/// The same, with calls that may come back in or without.
+pub fn job_with(random: &mut Random, sizes: Sizes, reentry: Reentry) -> Job {
+    let job = job_of_kinds_to_2(random, sizes);
+    reentry.apply(random, job, half_turned)
+}
+
+/// A random job of these sizes, of kinds 0 to 2.
+fn job_of_kinds_to_2(random: &mut Random, sizes: Sizes) -> Job {
     let Sizes {
         states, symbols, ..
     } = sizes;
@@ -50,7 +62,7 @@ pub fn job(random: &mut Random, sizes: Sizes) -> Job {
     }
 }
 
-/// A random node.
+/// A random node of kind 0 to 2.
 pub fn node(random: &mut Random, states: u64, symbols: u64) -> Node {
     let kind = random.below(3);
     let value = match kind {

@@ -1,7 +1,8 @@
 //! Random small jobs in which plans are sometimes faithful and sometimes not: loops, calls that need
-//! words of several events, exits with after sets and edges, several entries, nodes that no walk
-//! reaches.
+//! words of several events, calls that come back in, exits with after sets and edges, several entries, nodes
+//! that no walk reaches.
 use crate::random::Random;
+use crate::reentry::{reentered, Reentry};
 use crate::story;
 use crate::widen::widened;
 use dapohiru_second::job::{Job, Node, CALL, EVENT, PLAIN};
@@ -15,13 +16,23 @@ struct Most {
     nodes: u64,
 }
 
-/// A random small job, one of four with its states and symbols at any places among sixteen.
+/// A random small job, one of four with its states and symbols at any places among sixteen, and one of two
+/// with calls that may come back in.
 pub fn job(random: &mut Random) -> Job {
+    job_with(random, Reentry::Often)
+}
+
+/// The same, with calls that may come back in or without.
+pub fn job_with(random: &mut Random, reentry: Reentry) -> Job {
     let job = if random.once_in(6) {
         story::job(random)
     } else {
         narrow_job(random)
     };
+    let job = reentry.apply(random, job, |random, job| match random.below(3) {
+        0 => story::reentrant_job(random),
+        _ => reentered(random, job),
+    });
     if random.once_in(4) {
         return widened(random, &job);
     }
@@ -181,7 +192,7 @@ fn nodes_with_entries(random: &mut Random, count: u64, states: u64, symbols: u64
 }
 
 /// A set for words: one symbol, or any set.
-fn word_set(random: &mut Random, symbols: u64) -> u64 {
+pub fn word_set(random: &mut Random, symbols: u64) -> u64 {
     if random.once_in(2) {
         1 << random.below(symbols)
     } else {

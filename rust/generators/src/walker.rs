@@ -13,6 +13,10 @@ pub struct Walker<'a> {
     pub start: usize,
     /// For each point how often the walk has come to it.
     pub visits: Vec<u64>,
+    /// How often the walk has come in again.
+    pub came_in: u64,
+    /// How often the walk has returned.
+    pub returned: u64,
 }
 
 impl<'a> Walker<'a> {
@@ -27,6 +31,8 @@ impl<'a> Walker<'a> {
             place: Place::Before(entry),
             start: random.pick(&states),
             visits: vec![0; job.nodes.len()],
+            came_in: 0,
+            returned: 0,
         }
     }
 
@@ -44,6 +50,8 @@ impl<'a> Walker<'a> {
             while keep && !lasts(step.to) {
                 step = random.pick(moves);
             }
+            self.came_in += u64::from(self.place == Place::ComingIn);
+            self.returned += u64::from(self.place == Place::Returning);
             self.place = step.to;
             if let Some(Event::Point(node, _)) = step.event {
                 self.visits[node] += 1;

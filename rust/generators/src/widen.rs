@@ -1,7 +1,7 @@
 //! A job under sixteen states and symbols: its own are at any places among them, and the others
 //! occur on no walk.
 use crate::random::Random;
-use dapohiru_second::job::{members, Job, Node, CALL, EVENT};
+use dapohiru_second::job::{members, Job, Node, CALL, EVENT, REENTRANT};
 
 /// How many states and symbols a wide job has.
 const WIDTH: usize = 16;
@@ -27,7 +27,7 @@ pub fn widened(random: &mut Random, job: &Job) -> Job {
     let node = |node: &Node| Node {
         value: match node.kind {
             EVENT => symbol[node.value as usize] as u64,
-            CALL => set(node.value, &symbol),
+            CALL | REENTRANT => set(node.value, &symbol),
             _ => 0,
         },
         entry: set(node.entry, &state),

@@ -1,8 +1,10 @@
-//! The plan check: sweeps over all nodes until nothing changes.
+//! The plan check: sweeps over all nodes until nothing changes. What comes in again and what returns is
+//! gathered on the way and goes on after each sweep.
 use crate::read::{Decoded, Node};
+use crate::ways::{join, WaysBack};
 
 /// For each full state the set of planned states that arrive together with it.
-type Rows = [u16; 16];
+pub type Rows = [u16; 16];
 
 /// The greatest length of a file.
 pub const LONGEST: usize = 49_914;
@@ -16,6 +18,7 @@ pub struct Checker {
     next: [[u16; 16]; 16],
     /// For each node the pairs of states before it.
     before: Box<[Rows; 512]>,
+    ways: Box<WaysBack>,
     /// How many sweeps the last check made.
     pub sweeps: u64,
 }
@@ -26,6 +29,7 @@ impl Default for Checker {
             job: Decoded::new(),
             next: [[0; 16]; 16],
             before: Box::new([[0; 16]; 512]),
+            ways: WaysBack::new(),
             sweeps: 0,
         }
     }
@@ -57,6 +61,7 @@ impl Checker {
                 *to = 1 << row[symbol];
             }
         }
+        self.ways.find(&job.nodes[..job.node_count]);
         Ok(())
     }
 
@@ -91,13 +96,16 @@ impl Checker {
                 *row = node.entry & 1 << state;
             }
         }
+        self.ways.begin();
         self.sweeps = 0;
         loop {
             self.sweeps += 1;
-            match self.sweep(plan) {
-                None => return false,
-                Some(false) => return true,
-                Some(true) => {}
+            let Some(swept) = self.sweep(plan) else {
+                return false;
+            };
+            let gone_on = self.ways.go_on(&mut self.before);
+            if !swept && !gone_on {
+                return true;
             }
         }
     }
@@ -117,17 +125,16 @@ impl Checker {
                 1 => self.skipped(&rows, node.value)?,
                 _ => self.closed(rows, node.value)?,
             };
-            if node.after != 0 {
-                self.closed(past, node.after)?;
+            if node.exit {
+                let ended = self.closed(past, node.after)?;
+                self.ways.returns(&ended);
+            }
+            if node.kind == 3 {
+                self.ways.comes_in(&past);
             }
             let edges = self.job.first[number].into()..self.job.first[number + 1].into();
             for &(_, to) in &self.job.edges[edges] {
-                let mut new = 0;
-                for (held, row) in self.before[usize::from(to)].iter_mut().zip(past) {
-                    new |= row & !*held;
-                    *held |= row;
-                }
-                changed |= new != 0;
+                changed |= join(&mut self.before[usize::from(to)], &past);
             }
         }
         Some(changed)

@@ -5,3 +5,4 @@ pub mod check;
 pub mod event;
 pub mod plan;
 pub mod read;
+mod ways;

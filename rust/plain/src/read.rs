@@ -101,7 +101,7 @@ impl Decoded {
             let value_is_good = match kind {
                 0 => value == 0,
                 1 => (value as usize) < self.symbols,
-                2 => value >> self.symbols == 0,
+                2 | 3 => value >> self.symbols == 0,
                 _ => false,
             };
             if place as usize != number

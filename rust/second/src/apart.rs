@@ -21,7 +21,7 @@ impl<'a> Apart<'a> {
         let mut apart = Apart {
             walks,
             watched: plan.iter().map(|&byte| byte == 1).collect(),
-            apart: vec![false; Place::count(plan.len()) * states * states],
+            apart: vec![false; walks.place_count() * states * states],
         };
         while apart.sweep(&places) {}
         apart
@@ -52,7 +52,9 @@ impl<'a> Apart<'a> {
 
     /// Whether some move shows a difference, or leads to a pair that is apart.
     fn comes_apart(&self, place: Place, one: usize, other: usize) -> bool {
-        self.walks.moves(place).iter().any(|step| {
+        let moves = self.walks.moves(place).iter();
+        let mut made = moves.filter(|step| self.walks.makes(place, step, one));
+        made.any(|step| {
             let ((one, first), (other, second)) = match step.event {
                 None => ((one, false), (other, false)),
                 Some(event) => (self.told(event, one), self.told(event, other)),
@@ -72,8 +74,9 @@ impl<'a> Apart<'a> {
         (next, job.finals[next] == 1 && !quiet)
     }
 
-    /// Whether two states are of one class at a place.
+    /// Whether two states are of one class at a place and its copies.
     pub fn alike(&self, place: Place, one: usize, other: usize) -> bool {
-        !self.apart[self.number(place, one, other)]
+        let mut copies = self.walks.copies(place);
+        !copies.any(|place| self.apart[self.number(place, one, other)])
     }
 }

@@ -1,5 +1,5 @@
 //! The plan check as a call: its refusals in order, its answer, and what it leaves in the work buffer.
-use crate::job::{Job, EVENT};
+use crate::job::{Job, EVENT, REENTRANT};
 use crate::reading::{LONGEST, WORK};
 use crate::search::{difference, Difference};
 use crate::slip::Slip;
@@ -106,7 +106,10 @@ fn bytes_refusal(job: &Job, plan: &[u8], slip: Option<Slip>) -> Option<u64> {
         _ => plan.len(),
     };
     let refused = plan.iter().take(tested).enumerate().any(|(node, &byte)| {
-        let is_event = node < nodes && job.nodes[node].kind == EVENT;
+        let is_event = match job.nodes.get(node).map(|of| of.kind) {
+            Some(REENTRANT) => slip == Some(Slip::PlanByteAtReentrantAccepted),
+            kind => kind == Some(EVENT),
+        };
         (byte > 1 && slip != Some(Slip::PlanByteAboveOneAccepted))
             || (byte == 1 && !is_event && slip != Some(Slip::PlanByteAtOtherNodeAccepted))
     });

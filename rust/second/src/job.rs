@@ -6,8 +6,11 @@ pub const PLAIN: u64 = 0;
 pub const EVENT: u64 = 1;
 /// The kind of a node that reports any word over its set.
 pub const CALL: u64 = 2;
+/// The kind of a call that may come back into the procedure (document 02, request 2).
+pub const REENTRANT: u64 = 3;
 
-/// A node: kind 0 plain, 1 event, 2 call. Sets are numbers whose bit k stands for member k.
+/// A node: kind 0 plain, 1 event, 2 call, 3 call that may come back in. Sets are numbers whose bit k stands
+/// for member k.
 #[derive(Clone, Debug, PartialEq, Eq)]
 pub struct Node {
     pub kind: u64,
@@ -115,6 +118,12 @@ impl Job {
     pub fn entries(&self) -> Vec<usize> {
         let is_entry = |&node: &usize| self.nodes[node].entry != 0;
         (0..self.nodes.len()).filter(is_entry).collect()
+    }
+
+    /// The calls that may come back in, in number order.
+    pub fn reentrant(&self) -> Vec<usize> {
+        let is_reentrant = |&node: &usize| self.nodes[node].kind == REENTRANT;
+        (0..self.nodes.len()).filter(is_reentrant).collect()
     }
 
     /// The plan in which exactly these nodes have byte 1.

@@ -58,6 +58,7 @@ pub fn plan(walks: &Walks) -> Planned {
             std::mem::swap(&mut planned.points, &mut planned.watched);
         }
         Some(Slip::EveryNodeCounted) => planned.points = job.nodes.len() as u64,
+        Some(Slip::ReentrantCounted) => planned.points += job.reentrant().len() as u64,
         Some(Slip::WatchedAfterPassOne) => planned.watched = after_first.unwrap_or(0),
         Some(Slip::WatchedBeforeLastRemoval) => planned.watched = before_last,
         _ => {}

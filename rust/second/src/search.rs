@@ -39,6 +39,10 @@ pub struct Difference {
     pub states: (usize, usize),
     /// The walk's events, in walk order.
     pub events: Vec<Event>,
+    /// How often the walk comes in again.
+    pub came_in: usize,
+    /// How often the walk returns.
+    pub returned: usize,
 }
 
 /// What a search has met.
@@ -64,7 +68,7 @@ impl<'a> Search<'a> {
         Search {
             walks,
             watched: (0..nodes).map(|node| byte(node) == 1).collect(),
-            visited: vec![false; Place::count(nodes) * states * states],
+            visited: vec![false; walks.place_count() * states * states],
             met: Vec::new(),
         }
     }
@@ -130,6 +134,9 @@ impl<'a> Search<'a> {
         let at = self.met[number];
         let mut difference = None;
         for step in self.walks.moves(at.place) {
+            if !self.walks.makes(at.place, step, at.full.state) {
+                continue;
+            }
             let mut next = At {
                 place: step.to,
                 events: at.events + usize::from(step.event.is_some()),
@@ -202,8 +209,11 @@ impl<'a> Search<'a> {
     fn difference_at(&self, last: At) -> Difference {
         let mut at = last;
         let mut events = Vec::new();
+        let (mut came_in, mut returned) = (0, 0);
         while let Some((before, event)) = at.from {
             events.extend(event);
+            came_in += usize::from(at.place == Place::ComingIn);
+            returned += usize::from(at.place == Place::Returning);
             at = self.met[before];
         }
         events.reverse();
@@ -211,18 +221,26 @@ impl<'a> Search<'a> {
             start: at.place,
             states: (at.full.state, at.planned.state),
             events,
+            came_in,
+            returned,
         }
+    }
+
+    /// Those met at a place and on the copies of its node.
+    fn met_at(&self, place: Place) -> impl Iterator<Item = &At> {
+        let copies = self.walks.copies(place);
+        copies.flat_map(|place| self.met.iter().filter(move |at| at.place == place))
     }
 
     /// The states in which the full monitor has arrived at a place.
     pub fn full_states(&self, place: Place) -> u64 {
-        let there = self.met.iter().filter(|at| at.place == place);
+        let there = self.met_at(place);
         there.fold(0, |set, at| set | 1 << at.full.state)
     }
 
     /// The states in which the planned monitor has arrived at a place.
     pub fn planned_states(&self, place: Place) -> u64 {
-        let there = self.met.iter().filter(|at| at.place == place);
+        let there = self.met_at(place);
         there.fold(0, |set, at| set | 1 << at.planned.state)
     }
 }

@@ -81,8 +81,40 @@ slips! {
         CallWordNotSearched,
         /// The highest symbol of a call set is left out.
         HighestCallSymbolLeftOut,
-        /// A call may come back into this procedure at any entry.
+        /// A call of kind 2 may come back into this procedure at any entry.
         CallComesBack,
+
+        // calls that may come back in
+        /// Kind 3 is a call as kind 2 is.
+        ReentrantAsCall,
+        /// No walk comes in again.
+        NeverComesIn,
+        /// A walk comes in again only in a state that the entry admits.
+        ComesInWhereAdmitted,
+        /// A walk comes in again at the first entry alone.
+        ComesInAtFirstEntry,
+        /// A call comes in again at itself alone, where it is an entry.
+        ComesInAtItself,
+        /// A walk comes in again before the call's word, and not after it.
+        ComesInBeforeWord,
+        /// A walk comes in again past the entry's own events.
+        ComesInPastEntry,
+        /// No walk returns.
+        NeverReturns,
+        /// A walk returns only to the call from which it came in last, and only once.
+        ReturnsToCallerOnly,
+        /// A walk returns to the first call that may come back in alone.
+        ReturnsToFirstCall,
+        /// A walk returns to calls of kind 2, too.
+        ReturnsToEveryCall,
+        /// A walk returns past the call's word.
+        ReturnsPastWord,
+        /// A walk does not return after an empty word after an exit.
+        EmptyAfterWordStays,
+        /// A walk returns only after an empty word after an exit.
+        AfterWordStays,
+        /// A walk returns from any node.
+        ReturnsFromEveryNode,
 
         // edges and the words after exits
         /// After an exit no edge is taken.
@@ -143,6 +175,8 @@ slips! {
         PlanByteAboveOneAccepted,
         /// A plan byte 1 at a node that is no event is accepted.
         PlanByteAtOtherNodeAccepted,
+        /// A plan byte 1 at a call that may come back in is accepted.
+        PlanByteAtReentrantAccepted,
         /// The last plan byte is not tested.
         LastPlanByteNotTested,
         /// Refusals 11 and 12 leave the work buffer as it is.
@@ -185,6 +219,8 @@ slips! {
         CountsSwapped,
         /// Every node is counted among the event nodes.
         EveryNodeCounted,
+        /// Calls that may come back in are counted among the event nodes.
+        ReentrantCounted,
         /// The watched total is that after the first pass.
         WatchedAfterPassOne,
         /// The watched total is that from before the last pass that removed a point.

@@ -1,72 +1,17 @@
-//! Walks as document 01 has them ("Nodes and walks"): where a walk can be, and how it goes on.
-use crate::job::{members, Job, CALL, EVENT};
+//! Walks as document 01 has them ("Nodes and walks"): where a walk can be, and how it goes on. How it comes in
+//! again and returns is in `reentry`.
+use crate::job::{members, Job, Node, CALL, EVENT, REENTRANT};
+pub use crate::place::{Event, Move, Place};
 use crate::slip::Slip;
-use Place::{Before, Calling, Ended, Past, Stopped};
+use Place::{Before, Calling, ComingIn, Ended, Past, Returning, Stopped};
 
-/// Where a walk is.
-#[derive(Clone, Copy, Debug, PartialEq, Eq)]
-pub enum Place {
-    /// Before a node.
-    Before(usize),
-    /// Inside the word of a call.
-    Calling(usize),
-    /// After a node's own events.
-    Past(usize),
-    /// Inside the word after an exit, where the walk ends.
-    Ended(usize),
-    /// Where nothing follows.
-    Stopped(usize),
-}
-
-/// An event of a walk.
-#[derive(Clone, Copy, Debug, PartialEq, Eq)]
-pub enum Event {
-    /// Reported by a point: the node and its symbol.
-    Point(usize, usize),
-    /// A symbol of a call's word.
-    Call(usize),
-    /// A symbol of a word after an exit.
-    After(usize),
-}
-
-impl Event {
-    /// The symbol that the monitors get.
-    pub fn symbol(self) -> usize {
-        match self {
-            Event::Point(_, symbol) | Event::Call(symbol) | Event::After(symbol) => symbol,
-        }
-    }
-}
-
-/// One move of a walk, with the event that it reports, if any.
-#[derive(Clone, Copy, Debug)]
-pub struct Move {
-    pub event: Option<Event>,
-    pub to: Place,
-}
-
-impl Place {
-    /// How many places a job of so many nodes has.
-    pub fn count(nodes: usize) -> usize {
-        5 * nodes
-    }
-
-    /// The place's number.
-    pub fn number(self) -> usize {
-        match self {
-            Before(node) => 5 * node,
-            Calling(node) => 5 * node + 1,
-            Past(node) => 5 * node + 2,
-            Ended(node) => 5 * node + 3,
-            Stopped(node) => 5 * node + 4,
-        }
-    }
-}
-
-/// The walks of a job, with one slip or with none.
+/// The walks of a job, with one slip or with none. A slip that remembers something walks on copies of the
+/// nodes, numbered on after them.
 pub struct Walks<'a> {
     pub job: &'a Job,
     pub slip: Option<Slip>,
+    /// How many nodes there are with their copies.
+    nodes: usize,
     /// For each place, by number, the moves from there.
     moves: Vec<Vec<Move>>,
 }
@@ -74,17 +19,25 @@ pub struct Walks<'a> {
 impl<'a> Walks<'a> {
     /// The walks of this job.
     pub fn new(job: &'a Job, slip: Option<Slip>) -> Self {
-        let nodes = job.nodes.len();
+        let copies = match slip {
+            Some(Slip::ReturnsToCallerOnly) => 1 + job.reentrant().len(),
+            _ => 1,
+        };
+        let nodes = copies * job.nodes.len();
         let mut walks = Walks {
             job,
             slip,
+            nodes,
             moves: vec![Vec::new(); Place::count(nodes)],
         };
+        walks.add_ways_back();
         for node in 0..nodes {
             walks.add_moves(node);
         }
-        for &(from, to) in &job.edges {
-            walks.add_edge(from as usize, to as usize);
+        for first in (0..nodes).step_by(job.nodes.len()) {
+            for &(from, to) in &job.edges {
+                walks.add_edge(first + from as usize, first + to as usize);
+            }
         }
         walks
     }
@@ -105,7 +58,24 @@ impl<'a> Walks<'a> {
                 Stopped(node),
             ]
         };
-        (0..self.job.nodes.len()).flat_map(of_node).collect()
+        let of_nodes = (0..self.nodes).flat_map(of_node);
+        [ComingIn, Returning].into_iter().chain(of_nodes).collect()
+    }
+
+    /// The places that a place has on all copies of its node.
+    pub fn copies(&self, place: Place) -> impl Iterator<Item = Place> {
+        let firsts = (0..self.nodes).step_by(self.job.nodes.len());
+        firsts.map(move |first| place.moved_by(first))
+    }
+
+    /// What a node, or the one that it is a copy of, is like.
+    pub(crate) fn node(&self, node: usize) -> &'a Node {
+        &self.job.nodes[node % self.job.nodes.len()]
+    }
+
+    /// How many places there are.
+    pub fn place_count(&self) -> usize {
+        self.moves.len()
     }
 
     /// The moves from a place.
@@ -141,23 +111,30 @@ impl<'a> Walks<'a> {
         starts
     }
 
-    fn add(&mut self, from: Place, event: Option<Event>, to: Place) {
+    pub(crate) fn add(&mut self, from: Place, event: Option<Event>, to: Place) {
         self.moves[from.number()].push(Move { event, to });
     }
 
     /// What a node reports, and the word after it if it is an exit.
     fn add_moves(&mut self, node: usize) {
-        let of = &self.job.nodes[node];
+        let of = self.node(node);
         match of.kind {
             EVENT => {
-                let event = Event::Point(node, of.value as usize);
+                let event = Event::Point(node % self.job.nodes.len(), of.value as usize);
                 self.add(Before(node), Some(event), Past(node));
             }
             CALL => self.add_call(node, of.value),
+            REENTRANT => {
+                self.add_call(node, of.value);
+                self.add_coming_in(node);
+            }
             _ => self.add(Before(node), None, Past(node)),
         }
         if of.exit == 1 {
             self.add_exit(node, of.after);
+        }
+        if self.slips(Slip::ReturnsFromEveryNode) {
+            self.add(Past(node), None, Returning);
         }
     }
 
@@ -181,17 +158,16 @@ impl<'a> Walks<'a> {
                 _ => self.add(Calling(node), event, Calling(node)),
             }
         }
-        if self.slips(Slip::CallComesBack) {
-            for entry in self.job.entries() {
-                self.add(Calling(node), None, Before(entry));
-            }
+        if self.slips(Slip::CallComesBack) && self.node(node).kind == CALL {
+            self.add(Past(node), None, ComingIn);
         }
     }
 
-    /// The walk may end after the exit's own events with any finite word over the set.
+    /// The walk may end after the exit's own events with any finite word over the set, and return.
     fn add_exit(&mut self, node: usize, set: u64) {
-        let has_edge = self.job.edges.iter().any(|edge| edge.0 == node as u64);
-        let is_call = self.job.nodes[node].kind == CALL;
+        let original = (node % self.job.nodes.len()) as u64;
+        let has_edge = self.job.edges.iter().any(|edge| edge.0 == original);
+        let is_call = matches!(self.node(node).kind, CALL | REENTRANT);
         match self.slip {
             Some(Slip::ExitWithEdgeDoesNotEnd) if has_edge => {}
             Some(Slip::AfterWordForCallWord) if is_call => {
@@ -208,16 +184,21 @@ impl<'a> Walks<'a> {
             match self.slip {
                 Some(Slip::AfterWordNotSearched) => {}
                 Some(Slip::AfterWordOfOneSymbol) => self.add(Ended(node), event, Stopped(node)),
+                Some(Slip::EmptyAfterWordStays) => {
+                    self.add(Ended(node), event, Stopped(node));
+                    self.add(Stopped(node), event, Stopped(node));
+                }
                 _ => self.add(Ended(node), event, Ended(node)),
             }
         }
+        self.add_return(node);
     }
 
     /// A walk follows edges.
     fn add_edge(&mut self, from: usize, to: usize) {
         match self.slip {
-            Some(Slip::ExitTakesNoEdge) if self.job.nodes[from].exit == 1 => return,
-            Some(Slip::EdgeToEntryIgnored) if self.job.nodes[to].entry != 0 => return,
+            Some(Slip::ExitTakesNoEdge) if self.node(from).exit == 1 => return,
+            Some(Slip::EdgeToEntryIgnored) if self.node(to).entry != 0 => return,
             Some(Slip::EdgeToItselfIgnored) if from == to => return,
             Some(Slip::AfterWordTakesEdge) => self.add(Ended(from), None, Before(to)),
             Some(Slip::EdgesBothWays) => self.add(Past(to), None, Before(from)),

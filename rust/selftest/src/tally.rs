@@ -18,6 +18,9 @@ pub struct Tally {
     /// By number, 1 to 15.
     pub refused: [u64; 16],
     walks: u64,
+    /// Walks that came in again, and walks that returned.
+    came_in: u64,
+    returned: u64,
     /// What the two records of the walks were told.
     told: records::Tally,
     /// Watched points for which a walk was taken that needs them.
@@ -81,12 +84,16 @@ impl Tally {
     /// Counts a walk.
     pub fn add_walk(&mut self, walked: &Walked) {
         self.walks += 1;
+        self.came_in += u64::from(walked.came_in > 0);
+        self.returned += u64::from(walked.returned > 0);
         self.add_told(walked.tally);
     }
 
     /// Counts the walks that need a plan's watched points.
     pub fn add_needed(&mut self, needed: &Needed) {
         self.walks += 2 * needed.points as u64;
+        self.came_in += 2 * needed.came_in as u64;
+        self.returned += 2 * needed.returned as u64;
         self.needed += needed.points as u64;
         self.add_told(needed.tally);
     }
@@ -118,6 +125,8 @@ impl fmt::Display for Tally {
             (self.quiet, "events quiet"),
             (self.alarm, "events with an alarm"),
             (self.walks, "walks with two monitors"),
+            (self.came_in, "of these walks that came in again"),
+            (self.returned, "of these walks that returned"),
             (self.told.events, "events of walks"),
             (self.told.alarms, "alarms on walks"),
             (self.told.skipped, "events skipped under a plan"),

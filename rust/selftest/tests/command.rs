@@ -50,6 +50,8 @@ fn rounds_find_no_difference_and_every_answer_comes() {
         "plans different",
         "events quiet",
         "events with an alarm",
+        "walks that came in again",
+        "walks that returned",
         "alarms on walks",
         "events skipped",
         "a walk that needs it",
@@ -99,7 +101,7 @@ fn soak_takes_every_event_and_finds_no_difference() {
 
 #[test]
 fn calls_on_exact_allocations_find_no_difference() {
-    every_refusal_comes(&printed(&["memory", "4", "3000"]));
+    every_refusal_comes(&printed(&["memory", "3", "3000"]));
 }
 
 #[test]

@@ -93,6 +93,23 @@ static void pair_is_planned_listed_and_checked(void)
     checked(DAPOHIRU_DIFFERENT, none, 3);
 }
 
+/* PAIR with a call that may come back in for its second seal. */
+static void calls_that_may_come_back_in_are_planned_and_checked(void)
+{
+    static const uint8_t planned[] = {1, 0, 1}, marked[] = {1, 1, 1};
+    const size_t kind = 26 + 3 * 32 + 38 + 12;
+    uint64_t answer;
+
+    fresh();
+    file[kind] = '3';
+    answer = dapohiru_plan(file, PAIR_LEN, work, sizeof work, plan, sizeof plan);
+    HOLD(answer == DAPOHIRU_ACCEPTED + (UINT64_C(2) << 32) + (UINT64_C(2) << 16) + 1);
+    HOLD(memcmp(plan, planned, 3) == 0 && all(plan + 3, sizeof plan - 3, FILL));
+    HOLD(work_after(answer));
+    HOLD(dapohiru_check(file, PAIR_LEN, planned, 3, work, sizeof work) == DAPOHIRU_FAITHFUL);
+    HOLD(dapohiru_check(file, PAIR_LEN, marked, 3, work, sizeof work) == DAPOHIRU_BAD_PLAN_BYTE);
+}
+
 /* Asks that the three calls on the file refuse it by this number, and leave what a refusal leaves. */
 static void refused(uint64_t number, size_t file_len, size_t work_len)
 {
@@ -143,7 +160,7 @@ static void files_and_buffers_are_refused_by_number(void)
     refused_with(DAPOHIRU_LINE_MALFORMED, 2, lead == ' ' ? '0' : ' ');
     refused_with(DAPOHIRU_BAD_SIZES, 6, '0');
     refused_with(DAPOHIRU_BAD_RULE_LINE, r + 12, '2');
-    refused_with(DAPOHIRU_BAD_NODE_LINE, p + 12, '3');
+    refused_with(DAPOHIRU_BAD_NODE_LINE, p + 12, '4');
     refused_with(DAPOHIRU_BAD_EDGE_LINE, f + 12, '3');
     refused_with(DAPOHIRU_BAD_EDGE_LINE, f + 6, '2');
     fresh();
@@ -225,9 +242,11 @@ int main(void)
 {
     lead = '0';
     pair_is_planned_listed_and_checked();
+    calls_that_may_come_back_in_are_planned_and_checked();
     files_and_buffers_are_refused_by_number();
     lead = ' ';
     pair_is_planned_listed_and_checked();
+    calls_that_may_come_back_in_are_planned_and_checked();
     files_and_buffers_are_refused_by_number();
     plans_are_refused_by_number();
     events_move_the_record_and_count_alarms();

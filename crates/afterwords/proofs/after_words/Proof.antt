@@ -5,6 +5,7 @@
 use Prim.Native.Nat.{_-_}
 use native.Mathlib.Omega.{arith}
 use borrow.Author.Needs.{needs}
+use Rattle.tables.proofs.SixteenLaws.{emptyRows, empty-row, empty-sixteen}
 use Rattle.classes.proofs.AfterLaws.{AfterSoFar, after-start, after-more, after-end}
 use Rattle.afterwords.proofs.after_words.Statement.{statement}
 use Rattle.afterwords.proofs.after_words.Tie as tie
@@ -24,19 +25,13 @@ loop-holds c =
     after-start (a .table .now) (a .finals) (a .states) (a .work .now) (c .before .before .clear-classes .last .0)
     (c .before .before .clear-classes .ensures)
 
-after-set-requires : tie.Need-after-set-requires Inv-loop μ-loop
-after-set-requires c κs =
+after-node-requires : tie.Need-after-node-requires Inv-loop μ-loop
+unfolding emptyRows
+after-node-requires c κs =
     let pre = c .before .before .before .before .before .before .before .before .pre in
     let long = c .before .before .loop .inv .kept .long in
     let cleared = c .before .before .before .before .before .clear-classes .ensures .kept .long in
-    (omega (arith, pre .long), omega (arith, pre .few-nodes))
-
-close-words-requires : tie.Need-close-words-requires Inv-loop μ-loop
-close-words-requires c κs =
-    let pre = c .before .before .before .before .before .before .before .before .before .before .pre in
-    let long = c .before .before .before .before .loop .inv .kept .long in
-    let cleared = c .before .before .before .before .before .before .before .clear-classes .ensures .kept .long in
-    (omega (arith, pre .long), (omega (arith, pre .few-nodes), (pre .few-states, pre .cells)))
+    (omega (arith, pre .long), (omega (arith, pre .few-nodes), (pre .few-states, (pre .cells, empty-sixteen))))
 
 add-n : tie.Need-add-n Inv-loop μ-loop
 add-n c = search needs
@@ -45,15 +40,15 @@ loop-less : tie.Need-loop-less Inv-loop μ-loop
 loop-less c = search needs
 
 loop-again : tie.Need-loop-again Inv-loop μ-loop
+unfolding emptyRows
 loop-again c =
-    let a = c .before .before .before .before .before .before .before .before .before .before .before .before .before .args in
-    let pre = c .before .before .before .before .before .before .before .before .before .before .before .before .before .pre in
-    let loop = c .before .before .before .before .before .before .before .loop in
-    let after = c .before .before .before .before .after-set in
-    let cleared = c .before .before .before .before .before .before .before .before .before .before .clear-classes in
-    let closed = c .before .before .close-words in
-    after-more (a .table .now) (a .finals) (a .states) (cleared .last .0) (loop .work) (closed .last .0) (loop .n) (after .result)
-    (omega (arith, pre .few-nodes)) (loop .inv) (after .ensures) (closed .ensures)
+    let a = c .before .before .before .before .before .before .before .before .before .before .before .args in
+    let pre = c .before .before .before .before .before .before .before .before .before .before .before .pre in
+    let loop = c .before .before .before .before .before .loop in
+    let cleared = c .before .before .before .before .before .before .before .before .clear-classes in
+    let node = c .before .before .after-node in
+    after-more (a .table .now) (a .finals) (a .states) (cleared .last .0) (loop .work) (node .last .0) (loop .n) (emptyRows 16) (node .result)
+    (omega (arith, pre .few-nodes)) (empty-row 16) (loop .inv) (node .ensures)
 
 same-length : tie.Need-same-length Inv-loop μ-loop
 same-length c =
@@ -77,8 +72,7 @@ after-words-spec =
     μ-loop
     clear-classes-requires
     loop-holds
-    after-set-requires
-    close-words-requires
+    after-node-requires
     add-n
     loop-less
     loop-again

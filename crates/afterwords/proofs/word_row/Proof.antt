@@ -2,28 +2,27 @@
 -- Invariant: `rest` is the symbols from some number on, and `out` the states told apart by those before it.
 -- Measure: the set that is left, as a number. Each turn is one step of the walk.
 -- Assumes nothing.
+use mathlib.Core.Path.{refl}
 use Prim.Native.Nat.{ℕ}
 use native.Mathlib.Omega.{arith}
 use borrow.Author.Needs.{needs}
 use Rattle.laws.proofs.Walk.{rest-lt, clear-lt}
-use Rattle.buffer.specs.Views.{classRowIn}
-use Rattle.classes.specs.Backwards.{apartBy}
+use Rattle.classes.specs.Backwards.{apartBy, rowsOf}
 use Rattle.classes.proofs.WordLaws.{WalkedRow, walked-start, word-turn, word-done}
 use Rattle.afterwords.proofs.word_row.Statement.{statement}
 use Rattle.afterwords.proofs.word_row.Tie as tie
 
 abbrev Inv-loop : tie.InvT-loop
-Inv-loop work table finals states n set p out₀ rest₀ out rest =
-    WalkedRow states set (λ (a : ℕ). apartBy table finals (classRowIn work n) a p) out rest
+Inv-loop rows table finals states set p out₀ rest₀ out rest =
+    WalkedRow states set (λ (a : ℕ). apartBy table finals (rowsOf rows) a p) out rest
 
 abbrev μ-loop : tie.MeasureT-loop
-μ-loop work table finals states n set p out₀ rest₀ out rest = rest
+μ-loop rows table finals states set p out₀ rest₀ out rest = rest
 
 loop-holds : tie.Need-loop-holds Inv-loop μ-loop
 loop-holds c =
     let a = c .before .args in
-    walked-start (a .states) (a .set) (λ (x : ℕ). apartBy (a .table .now) (a .finals) (classRowIn (a .work .now) (a .n)) x (a .p))
-    (c .before .fits .set .fits)
+    walked-start (a .states) (a .set) (λ (x : ℕ). apartBy (a .table .now) (a .finals) (rowsOf (a .rows .now)) x (a .p)) (c .before .fits .set .fits)
 
 lowest-requires : tie.Need-lowest-requires Inv-loop μ-loop
 lowest-requires c κs = search needs
@@ -34,10 +33,13 @@ cast-a c = search needs
 next-state-requires : tie.Need-next-state-requires Inv-loop μ-loop
 next-state-requires c κs =
     let pre = c .before .before .before .before .pre in
-    (pre .1 .1 .0, (omega (arith, rest-lt (c .before .before .loop .inv .left) (omega arith), c .lowest .ensures), pre .1 .1 .1 .1))
+    (pre .1 .0, (omega (arith, rest-lt (c .before .before .loop .inv .left) (omega arith), c .lowest .ensures), pre .1 .1 .1))
 
-class-row-requires : tie.Need-class-row-requires Inv-loop μ-loop
-class-row-requires c κs = search (needs, c .next-state .ensures .1)
+mul-apart : tie.Need-mul-apart Inv-loop μ-loop
+mul-apart c = search (needs, c .next-state .ensures .1)
+
+shared-slice-read-apart : tie.Need-shared-slice-read-apart Inv-loop μ-loop
+shared-slice-read-apart c = search (needs, c .before .next-state .ensures .1)
 
 unlike-states-requires : tie.Need-unlike-states-requires Inv-loop μ-loop
 unlike-states-requires c κs = c .before .next-state .ensures .1
@@ -45,10 +47,10 @@ unlike-states-requires c κs = c .before .next-state .ensures .1
 preimage-under-requires : tie.Need-preimage-under-requires Inv-loop μ-loop
 preimage-under-requires c κs =
     let pre = c .before .before .before .before .before .before .before .pre in (
-      pre .1 .1 .1 .0,
+      pre .1 .1 .0,
       (
         omega (arith, rest-lt (c .before .before .before .before .before .loop .inv .left) (omega arith), c .before .before .before .lowest .ensures),
-        pre .1 .1 .1 .1,
+        pre .1 .1 .1,
       ),
     )
 
@@ -64,18 +66,18 @@ loop-again : tie.Need-loop-again Inv-loop μ-loop
 loop-again c =
     let loop = c .before .before .before .before .before .before .before .loop in
     let a = c .before .before .before .before .before .before .before .before .before .args in
-    word-turn (a .table .now) (a .finals) (a .states) (classRowIn (a .work .now) (a .n)) (a .set) (a .p) (loop .out) (loop .rest)
-    (c .before .before .before .before .before .lowest .result) (c .before .before .before .before .next-state .result)
-    (c .before .before .before .class-row .result) (c .before .before .unlike-states .result) (c .before .preimage-under .result)
-    (c .without-lowest .result) (loop .inv) (omega arith) (c .before .before .before .before .before .lowest .ensures)
-    (c .before .before .before .before .next-state .ensures .0) (c .before .before .before .class-row .ensures)
-    (c .before .before .unlike-states .ensures) (c .before .preimage-under .ensures) (c .without-lowest .ensures)
+    let state = c .before .before .before .before .next-state in
+    word-turn (a .table .now) (a .finals) (a .states) (rowsOf (a .rows .now)) (a .set) (a .p) (loop .out) (loop .rest)
+    (c .before .before .before .before .before .lowest .result) (state .result) (rowsOf (a .rows .now) (state .result))
+    (c .before .before .unlike-states .result) (c .before .preimage-under .result) (c .without-lowest .result) (loop .inv) (omega arith)
+    (c .before .before .before .before .before .lowest .ensures) (state .ensures .0) refl (c .before .before .unlike-states .ensures)
+    (c .before .preimage-under .ensures) (c .without-lowest .ensures)
 
 returns : tie.Need-returns Inv-loop μ-loop
 returns c =
     let a = c .before .before .before .args in
-    word-done (a .table .now) (a .finals) (a .states) (classRowIn (a .work .now) (a .n)) (a .set) (a .p) (c .before .loop .out)
-    (c .before .loop .rest) (c .before .loop .inv) (omega arith)
+    word-done (a .table .now) (a .finals) (a .states) (rowsOf (a .rows .now)) (a .set) (a .p) (c .before .loop .out) (c .before .loop .rest)
+    (c .before .loop .inv) (omega arith)
 
 pub word-row-spec : {M : Type 1} → statement M
 word-row-spec =
@@ -87,7 +89,8 @@ word-row-spec =
     lowest-requires
     cast-a
     next-state-requires
-    class-row-requires
+    mul-apart
+    shared-slice-read-apart
     unlike-states-requires
     preimage-under-requires
     without-lowest-requires

@@ -1,6 +1,6 @@
 -- `classgrowth::grow_classes` meets its contract.
--- Invariant: the class rows hold what some continuation tells apart; they are closed where the last round grew none.
--- Measure: the room in the class rows and one more; nothing where the last round grew none.
+-- Invariant: the class rows hold what some continuation tells apart; they are closed where the last turn grew none.
+-- Measure: the room in the class rows and one more; nothing where the last turn grew none.
 -- Assumes nothing.
 use native.Mathlib.Omega.{arith}
 use Rattle.classes.proofs.GrownLaws.{rank, rank-less}
@@ -20,24 +20,24 @@ loop-holds c =
     let a = c .before .args in
     growing-start (a .table .now) (a .finals) (a .states) (a .nodes) (a .work .now)
 
-class-round-requires : tie.Need-class-round-requires Inv-loop μ-loop
-class-round-requires c κs = usable-kept (c .before .before .loop .inv .kept) (c .before .before .before .before .pre)
+class-turn-requires : tie.Need-class-turn-requires Inv-loop μ-loop
+class-turn-requires c κs = usable-kept (c .before .before .loop .inv .kept) (c .before .before .before .before .pre)
 
 loop-less : tie.Need-loop-less Inv-loop μ-loop
 loop-less c =
     let loop = c .before .before .before .before .before .loop in
-    let round = c .before .before .class-round in
-    rank-less (loop .grown) (round .result) (apartLeft (round .last .0)) (apartLeft (loop .work))
-    (c .before .before .before .before .loop-test .taken) (round .ensures .left)
+    let turn = c .before .before .class-turn in
+    rank-less (loop .grown) (turn .result) (apartLeft (turn .last .0)) (apartLeft (loop .work))
+    (c .before .before .before .before .loop-test .taken) (turn .ensures .left)
 
 loop-again : tie.Need-loop-again Inv-loop μ-loop
 loop-again c =
     let a = c .before .before .before .before .before .before .before .args in
     let pre = c .before .before .before .before .before .before .before .pre in
     let loop = c .before .before .before .before .before .loop in
-    let round = c .before .before .class-round in
-    growing-more (a .table .now) (a .finals) (a .states) (a .nodes) (a .work .now) (loop .work) (round .last .0) (loop .grown) (round .result)
-    pre (loop .inv) (round .ensures)
+    let turn = c .before .before .class-turn in
+    growing-more (a .table .now) (a .finals) (a .states) (a .nodes) (a .work .now) (loop .work) (turn .last .0) (loop .grown) (turn .result)
+    pre (loop .inv) (turn .ensures)
 
 same-length : tie.Need-same-length Inv-loop μ-loop
 same-length c = c .before .loop .inv .kept .long
@@ -56,7 +56,7 @@ grow-classes-spec =
     Inv-loop
     μ-loop
     loop-holds
-    class-round-requires
+    class-turn-requires
     loop-less
     loop-again
     same-length

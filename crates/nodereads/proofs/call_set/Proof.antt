@@ -1,4 +1,4 @@
--- `nodereads::call_set` meets its contract: a kind from 2 on is a call, and its value is the set.
+-- `nodereads::call_set` meets its contract: a kind from 2 on is a call, of either sort, and its value is the set.
 -- Assumes nothing.
 use mathlib.Core.Path.{_≡_, refl, _∙_}
 use Prim.Native.Nat.{ℕ, zero, suc, _+_, _*_, _≤_, _<_}
@@ -25,7 +25,8 @@ call-none (suc (suc k)) v h = absurd (omega arith)
 call-value : (k v : ℕ) → 2 ≤ k → v ≡ callSet (kindOf k v)
 call-value zero v h = absurd (omega arith)
 call-value (suc zero) v h = absurd (omega arith)
-call-value (suc (suc k)) v h = refl
+call-value (suc (suc zero)) v h = refl
+call-value (suc (suc (suc k))) v h = refl
 
 returns : tie.Need-returns
 unfolding nodeIn

@@ -21,7 +21,8 @@ kind-at-requires c κs = search needs
 event-byte : (k v : ℕ) → eqb k 1 ≡ isEvent (kindOf k v)
 event-byte zero v = refl
 event-byte (suc zero) v = refl
-event-byte (suc (suc k)) v = ne-eqb (suc (suc k)) 1 (λ e. absurd (omega arith))
+event-byte (suc (suc zero)) v = refl
+event-byte (suc (suc (suc k))) v = ne-eqb (suc (suc (suc k))) 1 (λ e. absurd (omega arith))
 
 returns : tie.Need-returns
 unfolding nodeIn

@@ -26,7 +26,8 @@ cast-result c = search needs
 event-value : (k v a : ℕ) → pointOf (kindOf k v) ≡ point a → v ≡ a
 event-value zero v a e = absurd (point-some e refl)
 event-value (suc zero) v a e = point-same e
-event-value (suc (suc k)) v a e = absurd (point-some e refl)
+event-value (suc (suc zero)) v a e = absurd (point-some e refl)
+event-value (suc (suc (suc k))) v a e = absurd (point-some e refl)
 
 returns : tie.Need-returns
 unfolding nodeIn

@@ -9,8 +9,9 @@ use native.Mathlib.Omega.{arith}
 use borrow.Author.Needs.{needs}
 use Rattle.laws.proofs.Walk.{clear-lt}
 use Rattle.tables.proofs.KeptLaws.{usable-same}
+use Rattle.tables.proofs.SixteenLaws.{emptyRows, empty-row}
 use Rattle.rounds.specs.declared.Seen.the-variants.{Rows}
-use Rattle.rounds.proofs.RoundLaws.{RowsSoFar, emptyRows, empty-row, rows-none, row-small, rows-more, node-looked}
+use Rattle.rounds.proofs.RoundLaws.{RowsSoFar, rows-none, row-small, rows-more, node-looked}
 use Rattle.rounds.proofs.RoundLaws.{RoundSoFar, round-none, round-more, round-split, round-end}
 use Rattle.rounds.proofs.round.Statement.{statement}
 use Rattle.rounds.proofs.round.Tie as tie

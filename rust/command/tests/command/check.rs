@@ -89,6 +89,20 @@ fn refused_plan_is_told_with_its_column() {
 }
 
 #[test]
+fn digit_1_at_a_call_that_may_come_back_in_is_told_with_its_column() {
+    let job = example("regroup.job");
+    assert_eq!(run(&["check", &job, "-"], "0011\n").0, 0);
+    let (status, printed, wrong) = run(&["check", &job, "-"], "0111\n");
+    assert_eq!((status, printed.as_str()), (2, ""));
+    assert_eq!(
+        wrong,
+        "dapohiru: standard input: refused 12: the plan has a digit above 1, or a 1 at a node that is no event node\n  \
+         line 1, column 2: found `1`\n  \
+         expected: 0 at node 1, a call that may come back in and no event node\n"
+    );
+}
+
+#[test]
 fn plan_file_that_is_no_line_of_digits_is_told_with_its_column() {
     let job = example("pair.job");
     for (plan, place) in [

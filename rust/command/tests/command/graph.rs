@@ -57,6 +57,35 @@ fn calls_plain_nodes_and_after_sets_are_shown() {
 }
 
 #[test]
+fn ways_back_are_drawn_through_two_nodes() {
+    let printed = include_str!("../expected/regroup.dot").to_string();
+    let done = run(&["graph", &example("regroup.job")], "");
+    assert_eq!(done, (0, printed, String::new()));
+    // two calls and two entries; no exit, so nothing returns
+    let job = pair_with(&[
+        ("P     1     1     0     0", "P     1     3     0     6"),
+        (
+            "P     2     1     2     0     1",
+            "P     2     3     7     0     0",
+        ),
+    ]);
+    let (status, printed, wrong) = run(&["graph", "-"], &job);
+    assert_eq!((status, wrong.as_str()), (0, ""));
+    let ways = "  again [label=\"comes in again\", shape=plaintext];\n\
+                \x20 n1 -> again [style=\"dashed\"];\n\
+                \x20 n2 -> again [style=\"dashed\"];\n\
+                \x20 again -> n0 [style=\"dashed\"];\n\
+                \x20 again -> n1 [style=\"dashed\"];\n\
+                }\n";
+    assert!(printed.ends_with(ways), "{printed}");
+    for call in ["1: re-entrant call {}", "2: re-entrant call {0,1,2}"] {
+        let node = format!("[label=\"{call}\", shape=hexagon, peripheries=2];\n");
+        assert!(printed.contains(&node), "{printed}");
+    }
+    assert!(!printed.contains("returns"), "{printed}");
+}
+
+#[test]
 fn pictures_are_drawn_where_dot_is_installed() {
     let folder = folder("graph-pictures");
     let job = example("pair.job");

@@ -1,5 +1,5 @@
 //! The command `list`.
-use crate::program::{example, file, folder, run, PAIR};
+use crate::program::{example, file, folder, pair_with, run, PAIR};
 use dapohiru_generators::random::Random;
 use dapohiru_generators::zeros::filled;
 use dapohiru_second::listing::listing;
@@ -36,6 +36,34 @@ fn explained_listing_names_the_symbols() {
         let wanted = (0, printed.clone(), String::new());
         assert_eq!(run(words, ""), wanted);
     }
+}
+
+#[test]
+fn explained_listing_says_what_calls_that_may_come_back_in_are_for() {
+    let printed = include_str!("../expected/regroup.txt").to_string();
+    let words = [
+        "list",
+        &example("regroup.job"),
+        "--explain",
+        "--names",
+        &example("pair.names"),
+    ];
+    assert_eq!(run(&words, ""), (0, printed, String::new()));
+    // two calls and two entries; no exit
+    let job = pair_with(&[
+        ("P     1     1     0     0", "P     1     3     0     6"),
+        (
+            "P     2     1     2     0     1",
+            "P     2     3     7     0     0",
+        ),
+    ]);
+    let (status, printed, _) = run(&["list", "-", "--explain"], &job);
+    assert_eq!(status, 0);
+    let said = "\nCalls that may come back in (re-entrant calls): nodes 1 and 2.\n  \
+                After the word of such a call a walk may come in again at nodes 0 and 1, in the state it has.\n  \
+                No node is an exit, so no walk returns.\n  \
+                What is said of the points counts these steps in.\n";
+    assert!(printed.contains(said), "{printed}");
 }
 
 #[test]

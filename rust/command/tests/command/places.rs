@@ -226,9 +226,24 @@ fn what_was_expected_is_told() {
             "the next state on symbol 2, 0 to 2",
         ),
         (
-            with(p, "P     2     3     2     0     1     0\n"),
-            "line 7, columns 8 to 13: found 3",
-            "the kind, 0 plain, 1 event or 2 call",
+            with(p, "P     2     4     2     0     1     0\n"),
+            "line 7, columns 8 to 13: found 4",
+            "the kind, 0 plain, 1 event, 2 call or 3 call that may come back in",
+        ),
+        (
+            with(p, "P     2000004     2     0     1     0\n"),
+            "line 7, columns 8 to 13: found 4",
+            "the kind, 0 plain, 1 event, 2 call or 3 call that may come back in",
+        ),
+        (
+            with(p, "P     2     3     8     0     1     0\n"),
+            "line 7, columns 14 to 19: found 8",
+            &format!("the re-entrant call's set, {set}"),
+        ),
+        (
+            with(p, "P     2     3     7     0     0     1\n"),
+            "line 7, columns 32 to 37: found 1",
+            "the after set, 0 where the exit mark is 0",
         ),
         (
             with(p, "P     2     1     3     0     1     0\n"),

@@ -2,6 +2,7 @@
 use crate::program::{ended, file, folder, names, program, shell};
 use dapohiru_generators::large::{job_of, Order};
 use dapohiru_generators::random::Random;
+use dapohiru_generators::reentry::Reentry;
 use dapohiru_generators::zeros::filled;
 use std::fs;
 use std::path::{Path, PathBuf};
@@ -16,7 +17,7 @@ fn jobs(name: &str) -> PathBuf {
     let folder = folder(name);
     let mut random = Random::of_this_run();
     for number in 0..JOBS {
-        let job = job_of(&mut random, Order::Flow, 100).file();
+        let job = job_of(&mut random, Order::Flow, 100, Reentry::Often).file();
         let job = filled(&mut random, job);
         file(&folder, &format!("{number:03}.job"), &job);
     }

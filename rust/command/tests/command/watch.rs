@@ -60,6 +60,36 @@ fn symbols_of_words_are_always_taken() {
 }
 
 #[test]
+fn walk_comes_in_again_and_returns_without_a_complaint() {
+    // node 1 calls with a reopen, comes in again, the seal of node 3 ends that run, which returns to node 1; there
+    // the helper reopens, and nodes 2 and 3 follow
+    let job = example("regroup.job");
+    let folder = folder("watch-again");
+    let plan = file(&folder, "regroup.plan", b"0011\n");
+    let reopened = "=1\n3\n=1\n2\n3\n";
+    // two runs come in and seal, one after the other, and nobody reopens
+    let sealed = "=1\n3\n3\n2\n3\n";
+    let alarm = "alarm at event 4 (line 4): node 2, symbol 2, state 2\n".to_string();
+    for words in [&["watch", &job][..], &["watch", &job, &plan]] {
+        let done = run(words, reopened);
+        assert_eq!(done, (0, totals(5, 0, 0, 0, 1), String::new()));
+        let done = run(words, sealed);
+        assert_eq!(
+            done,
+            (1, alarm.clone() + &totals(5, 0, 1, 0, 1), String::new())
+        );
+    }
+    // a call is no event, and a symbol past the rule's is none
+    let (status, printed, wrong) = run(&["watch", &job], "1\n=3\n");
+    assert_eq!((status, printed), (2, totals(0, 0, 0, 2, 0)));
+    assert_eq!(
+        wrong,
+        "dapohiru: standard input: line 1: node 1 is no event node\n\
+         dapohiru: standard input: line 2: refused 14: there is no symbol 3; the symbols are 0 to 2\n"
+    );
+}
+
+#[test]
 fn different_plan_is_noted_and_used() {
     let folder = folder("watch-different");
     let plan = file(&folder, "pair.plan", b"001\n");

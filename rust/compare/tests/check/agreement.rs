@@ -4,8 +4,10 @@ use dapohiru_compare::memory::Counts;
 use dapohiru_compare::on_file::OnFile;
 use dapohiru_compare::wrapper::WRAPPER;
 use dapohiru_generators::features::{FeatureCounts, Features};
+use dapohiru_generators::large::{self, Order};
 use dapohiru_generators::mixed;
 use dapohiru_generators::random::Random;
+use dapohiru_generators::reentry::Reentry;
 use dapohiru_generators::small;
 use dapohiru_generators::zeros::filled;
 use dapohiru_plain::check::Checker;
@@ -91,7 +93,7 @@ fn plain_check_and_planner_of_the_benchmark_agree_with_the_walks() {
     let mut random = Random::of_this_run();
     let mut checker = Checker::default();
     let mut plans = 0;
-    for number in 0..1_000 {
+    for number in 0..4_000 {
         let job = small::job(&mut random);
         let file = filled(&mut random, job.file());
         let walks = Walks::new(&job, None);
@@ -116,4 +118,31 @@ fn plain_check_and_planner_of_the_benchmark_agree_with_the_walks() {
         );
     }
     println!("{plans} plans");
+}
+
+#[test]
+fn plain_check_of_512_nodes_with_calls_that_come_back_in_agrees_with_the_walks() {
+    let mut random = Random::of_this_run();
+    let mut checker = Checker::default();
+    let mut verdicts = [0, 0];
+    for number in 0..12 {
+        let job = large::job_with(&mut random, Order::in_turn(number), Reentry::Always);
+        let walks = Walks::new(&job, None);
+        let found = dapohiru_plain::plan::plan(&mut checker, &job.file()).expect("it is read");
+        let mut plans = vec![job.all_watched(), job.plan_of(&[]), found.bytes.clone()];
+        for _ in 0..8 {
+            let mut plan = found.bytes.clone();
+            let point = random.pick(&job.points());
+            plan[point] = 1 - plan[point];
+            plans.push(plan);
+        }
+        for plan in plans {
+            let faithful = checker.check(&job.file(), &plan, &mut vec![0; WORK]);
+            let wanted = difference(&walks, &plan).is_none();
+            assert_eq!(faithful, Ok(wanted), "job {number}");
+            verdicts[usize::from(wanted)] += 1;
+        }
+    }
+    println!("different and faithful: {verdicts:?}");
+    assert!(verdicts.iter().all(|&count| count >= 12));
 }

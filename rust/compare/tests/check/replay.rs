@@ -34,6 +34,7 @@ fn different_plan_has_a_walk_on_which_two_records_differ_at_the_last_event() {
             start,
             states,
             events,
+            ..
         }) = difference(walks, plan)
         else {
             panic!("no walk differs under {plan:?}");

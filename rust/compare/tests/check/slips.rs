@@ -1,4 +1,4 @@
-//! Wrong readings of document 01, which a comparison must notice.
+//! Wrong readings of documents 01 and 02, which a comparison must notice.
 use dapohiru_compare::checking::{cases, Memory};
 use dapohiru_compare::wrapper::WRAPPER;
 use dapohiru_generators::random::Random;

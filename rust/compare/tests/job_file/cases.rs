@@ -189,7 +189,7 @@ fn past_limit(random: &mut Random, line: &Line, field: usize, sizes: Sizes) -> u
         (b'R' | b'P', 0) => (numbers[0] + 1).min(999_999),
         (b'R', 1) => 2,
         (b'R', _) => sizes.states,
-        (b'P', 1) => 3,
+        (b'P', 1) => 4,
         (b'P', 2) => match numbers[1] {
             0 => 1,
             1 => sizes.symbols,

@@ -5,7 +5,7 @@ use std::ops::Range;
 use std::slice::from_ref;
 
 /// Bytes that stand next to those of a file, or are taken for them by mistake.
-pub const BYTES: &[u8] = b" 0129:/\t\r\n\0-+.,aJRPFjrpf\x0b\x7f\x80\xa0\xb0\xff";
+pub const BYTES: &[u8] = b" 012349:/\t\r\n\0-+.,aJRPFjrpf\x0b\x7f\x80\xa0\xb0\xff";
 
 /// The columns of a field in the line that starts at this byte.
 pub fn columns(start: usize, field: usize) -> Range<usize> {
@@ -15,7 +15,7 @@ pub fn columns(start: usize, field: usize) -> Range<usize> {
 /// Numbers at and past every limit of a file with these sizes, and those that lose high bits.
 pub fn numbers_near(number: u64, sizes: Sizes) -> Vec<u64> {
     let limits = [
-        0, 1, 2, 3, 15, 16, 17, 127, 128, 255, 256, 511, 512, 513, 2047, 2048, 2049, 32_767,
+        0, 1, 2, 3, 4, 5, 15, 16, 17, 127, 128, 255, 256, 511, 512, 513, 2047, 2048, 2049, 32_767,
         32_768, 65_535, 65_536, 99_999, 131_071, 131_072, 524_288, 999_999,
     ];
     let mut near = vec![number.saturating_sub(1), number, number + 1];

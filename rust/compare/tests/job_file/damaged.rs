@@ -5,7 +5,7 @@ use crate::memory::{compare_all, Memory};
 use crate::samples::{answer, least, small, spelled};
 use dapohiru::Refusal;
 use dapohiru_compare::memory::Counts;
-use dapohiru_second::job::Line;
+use dapohiru_second::job::{Line, CALL, REENTRANT};
 use dapohiru_second::reading::WORK;
 
 /// Asks that the small files agree under every damage of a kind, and that each of these refusals comes
@@ -120,23 +120,25 @@ fn line_ends_letters_and_more_bytes_agree() {
 
 #[test]
 fn every_field_over_six_bytes_agrees() {
-    // the value of a call node with 16 symbols: 0 to 65,535 are sets, greater numbers are refused as 7
-    let mut job = least();
-    job.symbols = 16;
-    job.next = vec![vec![0; 16]];
-    job.nodes[0].kind = 2;
-    let file = job.file();
-    let start = file.len() - 25;
-    let columns = b" 016:9";
-    let files = (0..columns.len().pow(6)).map(|number| {
-        let mut file = file.clone();
-        let mut left = number;
-        for column in &mut file[start..start + 6] {
-            *column = columns[left % columns.len()];
-            left /= columns.len();
-        }
-        file
-    });
-    let counts = compare_all("fields", files);
-    counts.came([None, Some(4), Some(7)]);
+    // the value of a call with 16 symbols: 0 to 65,535 are sets, greater numbers are refused as 7
+    for kind in [CALL, REENTRANT] {
+        let mut job = least();
+        job.symbols = 16;
+        job.next = vec![vec![0; 16]];
+        job.nodes[0].kind = kind;
+        let file = job.file();
+        let start = file.len() - 25;
+        let columns = b" 016:9";
+        let files = (0..columns.len().pow(6)).map(|number| {
+            let mut file = file.clone();
+            let mut left = number;
+            for column in &mut file[start..start + 6] {
+                *column = columns[left % columns.len()];
+                left /= columns.len();
+            }
+            file
+        });
+        let counts = compare_all("fields", files);
+        counts.came([None, Some(4), Some(7)]);
+    }
 }

@@ -64,8 +64,10 @@ pub fn rich() -> Job {
         node(0, 0, 0, 1, 1024),
         node(0, 0, 2, 0, 0),
         node(2, 2050, 0, 0, 0),
+        node(3, 4095, 4, 1, 2048),
+        node(3, 0, 0, 0, 0),
     ];
-    nodes.extend((0..6).map(|symbol| node(1, 2 * symbol, 0, 0, 0)));
+    nodes.extend((0..4).map(|symbol| node(1, 2 * symbol, 0, 0, 0)));
     Job {
         symbols: 12,
         finals: vec![0, 1, 0],

@@ -214,15 +214,67 @@ fn jobs_at_every_limit_are_accepted() {
 }
 
 #[test]
+fn kind_3_is_accepted_and_4_refused_as_7() {
+    for (kind, wanted) in [
+        (2, Ok(())),
+        (3, Ok(())),
+        (4, Err(Refusal(7))),
+        (5, Err(Refusal(7))),
+        (255, Err(Refusal(7))),
+        (259, Err(Refusal(7))),
+        (65_539, Err(Refusal(7))),
+    ] {
+        for value in [0, 1] {
+            let mut job = least();
+            (job.nodes[0].kind, job.nodes[0].value) = (kind, value);
+            assert_eq!(answer(&job.file()), wanted, "kind {kind}, value {value}");
+            let read = reading::job(&job.file()).map(drop).map_err(Refusal);
+            assert_eq!(read, wanted, "kind {kind}, value {value}");
+        }
+    }
+}
+
+#[test]
+fn set_of_a_call_that_may_come_back_in_names_symbols_below_a() {
+    for symbols in [1, 2, 15, 16] {
+        for (value, wanted) in [
+            (0, Ok(())),
+            ((1 << symbols) - 1, Ok(())),
+            (1 << symbols, Err(Refusal(7))),
+            ((1 << symbols) + 1, Err(Refusal(7))),
+            (999_999, Err(Refusal(7))),
+        ] {
+            let mut job = least();
+            job.symbols = symbols;
+            job.next = vec![vec![0; symbols as usize]];
+            (job.nodes[0].kind, job.nodes[0].value) = (3, value);
+            assert_eq!(answer(&job.file()), wanted, "{value} of {symbols} symbols");
+        }
+    }
+}
+
+#[test]
 fn what_document_01_allows_is_accepted() {
     let with = |change: fn(&mut Job)| {
         let mut job = rich();
         change(&mut job);
         job
     };
-    let jobs: [(&str, Job); 10] = [
+    let jobs: [(&str, Job); 12] = [
         ("the least job", least()),
         ("call set 0", with(|job| job.nodes[5].value = 0)),
+        (
+            "set 0 at a call that may come back in",
+            with(|job| job.nodes[6].value = 0),
+        ),
+        (
+            "all nodes of kind 3",
+            with(|job| {
+                job.nodes.iter_mut().for_each(|node| {
+                    (node.kind, node.value) = (3, 4095);
+                })
+            }),
+        ),
         ("exit with after set 0", with(|job| job.nodes[2].after = 0)),
         (
             "entry at every kind",

@@ -6,6 +6,7 @@ use dapohiru_compare::wrapper::{plan, WRAPPER};
 use dapohiru_generators::large::{self, Order};
 use dapohiru_generators::mixed;
 use dapohiru_generators::random::Random;
+use dapohiru_generators::reentry::Reentry;
 use dapohiru_generators::zeros::filled;
 use dapohiru_second::job::Job;
 use dapohiru_second::reading::WORK;
@@ -33,6 +34,10 @@ struct Totals {
     tally: Tally,
     /// Jobs with both alarms and skipped events.
     both: u64,
+    /// Jobs with alarms, skipped events and walks that come in again.
+    coming_in: u64,
+    /// Jobs with alarms, skipped events and walks that return.
+    returning: u64,
     /// Jobs with a walk on which the reports differ.
     different: u64,
     longest: u64,
@@ -44,17 +49,23 @@ impl Totals {
     fn walk(&mut self, random: &mut Random, job: &Job, plan: &[u8], walks: u64, most: u64) {
         let of_job = Walks::new(job, None);
         let (mut tally, mut different) = (Tally::default(), false);
+        let (mut came_in, mut returned) = (0, 0);
         for _ in 0..walks {
             let walked = walk(WRAPPER, random, &of_job, plan, most).unwrap();
             different |= walked.differs;
             tally.add(walked.tally);
+            came_in += walked.came_in;
+            returned += walked.returned;
             self.longest = self.longest.max(walked.tally.events);
             self.rounds = self.rounds.max(walked.rounds);
         }
         self.jobs += 1;
         self.walks += walks;
         self.tally.add(tally);
-        self.both += u64::from(tally.alarms > 0 && tally.skipped > 0);
+        let both = tally.alarms > 0 && tally.skipped > 0;
+        self.both += u64::from(both);
+        self.coming_in += u64::from(both && came_in > 0);
+        self.returning += u64::from(both && returned > 0);
         self.different += u64::from(different);
     }
 
@@ -69,8 +80,8 @@ impl Totals {
         } = self.tally;
         let refused: u64 = refused.iter().sum();
         println!(
-            "{what}: {} jobs, {} walks, {events} events, {alarms} alarms, {skipped} skipped, {refused} refused calls, {saturated} alarms at the highest total; the longest walk has {} events, the most rounds are {}; {} jobs have alarms and skipped events, {} differ",
-            self.jobs, self.walks, self.longest, self.rounds, self.both, self.different
+            "{what}: {} jobs, {} walks, {events} events, {alarms} alarms, {skipped} skipped, {refused} refused calls, {saturated} alarms at the highest total; the longest walk has {} events, the most rounds are {}; {} jobs have alarms and skipped events, {} of them walks that come in again and {} walks that return; {} differ",
+            self.jobs, self.walks, self.longest, self.rounds, self.both, self.coming_in, self.returning, self.different
         );
     }
 
@@ -81,6 +92,14 @@ impl Totals {
         assert_eq!(self.different, 0, "the reports differ");
         assert!(self.tally.refused.iter().all(|&count| count > 0));
         assert!(both * 10 >= *jobs, "{both} of {jobs}");
+    }
+
+    /// Asks that a tenth of the jobs had alarms, skipped events and walks that come in again, and a tenth walks
+    /// that return.
+    fn come_back(&self) {
+        for count in [self.coming_in, self.returning] {
+            assert!(count * 10 >= self.jobs, "{count} of {}", self.jobs);
+        }
     }
 }
 
@@ -95,6 +114,7 @@ fn two_records_alarm_alike_on_many_walks_of_small_jobs() {
     }
     totals.print("small jobs");
     totals.same_alarms();
+    totals.come_back();
     assert!(totals.tally.saturated > 0, "no total reached 2^64-1");
     assert!(totals.tally.events > 1_000_000);
 }
@@ -140,6 +160,21 @@ fn two_records_alarm_alike_on_walks_of_512_nodes() {
     totals.print("large jobs");
     totals.same_alarms();
     assert!(totals.tally.events > 500_000);
+}
+
+#[test]
+fn two_records_alarm_alike_on_walks_that_come_in_again_and_return() {
+    let mut random = Random::fixed(25);
+    let mut totals = Totals::default();
+    for _ in 0..3_000 {
+        let job = mixed::job_with(&mut random, Reentry::Always);
+        let plan = plan_of(&mut random, &job);
+        totals.walk(&mut random, &job, &plan, 4, 300);
+    }
+    totals.print("jobs with calls that may come back in");
+    totals.same_alarms();
+    totals.come_back();
+    assert!(totals.returning * 4 >= totals.jobs);
 }
 
 #[test]

@@ -116,6 +116,7 @@ fn totals_with_a_slip_are_not_those_of_plan_and_listing() {
     let slips = [
         Slip::CountsSwapped,
         Slip::EveryNodeCounted,
+        Slip::ReentrantCounted,
         Slip::WatchedAfterPassOne,
         Slip::WatchedBeforeLastRemoval,
         Slip::TotalStartsFromAllNodes,

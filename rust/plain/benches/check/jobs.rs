@@ -1,6 +1,7 @@
 //! The jobs of the benchmark, with the plans to be checked.
 use dapohiru_generators::large::{self, Order};
 use dapohiru_generators::random::Random;
+use dapohiru_generators::reentry::Reentry;
 use dapohiru_generators::shape::{Histogram, Shape, Shapes};
 use dapohiru_plain::check::Checker;
 use dapohiru_plain::plan::plan;
@@ -45,9 +46,14 @@ pub struct Loads {
 }
 
 impl Loads {
-    /// So many jobs whose plan watches a quarter to three quarters of the points. Half of them are
-    /// numbered along the flow.
-    pub fn random(random: &mut Random, checker: &mut Checker, count: usize) -> Self {
+    /// So many jobs whose plan watches a quarter to three quarters of the points, with calls that may come back
+    /// in or without. Half of them are numbered along the flow.
+    pub fn random(
+        random: &mut Random,
+        checker: &mut Checker,
+        count: usize,
+        reentry: Reentry,
+    ) -> Self {
         let mut loads = Loads {
             all: Vec::new(),
             passed_over: 0,
@@ -58,7 +64,7 @@ impl Loads {
         };
         while loads.all.len() < count {
             let order = Order::in_turn(loads.all.len());
-            let job = large::job(random, order);
+            let job = large::job_with(random, order, reentry);
             if !loads.add(random, checker, order, &job) {
                 loads.passed_over += 1;
             }

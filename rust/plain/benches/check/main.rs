@@ -6,6 +6,7 @@ mod jobs;
 use dapohiru::{check, Refusal, Verdict};
 use dapohiru_generators::large::Order;
 use dapohiru_generators::random::Random;
+use dapohiru_generators::reentry::Reentry;
 use dapohiru_plain::check::Checker;
 use jobs::{Answer, Load, Loads};
 use std::hint::black_box;
@@ -83,7 +84,7 @@ fn main() {
     let mut random = Random::of_this_run();
     let mut checker = Checker::default();
     let mut work = vec![0; WORK];
-    let loads = Loads::random(&mut random, &mut checker, JOBS);
+    let loads = Loads::random(&mut random, &mut checker, JOBS, Reentry::Never);
     loads.print();
 
     let mut times = vec![[(); 4].map(|()| Times::default()); JOBS];

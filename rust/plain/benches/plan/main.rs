@@ -1,18 +1,19 @@
-//! Milliseconds to plan 300 jobs of 512 nodes: the library's call beside a plain Rust planner whose
-//! checks sweep all nodes until nothing changes. Both read the same file, write the same plan bytes and
-//! clear the same bytes. `cargo bench --offline --bench plan` runs it.
+//! Milliseconds to plan 300 jobs of 512 nodes, and 300 more with 1 to 8 calls that may come back in: the
+//! library's call beside a plain Rust planner whose checks sweep all nodes until nothing changes. Both read the
+//! same file, write the same plan bytes and clear the same bytes. `cargo bench --offline --bench plan` runs it.
 #[path = "../check/jobs.rs"]
 mod jobs;
 
 use dapohiru::{plan, Counts, Refusal};
 use dapohiru_generators::large::Order;
 use dapohiru_generators::random::Random;
+use dapohiru_generators::reentry::Reentry;
 use dapohiru_plain::check::Checker;
 use jobs::{Load, Loads};
 use std::hint::black_box;
 use std::time::Instant;
 
-/// How many jobs there are.
+/// How many jobs there are of each sort.
 const JOBS: usize = 300;
 /// Rounds over all jobs; a job's time is the median of its times.
 const ROUNDS: usize = 3;
@@ -102,11 +103,11 @@ fn print<'a>(what: &str, times: impl Iterator<Item = &'a Times>) {
     );
 }
 
-fn main() {
-    let mut random = Random::fixed(1);
+/// Times both planners on many jobs, and prints what they came to.
+fn run(random: &mut Random, reentry: Reentry, all: &str) {
     let mut checker = Checker::default();
     let mut work = vec![0; WORK];
-    let loads = Loads::random(&mut random, &mut checker, JOBS);
+    let loads = Loads::random(random, &mut checker, JOBS, reentry);
     loads.print();
     let mut times = vec![Times::default(); JOBS];
     for round in 0..ROUNDS {
@@ -128,5 +129,12 @@ fn main() {
     };
     print("numbered along the flow", of_order(Order::Flow));
     print("numbered by parts", of_order(Order::Parts));
-    print("all jobs", times.iter());
+    print(all, times.iter());
+}
+
+fn main() {
+    let mut random = Random::fixed(1);
+    run(&mut random, Reentry::Never, "all jobs");
+    println!("with calls that may come back in");
+    run(&mut random, Reentry::Always, "all jobs (at most 1.3)");
 }

@@ -97,12 +97,16 @@ impl Reader {
             .enumerate()
             .any(|(place, &number)| match place {
                 0 => number != node && !self.slips(Slip::NodeOrderNotTested),
-                1 => number > 2 + u64::from(self.slips(Slip::Kind3Accepted)),
+                1 if self.slips(Slip::Kind3Refused) => number > 2,
+                1 => number > 3 + u64::from(self.slips(Slip::Kind4Accepted)),
                 2 => match numbers[1] {
                     0 => number != 0 && !self.slips(Slip::ValueAtPlainAccepted),
                     1 => number >= symbols + u64::from(self.slips(Slip::SymbolOfSymbolsAccepted)),
                     2 if self.slips(Slip::EmptyCallSetRefused) && number == 0 => true,
                     2 => names_more(number, symbols, Slip::CallSetPastSymbolsAccepted),
+                    3 if self.slips(Slip::EmptyReentrantSetRefused) && number == 0 => true,
+                    3 if self.slips(Slip::ReentrantValueIsSymbol) => number >= symbols,
+                    3 => names_more(number, symbols, Slip::ReentrantSetPastSymbolsAccepted),
                     _ => false,
                 },
                 3 if self.slips(Slip::EntrySetOfSymbols) => number >> symbols != 0,

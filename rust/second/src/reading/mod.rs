@@ -1,5 +1,5 @@
 //! Reading a job file a second time (document 01, "The job file" and "Turned back, by number"; document 02,
-//! "Zero-filled columns"), by itself and as a call with a work buffer. A slip can be switched on, to see that
+//! "Zero-filled columns" and "Procedures that call themselves"), by itself and as a call with a work buffer. A slip can be switched on, to see that
 //! a comparison notices it.
 mod fields;
 mod lines;

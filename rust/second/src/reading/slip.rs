@@ -1,4 +1,4 @@
-//! Wrong readings of document 01 that the second reader can be given.
+//! Wrong readings of documents 01 and 02 that the second reader can be given.
 
 crate::slips! {
     /// Every slip.
@@ -111,8 +111,10 @@ crate::slips! {
         NoFinalRefused,
         /// P lines may stand in any order.
         NodeOrderNotTested,
-        /// Kind 3 is accepted.
-        Kind3Accepted,
+        /// Kind 3 is refused.
+        Kind3Refused,
+        /// Kind 4 is accepted.
+        Kind4Accepted,
         /// A value that is not 0 is accepted at kind 0.
         ValueAtPlainAccepted,
         /// A symbol of A is accepted.
@@ -121,6 +123,12 @@ crate::slips! {
         CallSetPastSymbolsAccepted,
         /// A call set of 0 is refused.
         EmptyCallSetRefused,
+        /// The set of a call that may come back in is accepted where it names a symbol of A.
+        ReentrantSetPastSymbolsAccepted,
+        /// A set of 0 is refused at a call that may come back in.
+        EmptyReentrantSetRefused,
+        /// The value of a call that may come back in is a symbol, and no set.
+        ReentrantValueIsSymbol,
         /// An entry set that names a state of S is accepted.
         EntrySetPastStatesAccepted,
         /// An entry set is held against A.

@@ -1,12 +1,17 @@
 -- `search::search::is_faithful` meets its contract.
 -- Invariant: every pair held is reached, the starts are held, and every row that is not marked is closed.
--- Measure: what is left to the search, less after a round that sees rows.
+-- Measure: what is left to the search, less where what comes back makes a row grow.
 -- Assumes nothing.
-use mathlib.Core.Path.{_∙_}
-use borrow.Author.Needs.{needs}
+use mathlib.Core.Path.{_≡_, sym, ap, _∙_}
+use mathlib.Core.Bool.{Bool, false}
+use native.Mathlib.Omega.{arith}
+use borrow.Author.Tests.{not-true, not-false}
 use Rattle.tables.specs.Tables.{pairsLeft}
 use Rattle.tables.proofs.KeptLaws.{usable-same}
-use Rattle.search.proofs.SearchLaws.{Searching, searching-start, searching-more, searching-end, searching-split}
+use Rattle.rounds.proofs.RoundLaws.{nothing-difference}
+use Rattle.rounds.specs.declared.Seen.the-variants.{Difference}
+use Rattle.search.specs.Searched.{roundsEnd}
+use Rattle.search.proofs.SearchLaws.{Searching, searching-start, searching-round, searching-back, searching-end, searching-split}
 use Rattle.search.proofs.search.is_faithful.Statement.{statement}
 use Rattle.search.proofs.search.is_faithful.Tie as tie
 
@@ -16,47 +21,54 @@ Inv-loop work₀ table finals states nodes work = Searching table finals states 
 abbrev μ-loop : tie.MeasureT-loop
 μ-loop work₀ table finals states nodes work = pairsLeft work
 
+-- rounds that found no difference do not end with one
+no-difference : (r : Bool) → r ≡ false → roundsEnd r ≡ Difference → ⊥
+no-difference r e d = nothing-difference (sym (ap roundsEnd e) ∙ d)
+
 start-requires : tie.Need-start-requires Inv-loop μ-loop
 start-requires c κs = let u = c .before .before .pre in (u .long, u .few-nodes)
 
 loop-holds : tie.Need-loop-holds Inv-loop μ-loop
 loop-holds c = searching-start (c .before .before .before .before .before .pre .few-nodes) (c .before .before .start .ensures)
 
-round-requires : tie.Need-round-requires Inv-loop μ-loop
-round-requires c κs =
-    usable-same (c .before .loop .inv .kept) (usable-same (c .before .before .before .before .start .ensures .kept) (c .before .before .before .before .before .before .before .pre))
-
-enum-told : tie.Need-enum-told Inv-loop μ-loop
-enum-told c = search needs
+differs-requires : tie.Need-differs-requires Inv-loop μ-loop
+differs-requires c κs = usable-same (c .before .loop .inv .kept) (usable-same (c .before .before .before .before .start .ensures .kept) (c .before .before .before .before .before .before .before .pre))
 
 same-length : tie.Need-same-length Inv-loop μ-loop
-same-length c =
-    c .before .before .before .before .round .ensures .kept .long ∙ c .before .before .before .before .before .before .loop .inv .kept .long ∙ c .before .before .before .before .before .before .before .before .before .start .ensures .kept .long
+same-length c = c .before .before .before .differs .ensures .kept .long ∙ c .before .before .before .before .before .loop .inv .kept .long ∙ c .before .before .before .before .before .before .before .before .start .ensures .kept .long
 
 returns : tie.Need-returns Inv-loop μ-loop
 returns c =
-    searching-end (c .before .before .before .before .before .before .before .before .before .start .ensures .kept) (c .before .before .before .before .before .before .before .before .before .before .before .before .pre) (c .before .before .before .before .before .before .loop .inv) (c .before .before .before .before .round .ensures) (c .enum-told .given .1)
+    searching-split (c .before .before .before .before .before .before .before .before .start .ensures .kept) (c .before .before .before .before .before .before .before .before .before .before .before .pre) (c .before .before .before .before .before .loop .inv) (c .before .before .before .differs .ensures) (ap roundsEnd (c .if1 .taken))
 
-enum-told-2 : tie.Need-enum-told-2 Inv-loop μ-loop
-enum-told-2 c = search needs
-
-loop-less : tie.Need-loop-less Inv-loop μ-loop
-loop-less c = c .before .before .before .before .round .ensures .left (c .enum-told2 .given .1)
-
-loop-again : tie.Need-loop-again Inv-loop μ-loop
-loop-again c =
-    searching-more (c .before .before .before .before .before .before .before .before .before .start .ensures .kept) (c .before .before .before .before .before .before .before .before .before .before .before .before .pre) (c .before .before .before .before .before .before .loop .inv) (c .before .before .before .before .round .ensures) (c .enum-told2 .given .1)
-
-enum-told-3 : tie.Need-enum-told-3 Inv-loop μ-loop
-enum-told-3 c = search needs
+come-back-requires : tie.Need-come-back-requires Inv-loop μ-loop
+come-back-requires c κs =
+    let rounds = c .before .before .before .before .differs .ensures in (
+      usable-same (rounds .kept) (usable-same (c .before .before .before .before .before .before .loop .inv .kept) (usable-same (c .before .before .before .before .before .before .before .before .before .start .ensures .kept) (c .before .before .before .before .before .before .before .before .before .before .before .before .pre))),
+      rounds .none (ap roundsEnd (c .before .if1 .left)),
+    )
 
 same-length-2 : tie.Need-same-length-2 Inv-loop μ-loop
 same-length-2 c =
-    c .before .before .before .before .round .ensures .kept .long ∙ c .before .before .before .before .before .before .loop .inv .kept .long ∙ c .before .before .before .before .before .before .before .before .before .start .ensures .kept .long
+    c .before .before .before .come-back .ensures .kept .long ∙ c .before .before .before .before .before .before .before .before .differs .ensures .kept .long ∙ c .before .before .before .before .before .before .before .before .before .before .loop .inv .kept .long ∙ c .before .before .before .before .before .before .before .before .before .before .before .before .before .start .ensures .kept .long
 
 returns-2 : tie.Need-returns-2 Inv-loop μ-loop
 returns-2 c =
-    searching-split (c .before .before .before .before .before .before .before .before .before .start .ensures .kept) (c .before .before .before .before .before .before .before .before .before .before .before .before .pre) (c .before .before .before .before .before .before .loop .inv) (c .before .before .before .before .round .ensures) (c .enum-told3 .given .1)
+    let start = c .before .before .before .before .before .before .before .before .before .before .before .before .before .start .ensures .kept in
+    let u = c .before .before .before .before .before .before .before .before .before .before .before .before .before .before .before .before .pre in
+    searching-end start u
+    (searching-round (usable-same start u) (c .before .before .before .before .before .before .before .before .before .before .loop .inv) (c .before .before .before .before .before .before .before .before .differs .ensures) (no-difference _ (c .before .before .before .before .before .if1 .left)))
+    (c .before .before .before .come-back .ensures) (not-true _ (c .if2 .taken))
+
+loop-less : tie.Need-loop-less Inv-loop μ-loop
+loop-less c = omega (arith, c .before .before .before .before .before .before .before .before .differs .ensures .most, c .before .before .before .come-back .ensures .left (not-false _ (c .if2 .left)))
+
+loop-again : tie.Need-loop-again Inv-loop μ-loop
+loop-again c =
+    let u = usable-same (c .before .before .before .before .before .before .before .before .before .before .before .before .before .start .ensures .kept) (c .before .before .before .before .before .before .before .before .before .before .before .before .before .before .before .before .pre) in
+    searching-back u
+    (searching-round u (c .before .before .before .before .before .before .before .before .before .before .loop .inv) (c .before .before .before .before .before .before .before .before .differs .ensures) (no-difference _ (c .before .before .before .before .before .if1 .left)))
+    (c .before .before .before .come-back .ensures)
 
 pub is-faithful-spec : {M : Type 1} → statement M
 is-faithful-spec =
@@ -66,13 +78,11 @@ is-faithful-spec =
     μ-loop
     start-requires
     loop-holds
-    round-requires
-    enum-told
+    differs-requires
     same-length
     returns
-    enum-told-2
-    loop-less
-    loop-again
-    enum-told-3
+    come-back-requires
     same-length-2
-    returns-2)
+    returns-2
+    loop-less
+    loop-again)

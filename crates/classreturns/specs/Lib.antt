@@ -1,0 +1,3 @@
+-- Pairs joined at nodes.
+-- Assumes nothing.
+pub mod Joins

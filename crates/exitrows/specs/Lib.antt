@@ -1,0 +1,3 @@
+-- What the words after exits lead to.
+-- Assumes nothing.
+pub mod Ended

@@ -1,0 +1,3 @@
+-- What joining at calls and entries leaves.
+-- Assumes nothing.
+pub mod Reentry

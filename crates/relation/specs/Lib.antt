@@ -1,0 +1,3 @@
+-- What joining into a relation leaves.
+-- Assumes nothing.
+pub mod Union

@@ -1,0 +1,3 @@
+-- Pairs gathered from nodes.
+-- Assumes nothing.
+pub mod Gathered

@@ -1,0 +1,3 @@
+-- What comes back in.
+-- Assumes nothing.
+pub mod CameBack

@@ -1,0 +1,3 @@
+-- What words over a set lead to.
+-- Assumes nothing.
+pub mod Spelling
