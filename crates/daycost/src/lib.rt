@@ -1,6 +1,6 @@
 // What a day's events cost: the volume file read, and the sum over the watched points.
 ghost use mathlib.Core.Path.{_≡_};
-ghost use Prim.Native.Nat.{_≤_, _<_};
+ghost use Prim.Native.Nat.{_^_, _≤_, _<_};
 ghost use lib.ListN.{length};
 ghost use Rattle.buffer.specs.Layout.{Lent};
 ghost use Rattle.pricing.specs.Numbered.{columnIn};
@@ -34,7 +34,8 @@ pub fn day_cost(
     prices: &[u64; 16],
 ) -> Collected
     requires { ⌜ Fit (now work) (now plan) (now prices) nodes ⌝ }
-    ensures { λ r. ⌜ r ≡ sumIn (now (prices .entry)) (now (work .entry)) (now (plan .entry)) nodes (columnIn volumeLine nodes (now (volumes .entry))) ⌝ }
+    ensures { λ r. ⌜ (r ≡ sumIn (now (prices .entry)) (now (work .entry)) (now (plan .entry)) nodes (columnIn volumeLine nodes (now (volumes .entry))))
+        × (r .number < 2 ^ 48) ⌝ }
 {
     if volumes.len() != nodes * 14 {
         return refused(16);
