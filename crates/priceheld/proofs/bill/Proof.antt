@@ -1,48 +1,50 @@
+-- `priceheld::bill` meets its contract: 11 and 12 by the tests of the plan, 16 by the volume file, else the sum in cents.
+-- Assumes nothing.
+use mathlib.Core.Path.{sym, _∙_}
 use borrow.Author.Needs.{needs}
+use borrow.Author.Tests.{not-true, not-false}
+use Rattle.priceheld.proofs.BillLaws.{bill-length, bill-marks, bill-fit, bill-lines, bill-price}
 use Rattle.priceheld.proofs.bill.Statement.{statement}
 use Rattle.priceheld.proofs.bill.Tie as tie
-use Rattle.priceheld.proofs.bill.Reads as reads
-use Rattle.priceheld.proofs.bill.Lts as lts
-use Rattle.daycost.proofs.day_cost.Reads as day-cost-reads
-use Rattle.planmarks.proofs.is_plan.Reads as is-plan-reads
-use Rattle.tariff.proofs.cents.Reads as cents-reads
 
--- src/lib.rt:14:9
 returns : tie.Need-returns
-returns c = ?
+returns c =
+    let x = c .before .before .before .before .args in
+    bill-length (x .prices .now) (x .work .now) (x .plan .now) (x .volumes .now) (x .nodes) (c .if1 .taken)
 
--- src/lib.rt:16:9
 is-plan-requires : tie.Need-is-plan-requires
 is-plan-requires c κs = search needs
 
--- src/lib.rt:17:9
 returns-2 : tie.Need-returns-2
-returns-2 c = ?
+returns-2 c =
+    let x = c .before .before .before .before .before .before .args in
+    bill-marks (x .prices .now) (x .work .now) (x .plan .now) (x .volumes .now) (x .nodes) (c .before .before .if1 .left)
+    (sym (c .before .is-plan .ensures) ∙ not-true _ (c .if2 .taken))
 
--- src/lib.rt:19:9
 day-cost-requires : tie.Need-day-cost-requires
-day-cost-requires c κs = ?
+day-cost-requires c κs =
+    let start = c .before .before .before .before .before .before in
+    let x = start .args in
+    bill-fit (x .prices .now) (x .work .now) (x .plan .now) (x .volumes .now) (x .nodes) (c .before .before .if1 .left)
+    (sym (c .before .is-plan .ensures) ∙ not-false _ (c .if2 .left)) (start .pre .0) (start .pre .1)
 
--- src/lib.rt:22:9
 returns-3 : tie.Need-returns-3
-returns-3 c = ?
+returns-3 c =
+    let x = c .before .before .before .before .before .before .before .before .args in
+    let sum = c .before .day-cost in
+    bill-lines (x .prices .now) (x .work .now) (x .plan .now) (x .volumes .now) (x .nodes) (c .before .before .before .before .if1 .left)
+    (sym (c .before .before .before .is-plan .ensures) ∙ not-false _ (c .before .before .if2 .left)) (sum .result) (sum .ensures .0) (c .if3 .taken)
 
--- src/lib.rt:24:18
 cents-requires : tie.Need-cents-requires
-cents-requires c κs = ?
+cents-requires c κs = c .before .day-cost .ensures .1
 
--- src/lib.rt:9:1
 returns-4 : tie.Need-returns-4
-returns-4 c = ?
+returns-4 c =
+    let x = c .before .before .before .before .before .before .before .before .before .args in
+    let sum = c .before .before .day-cost in
+    bill-price (x .prices .now) (x .work .now) (x .plan .now) (x .volumes .now) (x .nodes) (c .before .before .before .before .before .if1 .left)
+    (sym (c .before .before .before .before .is-plan .ensures) ∙ not-false _ (c .before .before .before .if2 .left)) (sum .result) (sum .ensures .0)
+    (c .before .if3 .left) (c .cents .result) (c .cents .ensures)
 
 pub bill-spec : {M : Type 1} → statement M
-bill-spec =
-    tie.close
-    (tie.spec
-    returns
-    is-plan-requires
-    returns-2
-    day-cost-requires
-    returns-3
-    cents-requires
-    returns-4)
+bill-spec = tie.close (tie.spec returns is-plan-requires returns-2 day-cost-requires returns-3 cents-requires returns-4)
