@@ -1,0 +1,3 @@
+-- The theorems on prices, and the laws that the proofs of the functions cite.
+-- Assumes nothing.
+pub mod PricingTrialsPass
