@@ -1,3 +1,4 @@
 -- The theorems on prices, and the laws that the proofs of the functions cite.
 -- Assumes nothing.
+pub mod NumberedLaws
 pub mod PricingTrialsPass
