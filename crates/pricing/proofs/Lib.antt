@@ -1,4 +1,6 @@
 -- The theorems on prices, and the laws that the proofs of the functions cite.
 -- Assumes nothing.
 pub mod NumberedLaws
+pub mod PricingLaws
+pub mod PricingSays
 pub mod PricingTrialsPass

@@ -24,8 +24,8 @@ pub numbered-test
     : (limit i : ℕ) (before ns : List ℕ) → (goodNumbered limit i before ns ≡ true) ↔ ((at ns 0 ≡ i) × (at ns 1 ≤ limit))
 numbered-test limit i before ns = (
   λ t.
-  let both = and-eq-true-iff (eqb (at ns 0) i) (leb (at ns 1) limit) .0 t in
-  (eqb-true (at ns 0) i (both .0), leb-true (at ns 1) limit (both .1)),
+      let both = and-eq-true-iff (eqb (at ns 0) i) (leb (at ns 1) limit) .0 t in
+      (eqb-true (at ns 0) i (both .0), leb-true (at ns 1) limit (both .1)),
   λ w. and-eq-true-iff (eqb (at ns 0) i) (leb (at ns 1) limit) .1 (eq-eqb (at ns 0) i (w .0), le-leb (at ns 1) limit (w .1)),
 )
 
