@@ -3,4 +3,5 @@
 pub mod NumberedLaws
 pub mod PricingLaws
 pub mod PricingSays
+pub mod LargestPrice
 pub mod PricingTrialsPass
