@@ -3,5 +3,6 @@
 pub mod NumberedLaws
 pub mod PricingLaws
 pub mod PricingSays
+pub mod SavesLaws
 pub mod LargestPrice
 pub mod PricingTrialsPass
