@@ -4,7 +4,6 @@ use mathlib.Core.Path.{_≡_, refl, sym, ap, _∙_, subst}
 use mathlib.Core.Bool.{Bool, true, false, cond, true≢false, and-eq-true-iff}
 use mathlib.Core.List.{List, [], _∷_, map}
 use Prim.Native.Nat.{ℕ, zero, suc, _+_, _*_, _%_, _^_, _≤_, _<_}
-use native.Mathlib.Nat.{mul-le-mul-right}
 use native.Mathlib.Omega.{arith}
 use lib.Dec.{lit<, eqb, leb}
 use lib.ListN.{length, drop, getD, drop-of-length-le, List·getD-map}
@@ -17,15 +16,16 @@ use Rattle.lines.specs.declared.field.Field.{Field}
 use Rattle.lines.specs.declared.field.Field.the-variants.{Number, Malformed}
 use Rattle.lines.specs.declared.line.Collected.{Collected}
 use Rattle.lines.specs.Line.{at, Due, ends, no-line, found, lineOf}
-use Rattle.lines.specs.Lines.{Lines, lines, refused, linesOf}
+use Rattle.lines.specs.Lines.{lines}
 use Rattle.lines.specs.Places.{numbersOf, statusOf, dueAt, numbersAt, beforeAt, statusAt}
 use Rattle.lines.proofs.LinesLaws.{lines-all, lines-stop, passed-more}
-use Rattle.lines.proofs.SpelledLines.{lines-says}
 use Rattle.lines.proofs.AlikeLaws.{stand-length}
 use Rattle.framing.specs.Framing.{collected}
 use Rattle.buffer.specs.Views.{nodeIn}
 use Rattle.pricing.specs.Numbered.{goodNumbered, Column, column, not-these-lines, numbersIn, columnRead, columnIn}
 use Rattle.pricing.specs.Pricing.{volumeLine, cost}
+use Rattle.pricing.proofs.NumberedLaws.{column-says, column-refused}
+use Rattle.pricing.proofs.PricingLaws.{cost-most}
 use Rattle.pricing.specs.Inner.{numberDue, NodeFit, PricesFit, costIn, sumIn}
 
 -- ---- what a node's events cost
@@ -34,12 +34,6 @@ use Rattle.pricing.specs.Inner.{numberDue, NodeFit, PricesFit, costIn, sumIn}
 unwatched-free : (prices : List ℕ) (p : Point) (volume : ℕ) → 0 ≡ cost prices p false volume
 unwatched-free prices no-point volume = refl
 unwatched-free prices (point s) volume = refl
-
--- at most the largest price for each event
-cost-small : (prices : List ℕ) (p : Point) (w : Bool) (volume : ℕ) → PricesFit prices → volume ≤ 999999 → cost prices p w volume ≤ 9998990001
-cost-small prices no-point w volume f v = omega arith
-cost-small prices (point s) false volume f v = omega arith
-cost-small prices (point s) true volume f v = omega (arith, f s, mul-le-mul-right (getD prices s 0) v)
 
 module _ (prices work plan : List ℕ) (n volume : ℕ) where
   -- the cost where the node is not watched
@@ -144,7 +138,7 @@ module _ (file prices work plan : List ℕ) where
       record {
         passed = passed-more volumeLine file n (s .passed) good;
         is = rw (sum-more n (λ k. costIn prices work plan k (volumeAt file k)), s .is, here) refl;
-        small = omega (arith, s .small, e, cost-small prices (pointOf (nodeIn work n .kind)) (enables plan n) v fit few);
+        small = omega (arith, s .small, e, cost-most prices 9999 (pointOf (nodeIn work n .kind)) (enables plan n) v fit few);
       }
 
   -- a volume within its limit
@@ -160,24 +154,22 @@ module _ (file prices work plan : List ℕ) where
 
   -- another length
   pub sum-length : (nodes : ℕ) → (length file ≡ nodes * 14 → ⊥) → collected 16 0 ≡ sumIn prices work plan nodes (columnIn volumeLine nodes file)
-  unfolding columnIn
-  sum-length nodes h = none-summed nodes (other-length (linesOf volumeLine nodes 0 [] file) refl)
+  sum-length nodes h = none-summed nodes (other-length (columnIn volumeLine nodes file) refl)
     where
-      other-length : (x : Lines) → linesOf volumeLine nodes 0 [] file ≡ x → columnIn volumeLine nodes file ≡ not-these-lines
-      other-length (lines ls []) e =
-          let l = lines-says volumeLine nodes 0 [] file ls [] .0 e in
-          absurd (h (omega (arith, stand-length volumeLine ls file [] (l .stand), l .count)))
-      other-length (lines ls (b ∷ rest)) e = ap columnRead e
-      other-length (refused k) e = ap columnRead e
+      other-length : (x : Column) → columnIn volumeLine nodes file ≡ x → columnIn volumeLine nodes file ≡ not-these-lines
+      other-length (column vs) e =
+          let f = column-says volumeLine nodes file vs .0 e in
+          absurd (h (omega (arith, stand-length volumeLine (f .lines) file [] (f .stand .stand), f .stand .count)))
+      other-length not-these-lines e = e
 
   -- a line that does not pass
   pub sum-stop
       : (sum nodes n : ℕ) (f : Field) → n < nodes → SumSoFar sum n → f ≡ numberDue 999999 n (lineOf 86 2 (drop (n * 14) file)) → f ≡ Malformed
       → collected 16 0 ≡ sumIn prices work plan nodes (columnIn volumeLine nodes file)
-  unfolding statusAt dueAt columnIn
+  unfolding statusAt dueAt
   sum-stop sum nodes n f l s due none =
       let bad = number-fails n (beforeAt volumeLine file n) (lineOf 86 2 (drop (n * 14) file)) (sym due ∙ none) in
-      none-summed nodes (ap columnRead (lines-stop volumeLine file nodes n (lit< tt) l (s .passed) bad))
+      none-summed nodes (column-refused volumeLine nodes file _ (lines-stop volumeLine file nodes n (lit< tt) l (s .passed) bad))
 
   -- all lines
   sum-all

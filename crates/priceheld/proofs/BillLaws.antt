@@ -7,7 +7,7 @@ use Prim.Native.Nat.{ℕ, _≤_, _<_}
 use native.Mathlib.Omega.{arith}
 use lib.Dec.{eqb, leb}
 use lib.ListN.{length, getD}
-use borrow.Author.Tests.{eqb-true, eq-eqb, ne-eqb}
+use borrow.Author.Tests.{eqb-true}
 use Rattle.laws.specs.Bounded.{allBelow, sumBelow}
 use Rattle.laws.proofs.Bounded.{all-at, sum-cong}
 use Rattle.job.specs.Job.{Kind, isEvent, pointOf, Node, Job, nodeAt}
@@ -21,6 +21,7 @@ use Rattle.pricing.specs.declared.price.Price.{Price}
 use Rattle.pricing.specs.declared.price.Price.the-variants.{Cents, Refused}
 use Rattle.pricing.specs.Numbered.{Column, column, not-these-lines, columnIn}
 use Rattle.pricing.specs.Pricing.{volumeLine, cost, dayCost, centsOf, billed, pricedJob}
+use Rattle.pricing.proofs.PricingLaws.{priced-11, priced-12, priced-billed}
 use Rattle.pricing.specs.Inner.{PricesFit, NodeFit, Fit, costIn, sumIn, NodesFit, NodesHeld, Billed}
 
 -- a watched node that passes its test is a point
@@ -36,14 +37,9 @@ watched-point k b g w = go (isEvent k) refl
         absurd (omega arith)
 
 module _ (prices work plan volumes : List ℕ) (nodes : ℕ) where
-  -- the answer, past the tests of the plan, for any job whose nodes are held
-  abbrev answer : Job → Price
-  answer j = billed prices j plan (columnIn volumeLine (length (j .nodes)) volumes)
-
   -- the plan has another length
   pub bill-length : (length plan ≡ nodes → ⊥) → Billed prices work nodes plan volumes (Refused 11)
-  unfolding pricedJob
-  bill-length h j held = simp (ne-eqb (length plan) (length (j .nodes)) (λ e. h (e ∙ sym (held .count))))
+  bill-length h j held = sym (priced-11 prices j plan volumes (λ e. h (e ∙ sym (held .count))))
 
   module _ (long : length plan ≡ nodes) where
     -- the tests of the plan's bytes
@@ -52,8 +48,7 @@ module _ (prices work plan volumes : List ℕ) (nodes : ℕ) where
 
     -- a byte that its node may not have
     pub bill-marks : allBelow nodes (marks plan (nodeIn work)) ≡ false → Billed prices work nodes plan volumes (Refused 12)
-    unfolding pricedJob
-    bill-marks g j held = simp (eq-eqb (length plan) (length (j .nodes)) (long ∙ held .count), marks-are j held false g)
+    bill-marks g j held = sym (priced-12 prices j plan volumes (long ∙ held .count) (marks-are j held false g))
 
     module _ (good : allBelow nodes (marks plan (nodeIn work)) ≡ true) where
       -- what the sum needs
@@ -70,11 +65,6 @@ module _ (prices work plan volumes : List ℕ) (nodes : ℕ) where
             };
           }
 
-      -- both tests pass
-      tested : (j : Job) → NodesHeld j work nodes → pricedJob prices j plan volumes ≡ answer j
-      unfolding pricedJob
-      tested j held = simp (eq-eqb (length plan) (length (j .nodes)) (long ∙ held .count), marks-are j held true good)
-
       -- the sum over the buffer's nodes is that over the job's
       same-sum
           : (j : Job) (vs : List ℕ) → NodesHeld j work nodes → sumBelow nodes (λ n. costIn prices work plan n (getD vs n 0)) ≡ dayCost prices j plan vs
@@ -84,11 +74,11 @@ module _ (prices work plan volumes : List ℕ) (nodes : ℕ) where
           (λ n l. ap (λ (x : Node). cost prices (pointOf (x .kind)) (enables plan n) (getD vs n 0)) (held .node n l))
           ∙ ap (λ (m : ℕ). sumBelow m (λ n. cost prices (pointOf (nodeAt j n .kind)) (enables plan n) (getD vs n 0))) (held .count)
 
-      -- the volume file, as it is read for so many nodes
-      same-answer
-          : (j : Job) → NodesHeld j work nodes → (v : Column) → columnIn volumeLine nodes volumes ≡ v → answer j ≡ billed prices j plan v
-      same-answer j held v e =
-          ap (billed prices j plan) (ap (λ (m : ℕ). columnIn volumeLine m volumes) (sym (held .count)) ∙ e)
+      -- past both tests, what the volume file says
+      answer : (j : Job) → NodesHeld j work nodes → (v : Column) → columnIn volumeLine nodes volumes ≡ v → billed prices j plan v ≡ pricedJob prices j plan volumes
+      answer j held v e =
+          sym (priced-billed prices j plan volumes v (long ∙ held .count) (marks-are j held true good)
+          (ap (λ (m : ℕ). columnIn volumeLine m volumes) (sym (held .count)) ∙ e))
 
       module _ (r : Collected) (sum : r ≡ sumIn prices work plan nodes (columnIn volumeLine nodes volumes)) where
         -- the file is not these lines
@@ -99,7 +89,7 @@ module _ (prices work plan volumes : List ℕ) (nodes : ℕ) where
             go (column vs) e = absurd (h (ap (λ (x : Collected). x .status) (sum ∙ ap (sumIn prices work plan nodes) e)))
             go not-these-lines e =
                 ap (λ (x : Collected). Refused (x .status)) (sum ∙ ap (sumIn prices work plan nodes) e)
-                ∙ sym (tested j held ∙ same-answer j held not-these-lines e)
+                ∙ answer j held not-these-lines e
 
         -- the price
         pub bill-price : r .status ≡ 0 → (c : ℕ) → c ≡ centsOf (r .number) → Billed prices work nodes plan volumes (Cents c)
@@ -109,7 +99,7 @@ module _ (prices work plan volumes : List ℕ) (nodes : ℕ) where
             go (column vs) e =
                 let is : r ≡ collected 0 (sumBelow nodes (λ n. costIn prices work plan n (getD vs n 0))) = sum ∙ ap (sumIn prices work plan nodes) e in
                 ap Cents (price ∙ ap (λ (x : Collected). centsOf (x .number)) is ∙ ap centsOf (same-sum j vs held))
-                ∙ sym (tested j held ∙ same-answer j held (column vs) e)
+                ∙ answer j held (column vs) e
             go not-these-lines e =
                 let s : r .status ≡ 16 = ap (λ (x : Collected). x .status) (sum ∙ ap (sumIn prices work plan nodes) e) in
                 absurd (omega arith)

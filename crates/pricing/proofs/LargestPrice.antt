@@ -28,6 +28,7 @@ use Rattle.pricing.specs.Numbered.{writeColumn}
 use Rattle.pricing.specs.Pricing.{volumeLine, housePrices, cost, dayCost, centsOf, priced}
 use Rattle.pricing.specs.PricingSays.{Billable, maxPrice, dearest, LargestPrice}
 use Rattle.pricing.proofs.NumberedLaws.{column-says, written-column, column-within}
+use Rattle.pricing.proofs.PricingLaws.{cost-most}
 use Rattle.pricing.proofs.PricingSays.{price-of, price-sum, house-prices-say}
 
 -- ---- no price is larger
@@ -39,12 +40,6 @@ house-price-most s =
     (λ h. omega (arith, house-prices-say .rule s h))
     (λ h. omega (arith, List·getD-eq-default housePrices 0 {n = s} (omega (arith, house-prices-say .sixteen))))
 
--- what a node costs at most
-cost-most : (p : Point) (w : Bool) (volume : ℕ) → volume ≤ 999999 → cost housePrices p w volume ≤ 94999905
-cost-most no-point w volume h = omega arith
-cost-most (point s) true volume h = mul-le-mul h (house-price-most s)
-cost-most (point s) false volume h = omega arith
-
 -- what the points of a job cost at most
 day-cost-most
     : (j : Job) (plan counts : List ℕ) → length (j .nodes) ≤ 512 → ((n : ℕ) → getD counts n 0 ≤ 999999)
@@ -54,7 +49,7 @@ day-cost-most j plan counts few within =
       arith,
       sum-bound (length (j .nodes)) 94999905
           (λ n. cost housePrices (pointOf (nodeAt j n .kind)) (enables plan n) (getD counts n 0))
-          (λ n l. cost-most (pointOf (nodeAt j n .kind)) (enables plan n) (getD counts n 0) (within n)),
+          (λ n l. cost-most housePrices 95 (pointOf (nodeAt j n .kind)) (enables plan n) (getD counts n 0) house-price-most (within n)),
     )
 
 -- no price is larger
