@@ -21,7 +21,8 @@ fn cost_at(work: &[u8], plan: &[u8], n: usize, volume: u64, prices: &[u64; 16]) 
     if plan[n] != 1 {
         return 0;
     }
-    volume * prices[symbol_at(work, n)]
+    let symbol = symbol_at(work, n);
+    volume * prices[symbol]
 }
 
 // Adds up what a day's events cost at the watched points, by the V lines of the volume file: 0 beside the sum in thousandths of a cent, or 16
