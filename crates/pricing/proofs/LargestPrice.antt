@@ -1,12 +1,12 @@
--- No price is above 48,639,952 cents, and there is a job with that price.
+-- There is a job whose price is 48,639,952 cents, and no price is larger.
 -- Why: at most 512 points, each of at most 999,999 events a day at no more than 95 cents per thousand.
 -- Assumes nothing.
 use mathlib.Core.Path.{_≡_, refl, sym, ap, _∙_}
 use mathlib.Core.Logic.{by-cases}
-use mathlib.Core.Bool.{Bool, true, false, true≢false}
+use mathlib.Core.Bool.{true, false, true≢false}
 use mathlib.Core.List.{List, [], _∷_}
-use Prim.Native.Nat.{ℕ, zero, suc, _+_, _*_, _≤_, _<_}
-use native.Mathlib.Nat.{mul-le-mul, zero-mul, suc-mul}
+use Prim.Native.Nat.{ℕ, zero, suc, _*_, _≤_, _<_}
+use native.Mathlib.Nat.{zero-mul, suc-mul}
 use native.Mathlib.Decide.{decLt}
 use native.Mathlib.Omega.{arith}
 use lib.ListN.{length, getD, replicate, length-replicate, getD-replicate, List·getD-eq-default}
@@ -15,7 +15,7 @@ use Rattle.laws.specs.Bits.{has}
 use Rattle.laws.proofs.Bounded.{sum-bound}
 use Rattle.laws.proofs.Bits.{below-says}
 use Rattle.automaton.specs.Automaton.{automatonOf, cell}
-use Rattle.job.specs.Job.{event, Point, no-point, point, pointOf, Node, Job, noNode, nodeAt, holds, KindBelow, WellFormedJob}
+use Rattle.job.specs.Job.{event, pointOf, Node, Job, noNode, nodeAt, holds, KindBelow, WellFormedJob}
 use Rattle.job.specs.Plan.{enables}
 use Rattle.job.proofs.KindLaws.{plain-below, event-below}
 use Rattle.jobfile.specs.File.{writeJob}
@@ -31,35 +31,7 @@ use Rattle.pricing.proofs.NumberedLaws.{column-says, written-column, co
 use Rattle.pricing.proofs.PricingLaws.{cost-most}
 use Rattle.pricing.proofs.PricingSays.{price-of, price-sum, house-prices-say}
 
--- ---- no price is larger
-
--- the dearest symbol is the last; past it there is no price
-pub house-price-most : (s : ℕ) → getD housePrices s 0 ≤ 95
-house-price-most s =
-    by-cases (decLt s 16)
-    (λ h. omega (arith, house-prices-say .rule s h))
-    (λ h. omega (arith, List·getD-eq-default housePrices 0 {n = s} (omega (arith, house-prices-say .sixteen))))
-
--- what the points of a job cost at most
-day-cost-most
-    : (j : Job) (plan counts : List ℕ) → length (j .nodes) ≤ 512 → ((n : ℕ) → getD counts n 0 ≤ 999999)
-    → dayCost housePrices j plan counts ≤ 48639951360
-day-cost-most j plan counts few within =
-    omega (
-      arith,
-      sum-bound (length (j .nodes)) 94999905
-          (λ n. cost housePrices (pointOf (nodeAt j n .kind)) (enables plan n) (getD counts n 0))
-          (λ n l. cost-most housePrices 95 (pointOf (nodeAt j n .kind)) (enables plan n) (getD counts n 0) house-price-most (within n)),
-    )
-
--- no price is larger
-pub price-at-most : (file plan volumes : List ℕ) (c : ℕ) → priced file plan volumes ≡ Cents c → c ≤ maxPrice
-price-at-most file plan volumes c e =
-    let (j, counts, b, is) = price-sum file plan volumes e in
-    let few = read-written file j (b .spells) .1 .few-nodes in
-    omega (arith, is, day-cost-most j plan counts few (column-within 86 999999 16 (length (j .nodes)) volumes counts (b .lines)))
-
--- ---- there is a job with it
+-- ---- a job with it
 
 -- a watched point of symbol 15
 abbrev dearNode : Node
@@ -170,6 +142,34 @@ dearest-price =
     price-of (writeJob dearest) (replicate 512 1) (writeColumn 86 0 (replicate 512 999999))
     (dear-billable 512 (omega arith) (omega arith))
     ∙ ap (λ (t : ℕ). Cents (centsOf t)) (dear-cost 512)
+
+-- ---- no price is larger
+
+-- the dearest symbol is the last; past it there is no price
+pub house-price-most : (s : ℕ) → getD housePrices s 0 ≤ 95
+house-price-most s =
+    by-cases (decLt s 16)
+    (λ h. omega (arith, house-prices-say .rule s h))
+    (λ h. omega (arith, List·getD-eq-default housePrices 0 {n = s} (omega (arith, house-prices-say .sixteen))))
+
+-- what the points of a job cost at most
+day-cost-most
+    : (j : Job) (plan counts : List ℕ) → length (j .nodes) ≤ 512 → ((n : ℕ) → getD counts n 0 ≤ 999999)
+    → dayCost housePrices j plan counts ≤ 48639951360
+day-cost-most j plan counts few within =
+    omega (
+      arith,
+      sum-bound (length (j .nodes)) 94999905
+          (λ n. cost housePrices (pointOf (nodeAt j n .kind)) (enables plan n) (getD counts n 0))
+          (λ n l. cost-most housePrices 95 (pointOf (nodeAt j n .kind)) (enables plan n) (getD counts n 0) house-price-most (within n)),
+    )
+
+-- no price is larger
+pub price-at-most : (file plan volumes : List ℕ) (c : ℕ) → priced file plan volumes ≡ Cents c → c ≤ maxPrice
+price-at-most file plan volumes c e =
+    let (j, counts, b, is) = price-sum file plan volumes e in
+    let few = read-written file j (b .spells) .1 .few-nodes in
+    omega (arith, is, day-cost-most j plan counts few (column-within 86 999999 16 (length (j .nodes)) volumes counts (b .lines)))
 
 -- the largest price
 pub largest-price : LargestPrice

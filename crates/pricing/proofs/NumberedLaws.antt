@@ -4,11 +4,11 @@
 use mathlib.Core.Path.{_≡_, refl, sym, ap, _∙_}
 use mathlib.Core.Logic.{_↔_}
 use mathlib.Core.Bool.{true, and-eq-true-iff}
-use mathlib.Core.List.{List, [], _∷_, _++_, map, append-nil}
+use mathlib.Core.List.{List, [], _∷_, _++_, append-nil}
 use Prim.Native.Nat.{ℕ, zero, suc, _+_, _≤_, _<_}
 use native.Mathlib.Omega.{arith}
 use lib.Dec.{eqb, leb}
-use lib.ListN.{length, getD, length-map}
+use lib.ListN.{length, getD}
 use borrow.Author.Tests.{eq-eqb, le-leb, eqb-true, leb-true}
 use Rattle.lines.specs.Line.{line, at, writeLines}
 use Rattle.lines.specs.Lines.{LineKind, Lines, lines, refused, linesOf}
@@ -20,7 +20,7 @@ use Rattle.pricing.specs.Numbered.{goodNumbered, numberedLine, Column, c
 -- ---- the test of a line
 
 -- its place, and a number up to the limit
-pub numbered-test
+numbered-test
     : (limit i : ℕ) (before ns : List ℕ) → (goodNumbered limit i before ns ≡ true) ↔ ((at ns 0 ≡ i) × (at ns 1 ≤ limit))
 numbered-test limit i before ns = (
   λ t.
@@ -32,12 +32,12 @@ numbered-test limit i before ns = (
 -- ---- reading
 
 -- lines that stand alone in the file are read
-pub column-read
+column-read
     : (k : LineKind) (c : ℕ) (file : List ℕ) (ls : List (List ℕ)) → LinesAt k c 0 [] file ls [] → columnIn k c file ≡ column (numbersIn ls)
 unfolding columnIn
 column-read k c file ls l = ap columnRead (lines-says k c 0 [] file ls [] .1 l)
 
--- a file that is refused at a line, or after its lines, has no numbers
+-- a file that is refused at a line has no numbers
 pub column-refused : (k : LineKind) (c : ℕ) (file : List ℕ) (r : ℕ) → linesOf k c 0 [] file ≡ refused r → columnIn k c file ≡ not-these-lines
 unfolding columnIn
 column-refused k c file r e = ap columnRead e
@@ -53,7 +53,7 @@ tag (column ns) = 1
 tag not-these-lines = 0
 
 -- what is read is exactly these lines
-pub column-file
+column-file
     : (k : LineKind) (c : ℕ) (file numbers : List ℕ) → columnIn k c file ≡ column numbers → ColumnFile k c file numbers
 unfolding columnIn
 column-file k c file numbers e = go (linesOf k c 0 [] file) refl e
@@ -149,8 +149,3 @@ pub column-within
     : (letter limit refusal c : ℕ) (file numbers : List ℕ) → ColumnFile (numberedLine letter limit refusal) c file numbers
     → (n : ℕ) → getD numbers n 0 ≤ limit
 column-within letter limit refusal c file numbers f n = rw (f .are) (numbers-within letter limit refusal (f .stand .good) n)
-
--- there is one for each line
-pub column-length : (k : LineKind) (c : ℕ) (file numbers : List ℕ) → ColumnFile k c file numbers → length numbers ≡ c
-column-length k c file numbers f =
-    ap length (f .are) ∙ length-map (f .lines) (λ (ns : List ℕ). at ns 1) ∙ f .stand .count

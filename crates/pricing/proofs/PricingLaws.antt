@@ -1,9 +1,9 @@
 -- Laws of pricing, in the order of its tests: each refusal, and the price.
 -- Assumes nothing.
-use mathlib.Core.Path.{_≡_, refl, sym, ap, _∙_}
+use mathlib.Core.Path.{_≡_, ap}
 use mathlib.Core.Bool.{Bool, true, false}
 use mathlib.Core.List.{List}
-use Prim.Native.Nat.{ℕ, _+_, _*_, _/_, _≤_}
+use Prim.Native.Nat.{ℕ, _*_, _≤_}
 use native.Mathlib.Nat.{mul-le-mul}
 use native.Mathlib.Omega.{arith}
 use lib.ListN.{length, getD}
@@ -11,10 +11,9 @@ use borrow.Author.Tests.{eq-eqb, ne-eqb}
 use Rattle.job.specs.Job.{Point, no-point, point, Job}
 use Rattle.jobfile.specs.File.{Answer, accepted, turned, readJob}
 use Rattle.checking.specs.Checking.{goodMarks}
-use Rattle.pricing.specs.declared.price.Price.{Price}
-use Rattle.pricing.specs.declared.price.Price.the-variants.{Cents, Refused}
-use Rattle.pricing.specs.Numbered.{Column, column, not-these-lines, columnIn}
-use Rattle.pricing.specs.Pricing.{volumeLine, housePrices, cost, dayCost, centsOf, billed, pricedJob, answeredAt, priced}
+use Rattle.pricing.specs.declared.price.Price.the-variants.{Refused}
+use Rattle.pricing.specs.Numbered.{Column, columnIn}
+use Rattle.pricing.specs.Pricing.{volumeLine, housePrices, cost, centsOf, billed, pricedJob, answeredAt, priced}
 use Rattle.pricing.specs.PricingSays.{Covers}
 
 -- ---- the answer for a job
@@ -58,7 +57,7 @@ pub cost-most
     → cost prices p w volume ≤ 999999 * top
 cost-most prices top no-point w volume most few = omega arith
 cost-most prices top (point s) true volume most few = mul-le-mul few (most s)
-cost-most prices top (point s) false volume most few = omega arith
+cost-most prices top (point s) false volume most few = omega (arith, mul-le-mul few (most s))
 
 -- ---- cents
 

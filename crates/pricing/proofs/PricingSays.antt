@@ -7,10 +7,10 @@ use mathlib.Core.Bool.{Bool, true, false, _&&_, true≢false}
 use mathlib.Core.List.{List}
 use Prim.Native.Nat.{ℕ, zero, suc, _+_, _*_, _≤_, _<_}
 use native.Mathlib.Omega.{arith}
-use lib.Dec.{eqb, leb}
+use lib.Dec.{eqb}
 use lib.ListN.{length, getD}
 use borrow.Author.Tests.{eqb-true, eqb-false, lt-leb, le-leb}
-use Rattle.laws.specs.Bounded.{allBelow, tab}
+use Rattle.laws.specs.Bounded.{allBelow}
 use Rattle.laws.proofs.Bounded.{all-of, all-at, length-tab, getD-tab}
 use Rattle.laws.proofs.Tests.{passes-or-fails, fails-of}
 use Rattle.callnumber.specs.CallNumber.{acceptedFrom}
@@ -24,7 +24,7 @@ use Rattle.pricing.specs.declared.price.Price.{Price}
 use Rattle.pricing.specs.declared.price.Price.the-variants.{Cents, Refused}
 use Rattle.pricing.specs.Numbered.{Column, column, not-these-lines, columnIn, ColumnFile}
 use Rattle.pricing.specs.Pricing.{volumeLine, housePrices, dayCost, centsOf, pricedJob, priced, priceNumber}
-use Rattle.pricing.specs.PricingSays.{Billable, Covers, SaysPrice, PriceRefused, job-refused, other-length, other-mark, other-lines, RefusesPrice, HousePricesSay, priceToldBy, PriceByNumber}
+use Rattle.pricing.specs.PricingSays.{Billable, SaysPrice, PriceRefused, job-refused, other-length, other-mark, other-lines, RefusesPrice, HousePricesSay, priceToldBy, PriceByNumber}
 use Rattle.pricing.proofs.NumberedLaws.{column-says}
 use Rattle.pricing.proofs.PricingLaws.{priced-11, priced-12, priced-billed, priced-turned, priced-job, cents-covers, covers-cents}
 
@@ -54,11 +54,11 @@ module _ (j : Job) (plan : List ℕ) where
   good n = goodMark (nodeAt j n .kind) (getD plan n 0)
 
   -- bytes that pass the test are such
-  pub marked : goodMarks j plan ≡ true → Marked
+  marked : goodMarks j plan ≡ true → Marked
   marked g n i = good-mark (nodeAt j n .kind) (getD plan n 0) (all-at (length (j .nodes)) good g n i)
 
   -- such bytes pass it
-  pub marks-good : Marked → goodMarks j plan ≡ true
+  marks-good : Marked → goodMarks j plan ≡ true
   marks-good m = all-of (length (j .nodes)) good (λ n i. mark-good (m n i))
 
 -- ---- the answer
@@ -179,12 +179,12 @@ house-prices-say =
 -- ---- the number
 
 -- a refusal's number is small
-abbrev pub SmallRefusal : Price → Type 0
+abbrev SmallRefusal : Price → Type 0
 SmallRefusal (Cents c) = Unit {0}
 SmallRefusal (Refused k) = k ≤ 16
 
 -- that of pricing
-pub priced-small : (file plan volumes : List ℕ) → SmallRefusal (priced file plan volumes)
+priced-small : (file plan volumes : List ℕ) → SmallRefusal (priced file plan volumes)
 priced-small file plan volumes = go (said file plan volumes)
   where
     small : {r : ℕ} → PriceRefused file plan volumes r → r ≤ 16

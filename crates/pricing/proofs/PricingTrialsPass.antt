@@ -1,6 +1,6 @@
 -- The plans of the table are priced as they should be: the definitions are computed, row by row.
 -- Assumes nothing.
-use mathlib.Core.Path.{_≡_, refl}
+use mathlib.Core.Path.{refl}
 use Rattle.laws.specs.Bounded.{allBelow, sumBelow, tab}
 use Rattle.laws.specs.Bits.{has}
 use Rattle.lines.specs.Line.{digitsOf, fieldOf, fieldsOf, lineOf}

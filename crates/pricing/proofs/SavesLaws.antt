@@ -1,11 +1,11 @@
 -- What a plan saves: a plan costs no more than one in which its watched points are watched, so planning's own plan costs no more than all
 -- points watched. Each node costs no more, so the sum is no larger, and neither are its cents.
 -- Assumes nothing.
-use mathlib.Core.Path.{_≡_, refl, sym, ap, _∙_, subst}
+use mathlib.Core.Path.{_≡_, refl, sym, subst}
 use mathlib.Core.Logic.{⊎-elim}
 use mathlib.Core.Bool.{Bool, true, false, true≢false}
 use mathlib.Core.List.{List}
-use Prim.Native.Nat.{ℕ, _+_, _*_, _/_, _≤_}
+use Prim.Native.Nat.{ℕ, _*_, _≤_}
 use native.Mathlib.Nat.{le-refl}
 use native.Mathlib.Omega.{arith}
 use lib.ListN.{length, getD}
@@ -20,9 +20,9 @@ use Rattle.planning.specs.Listing.{planOf}
 use Rattle.planning.proofs.PlanBytes.{enabled-byte, lowered-watches, all-enabled-plan}
 use Rattle.planning.proofs.PlanningResult.{planned-lowered, planned-plan}
 use Rattle.jobfile.specs.File.{accepted, readJob}
-use Rattle.checking.specs.CheckingSays.{MarkFor, unwatched, watched}
+use Rattle.checking.specs.CheckingSays.{unwatched, watched}
 use Rattle.pricing.specs.declared.price.Price.the-variants.{Cents}
-use Rattle.pricing.specs.Numbered.{column, columnIn, ColumnFile}
+use Rattle.pricing.specs.Numbered.{ColumnFile}
 use Rattle.pricing.specs.Pricing.{volumeLine, housePrices, cost, dayCost, centsOf, priced}
 use Rattle.pricing.specs.PricingSays.{Billable, WatchedIn, Saves}
 use Rattle.pricing.proofs.NumberedLaws.{column-says}
@@ -39,7 +39,7 @@ cost-le prices (point s) true false volume h = absurd (true≢false (sym (h refl
 cost-le prices (point s) false w volume h = omega arith
 
 -- so the sum is no larger
-pub day-cost-le
+day-cost-le
     : (prices : List ℕ) (j : Job) (plan other counts : List ℕ) → WatchedIn plan other
     → dayCost prices j plan counts ≤ dayCost prices j other counts
 day-cost-le prices j plan other counts h =
