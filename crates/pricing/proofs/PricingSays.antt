@@ -24,7 +24,7 @@ use Rattle.pricing.specs.declared.price.Price.{Price}
 use Rattle.pricing.specs.declared.price.Price.the-variants.{Cents, Refused}
 use Rattle.pricing.specs.Numbered.{Column, column, not-these-lines, columnIn, ColumnFile}
 use Rattle.pricing.specs.Pricing.{volumeLine, housePrices, dayCost, centsOf, pricedJob, priced, priceNumber}
-use Rattle.pricing.specs.PricingSays.{Billable, SaysPrice, PriceRefused, job-refused, other-length, other-mark, other-lines, RefusesPrice, HousePricesSay, priceToldBy, PriceByNumber}
+use Rattle.pricing.specs.PricingSays.{Billable, SaysPrice, PriceRefused, job-refused, other-length, other-mark, other-lines, RefusesPrice, HousePricesSay, priceRead, PriceByNumber}
 use Rattle.pricing.proofs.NumberedLaws.{column-says}
 use Rattle.pricing.proofs.PricingLaws.{priced-11, priced-12, priced-billed, priced-turned, priced-job, cents-covers, covers-cents}
 
@@ -198,7 +198,7 @@ priced-small file plan volumes = go (said file plan volumes)
     go (has-refusal b) = small b
 
 -- an answer with a small refusal is read back
-read-small : (p : Price) → SmallRefusal p → priceToldBy (priceNumber p) ≡ p
+read-small : (p : Price) → SmallRefusal p → priceRead (priceNumber p) ≡ p
 read-small (Cents c) s = simp (le-leb acceptedFrom (acceptedFrom + c) (omega arith)) (ap Cents (omega arith))
 read-small (Refused k) s = simp (lt-leb acceptedFrom k (omega arith))
 
