@@ -58,13 +58,13 @@ fn run(source: &str, compiler: &str, options: &[&str], arguments: &[PathBuf]) ->
 fn every_call_from_c_answers_and_leaves_what_the_header_says() {
     let said = run(CALLS, "cc", C99, &[]).expect("cc is installed");
     println!("C99: {}", said.trim_end());
-    assert_eq!(said, "324 tests, 0 failed\n");
+    assert_eq!(said, "410 tests, 0 failed\n");
 }
 
 #[test]
 fn header_is_c_plus_plus_too() {
     match run(CALLS, "c++", &["-x", "c++", "-std=c++11"], &[]) {
-        Some(said) => assert_eq!(said, "324 tests, 0 failed\n"),
+        Some(said) => assert_eq!(said, "410 tests, 0 failed\n"),
         None => println!("no C++ compiler is installed"),
     }
 }
