@@ -73,10 +73,11 @@ fn plans(calls: &mut Calls) -> Result<(), String> {
 /// Plans to be priced, with volume files that are cut short or have lines past the last.
 fn volume_files(calls: &mut Calls) -> Result<(), String> {
     let file = pair().file();
-    let thousands = volumes::file(&[1_000; 5_000]);
+    let spaced = volumes::file(&[1_000; 5_000]);
+    let both = [spaced.clone(), zero_filled(spaced)];
     for plan in LENGTHS.into_iter().chain([2, 3, 4]) {
         for len in LENGTHS.into_iter().chain(0..=4 * 14) {
-            for volumes in [&thousands, &zero_filled(thousands.clone())] {
+            for volumes in &both {
                 let number = calls.price(&file, &vec![0; plan], &volumes[..len]);
                 let wanted = match (plan, len) {
                     (3, 42) => ACCEPTED,
