@@ -1,4 +1,5 @@
 //! The library and the second implementation on the same calls.
+use dapohiru_compare::checking;
 use dapohiru_compare::memory::Counts;
 use dapohiru_compare::pricing::{cases, refused, Case, Memory};
 use dapohiru_compare::wrapper::WRAPPER;
@@ -8,6 +9,7 @@ use dapohiru_generators::random::Random;
 use dapohiru_generators::sized::{self, Sizes, FULL};
 use dapohiru_generators::spread::Spread;
 use dapohiru_generators::{small, volumes};
+use dapohiru_plain::read::Decoded;
 use dapohiru_second::job::Job;
 use dapohiru_second::pricing::Answer;
 use std::collections::BTreeSet;
@@ -121,6 +123,29 @@ fn damaged_job_files_agree() {
     calls.counts.print(&format!("{FILES} files"));
     calls.counts.came((3..=10).map(Some).chain([None]));
     assert!(calls.counts.of(None) as usize * 20 > FILES);
+}
+
+#[test]
+fn plain_price_of_the_benchmark_agrees_with_the_second() {
+    const JOBS: usize = 6_000;
+    let mut random = Random::of_this_run();
+    let mut decoded = Decoded::new();
+    let mut counts = Counts::default();
+    for number in 0..JOBS {
+        let job = match number % 100 {
+            0 => mixed::full_job(&mut random, number, 3),
+            _ => mixed::small_job(&mut random),
+        };
+        for case in cases(&mut random, &job) {
+            let checking::Case { file, plan, .. } = &case.checking;
+            let price = dapohiru_plain::price::price(&mut decoded, file, plan, &case.volumes);
+            let answer = price.map_or_else(Answer::Refused, Answer::Cents);
+            assert_eq!(answer, case.wanted(None), "job {number}: {}", case.words());
+            counts.add(refused(answer));
+        }
+    }
+    counts.print(&format!("{JOBS} jobs"));
+    counts.came(all_answers());
 }
 
 /// A plan of a job: its own points, none, or any of them.

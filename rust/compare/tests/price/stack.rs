@@ -88,19 +88,17 @@ fn taken_by(room: &mut Room, case: &Case) -> (usize, u64) {
     (made.caller - lowest, made.number)
 }
 
-/// The bytes that the header says.
-fn said_by_the_header() -> usize {
-    let header = Path::new(env!("CARGO_MANIFEST_DIR")).join("../../include/dapohiru.h");
-    let text = fs::read_to_string(header).expect("the header is there");
-    let words: Vec<_> = text
-        .split_whitespace()
-        .filter(|&word| word != "*")
-        .collect();
+/// The bytes that the header or the wrapper says.
+fn said_by(path: &str) -> usize {
+    let path = Path::new(env!("CARGO_MANIFEST_DIR"))
+        .join("../..")
+        .join(path);
+    let text = fs::read_to_string(&path).expect("the source is there");
+    let words = text.split_whitespace();
+    let words: Vec<_> = words.filter(|word| !["*", "///"].contains(word)).collect();
     let text = words.join(" ");
-    let (before, _) = text
-        .split_once(" bytes of its caller's stack")
-        .expect("the header says how much");
-    let number = before.rsplit(' ').next().expect("a number");
+    let (_, after) = text.split_once(" takes less than ").expect("it is said");
+    let number = after.split(" bytes of ").next().expect("a number");
     number.replace(',', "").parse().expect("a number")
 }
 
@@ -125,7 +123,8 @@ fn call_takes_less_of_the_stack_than_the_header_says() {
         "at most {} bytes where it is refused, {} where there is a price",
         most[0], most[1]
     );
-    let said = said_by_the_header();
+    let said = said_by("include/dapohiru.h");
+    assert_eq!(said, said_by("rust/src/lib.rs"));
     assert!(
         most.into_iter().all(|most| most < said),
         "{most:?}, and not {said}"
