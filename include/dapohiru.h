@@ -101,7 +101,7 @@ uint64_t dapohiru_check(const uint8_t *job, size_t job_len, const uint8_t *plan,
  * volume file has a V line for each node in order, with the node and its events a day, 0 to 999,999, in fields of
  * six columns as those of the job file. A thousand events of symbol s cost 20 + 5 s cents. Returns
  * DAPOHIRU_ACCEPTED plus the cents, a part of a cent in the sum counted as a cent; or a refusal, 1, 3 to 12, or 16,
- * which comes last. The call is lent no work buffer, so that there is no 2: it takes less than 81,920 bytes of
+ * which comes last. The call is lent no work buffer, so that there is no 2: it takes less than 73,728 bytes of
  * its caller's stack.
  */
 uint64_t dapohiru_price(const uint8_t *job, size_t job_len, const uint8_t *plan, size_t plan_len, const uint8_t *volumes, size_t volumes_len);

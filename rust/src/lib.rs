@@ -231,7 +231,7 @@ pub fn check(job: &[u8], plan: &[u8], work: &mut [u8]) -> Result<Verdict, Refusa
 /// watched points counts as a cent.
 ///
 /// Refused are 1, 3 to 12, and 16, which comes last. No work buffer is lent, so that there is no 2: the
-/// call takes less than 81,920 bytes of the stack.
+/// call takes less than 73,728 bytes of the stack.
 ///
 /// ```
 /// use dapohiru::{price, Refusal};

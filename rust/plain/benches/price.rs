@@ -19,6 +19,9 @@ const JOBS: usize = 300;
 /// Repetitions of each program, taken in turn.
 const REPETITIONS: usize = 41;
 
+/// Makes a job.
+type Make = fn(&mut Random) -> Job;
+
 /// What a call gets.
 struct Load {
     file: Vec<u8>,
@@ -120,7 +123,7 @@ fn main() {
     let mut decoded = Decoded::new();
     println!("milliseconds for {JOBS} plans, median of {REPETITIONS} repetitions");
     println!("{:<40} dapohiru_price   plain Rust   ratio", "");
-    let jobs: [(&str, fn(&mut Random) -> Job); 2] = [
+    let jobs: [(&str, Make); 2] = [
         ("full size", |random| sized::job(random, FULL)),
         ("512 points, no edge", points),
     ];

@@ -39,6 +39,8 @@ mod ffi {
 
 /// The length of the stack.
 const STACK: usize = 1 << 18;
+/// How much more than it takes the header may say.
+const ROOM: usize = 8_192;
 /// What stands in it before.
 const FILL: u8 = 0xa5;
 
@@ -125,10 +127,10 @@ fn call_takes_less_of_the_stack_than_the_header_says() {
     );
     let said = said_by("include/dapohiru.h");
     assert_eq!(said, said_by("rust/src/lib.rs"));
+    // where the loader binds `memset` at the first call, that takes some 3,000 bytes more
+    let right = said - ROOM..said - 4_096;
     assert!(
-        most.into_iter().all(|most| most < said),
-        "{most:?}, and not {said}"
+        most.iter().all(|most| right.contains(most)),
+        "{most:?}, and {said} is said"
     );
-    // the job is held there
-    assert!(most.into_iter().all(|most| most > dapohiru::WORK_LEN));
 }
