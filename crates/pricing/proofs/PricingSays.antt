@@ -8,18 +8,18 @@ use mathlib.Core.List.{List}
 use Prim.Native.Nat.{ℕ, zero, suc, _+_, _*_, _≤_, _<_}
 use native.Mathlib.Omega.{arith}
 use lib.Dec.{eqb}
-use lib.ListN.{length, getD}
+use lib.ListN.{length}
 use borrow.Author.Tests.{eqb-true, eqb-false, lt-leb, le-leb}
 use Rattle.laws.specs.Bounded.{allBelow}
-use Rattle.laws.proofs.Bounded.{all-of, all-at, length-tab, getD-tab}
+use Rattle.laws.proofs.Bounded.{length-tab, getD-tab}
 use Rattle.laws.proofs.Tests.{passes-or-fails, fails-of}
 use Rattle.callnumber.specs.CallNumber.{acceptedFrom}
 use Rattle.job.specs.Job.{Job, nodeAt}
 use Rattle.jobfile.specs.File.{Answer, accepted, turned, readJob}
 use Rattle.jobfile.proofs.ListingFits.{listing-fits}
-use Rattle.checking.specs.Checking.{goodMark, goodMarks}
-use Rattle.checking.specs.CheckingSays.{MarkFor}
-use Rattle.checking.proofs.CheckingSays.{good-mark, mark-good}
+use Rattle.checking.specs.Checking.{goodMarks}
+use Rattle.checking.proofs.CheckLaws.{marks}
+use Rattle.checking.proofs.CheckingSays.{mark-good, marks-say}
 use Rattle.pricing.specs.declared.price.Price.{Price}
 use Rattle.pricing.specs.declared.price.Price.the-variants.{Cents, Refused}
 use Rattle.pricing.specs.Numbered.{Column, column, not-these-lines, columnIn, ColumnFile}
@@ -43,23 +43,6 @@ fails-at (suc n) f h =
     and-true : (a b : Bool) → b ≡ true → (a && b) ≡ a
     and-true true b e = e
     and-true false b e = refl
-
-module _ (j : Job) (plan : List ℕ) where
-  -- every node may have its byte
-  abbrev pub Marked : Type 0
-  Marked = (n : ℕ) → n < length (j .nodes) → MarkFor (nodeAt j n .kind) (getD plan n 0)
-
-  -- the node may have its byte
-  abbrev good : ℕ → Bool
-  good n = goodMark (nodeAt j n .kind) (getD plan n 0)
-
-  -- bytes that pass the test are such
-  marked : goodMarks j plan ≡ true → Marked
-  marked g n i = good-mark (nodeAt j n .kind) (getD plan n 0) (all-at (length (j .nodes)) good g n i)
-
-  -- such bytes pass it
-  marks-good : Marked → goodMarks j plan ≡ true
-  marks-good m = all-of (length (j .nodes)) good (λ n i. mark-good (m n i))
 
 -- ---- the answer
 
@@ -85,10 +68,10 @@ module _ (prices file plan volumes : List ℕ) where
         go : (x : Column) → columnIn volumeLine (length (j .nodes)) volumes ≡ x → Says (pricedAt prices file plan volumes)
         go (column counts) e =
             of-job (priced-billed prices j plan volumes (column counts) bytes g e)
-            (has-price (record { spells = spells; bytes = bytes; marks = marked j plan g; lines = lines-are counts .0 e }))
+            (has-price (record { spells = spells; bytes = bytes; marks = marks-say j plan .0 g; lines = lines-are counts .0 e }))
         go not-these-lines e =
             of-job (priced-billed prices j plan volumes not-these-lines bytes g e)
-            (has-refusal (other-lines spells bytes (marked j plan g)
+            (has-refusal (other-lines spells bytes (marks-say j plan .0 g)
             (λ counts f. let z : _≡_ {A = ℕ} 0 1 = cc (e, lines-are counts .1 f) in omega arith)))
 
     -- the answer for a job
@@ -100,7 +83,7 @@ module _ (prices file plan volumes : List ℕ) where
         ⊎-elim
         (λ (g : goodMarks j plan ≡ true). said-volumes bytes g)
         (λ (g : goodMarks j plan ≡ false).
-        let (n, within, bad) = fails-at (length (j .nodes)) (good j plan) g in
+        let (n, within, bad) = fails-at (length (j .nodes)) (marks plan (nodeAt j)) g in
         of-job (priced-12 prices j plan volumes bytes g)
         (has-refusal (other-mark spells bytes within (λ m. true≢false (sym (mark-good m) ∙ bad)))))
         (passes-or-fails (goodMarks j plan)))
@@ -123,7 +106,7 @@ module _ (prices file plan volumes : List ℕ) where
       → pricedAt prices file plan volumes ≡ Cents (centsOf (dayCost prices j plan counts))
   price-of {j} {counts} b =
       priced-job prices file plan volumes j (b .spells)
-      ∙ priced-billed prices j plan volumes (column counts) (b .bytes) (marks-good j plan (b .marks))
+      ∙ priced-billed prices j plan volumes (column counts) (b .bytes) (marks-say j plan .1 (b .marks))
       (column-says volumeLine (length (j .nodes)) volumes counts .1 (b .lines))
 
   -- a price is that of the sum, and nothing is turned back
@@ -144,10 +127,10 @@ module _ (prices file plan volumes : List ℕ) where
   refused-answer (other-mark {j} {n} e bytes within bad) =
       priced-job prices file plan volumes j e
       ∙ priced-12 prices j plan volumes bytes
-      (fails-of (goodMarks j plan) (λ g. bad (marked j plan g n within)))
+      (fails-of (goodMarks j plan) (λ g. bad (marks-say j plan .0 g n within)))
   refused-answer (other-lines {j} e bytes marks none) =
       priced-job prices file plan volumes j e
-      ∙ priced-billed prices j plan volumes not-these-lines bytes (marks-good j plan marks)
+      ∙ priced-billed prices j plan volumes not-these-lines bytes (marks-say j plan .1 marks)
       (go (columnIn volumeLine (length (j .nodes)) volumes) refl)
     where
       go : (x : Column) → columnIn volumeLine (length (j .nodes)) volumes ≡ x → x ≡ not-these-lines

@@ -5,7 +5,7 @@ use mathlib.Core.Path.{_≡_, refl, sym, subst}
 use mathlib.Core.Logic.{⊎-elim}
 use mathlib.Core.Bool.{Bool, true, false, true≢false}
 use mathlib.Core.List.{List}
-use Prim.Native.Nat.{ℕ, _*_, _≤_}
+use Prim.Native.Nat.{ℕ, _*_, _≤_, _<_}
 use native.Mathlib.Nat.{le-refl}
 use native.Mathlib.Omega.{arith}
 use lib.ListN.{length, getD}
@@ -20,13 +20,13 @@ use Rattle.planning.specs.Listing.{planOf}
 use Rattle.planning.proofs.PlanBytes.{enabled-byte, lowered-watches, all-enabled-plan}
 use Rattle.planning.proofs.PlanningResult.{planned-lowered, planned-plan}
 use Rattle.jobfile.specs.File.{accepted, readJob}
-use Rattle.checking.specs.CheckingSays.{unwatched, watched}
+use Rattle.checking.specs.CheckingSays.{MarkFor, unwatched, watched}
 use Rattle.pricing.specs.declared.price.Price.the-variants.{Cents}
 use Rattle.pricing.specs.Numbered.{ColumnFile}
 use Rattle.pricing.specs.Pricing.{volumeLine, cost, dayCost, centsOf, pricedAt}
 use Rattle.pricing.specs.PricingSays.{Billable, WatchedIn, Saves}
 use Rattle.pricing.proofs.NumberedLaws.{column-says}
-use Rattle.pricing.proofs.PricingSays.{Marked, price-of, price-sum}
+use Rattle.pricing.proofs.PricingSays.{price-of, price-sum}
 
 -- ---- the sum
 
@@ -84,7 +84,8 @@ no-dearer prices file plan other volumes c d h p q =
 -- ---- planning's own plan
 
 -- a plan of the job has a byte that each node may have
-plan-marked : {j : Job} {plan : List ℕ} → IsPlan j plan → Marked j plan
+plan-marked
+    : {j : Job} {plan : List ℕ} → IsPlan j plan → (n : ℕ) → n < length (j .nodes) → MarkFor (nodeAt j n .kind) (getD plan n 0)
 plan-marked {j} {plan} v n h =
     ⊎-elim
     (λ (w : enables plan n ≡ true). rw (enabled-byte plan n w) (watched (v .shadows n w)))
