@@ -31,7 +31,7 @@ use Rattle.checking.proofs.CheckLaws.{judged-11, judged-12, judged-verd
 -- ---- plan bytes
 
 -- a byte that passes the test is one of those
-good-mark : (k : Kind) (b : ℕ) → goodMark k b ≡ true → MarkFor k b
+pub good-mark : (k : Kind) (b : ℕ) → goodMark k b ≡ true → MarkFor k b
 good-mark k b h = go b (isEvent k) refl h
   where
     go : (b : ℕ) (e : Bool) → isEvent k ≡ e → cond e (leb b 1) (eqb b 0) ≡ true → MarkFor k b
@@ -49,7 +49,7 @@ zero-good k = go (isEvent k)
     go false = refl
 
 -- those pass
-mark-good : {k : Kind} {b : ℕ} → MarkFor k b → goodMark k b ≡ true
+pub mark-good : {k : Kind} {b : ℕ} → MarkFor k b → goodMark k b ≡ true
 mark-good (unwatched {k}) = zero-good k
 mark-good (watched is) = rw is refl
 

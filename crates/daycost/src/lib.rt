@@ -1,6 +1,6 @@
 // What a day's events cost: the volume file read, and the sum over the watched points.
 ghost use mathlib.Core.Path.{_≡_};
-ghost use Prim.Native.Nat.{_≤_, _<_};
+ghost use Prim.Native.Nat.{_^_, _≤_, _<_};
 ghost use lib.ListN.{length};
 ghost use Rattle.buffer.specs.Layout.{Lent};
 ghost use Rattle.pricing.specs.Numbered.{columnIn};
@@ -21,7 +21,8 @@ fn cost_at(work: &[u8], plan: &[u8], n: usize, volume: u64, prices: &[u64; 16]) 
     if plan[n] != 1 {
         return 0;
     }
-    volume * prices[symbol_at(work, n)]
+    let symbol = symbol_at(work, n);
+    volume * prices[symbol]
 }
 
 // Adds up what a day's events cost at the watched points, by the V lines of the volume file: 0 beside the sum in thousandths of a cent, or 16
@@ -34,7 +35,8 @@ pub fn day_cost(
     prices: &[u64; 16],
 ) -> Collected
     requires { ⌜ Fit (now work) (now plan) (now prices) nodes ⌝ }
-    ensures { λ r. ⌜ r ≡ sumIn (now (prices .entry)) (now (work .entry)) (now (plan .entry)) nodes (columnIn volumeLine nodes (now (volumes .entry))) ⌝ }
+    ensures { λ r. ⌜ (r ≡ sumIn (now (prices .entry)) (now (work .entry)) (now (plan .entry)) nodes (columnIn volumeLine nodes (now (volumes .entry))))
+        × (r .number < 2 ^ 48) ⌝ }
 {
     if volumes.len() != nodes * 14 {
         return refused(16);

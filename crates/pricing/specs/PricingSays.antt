@@ -107,9 +107,9 @@ pub record LargestPrice : Type 0 where
 -- ---- the number
 
 -- the answer that a number tells: from 2^48 on the cents, any other a refusal
-abbrev pub priceToldBy : ℕ → Price
-priceToldBy n = cond (leb acceptedFrom n) (Cents (n - acceptedFrom)) (Refused n)
+abbrev pub priceRead : ℕ → Price
+priceRead n = cond (leb acceptedFrom n) (Cents (n - acceptedFrom)) (Refused n)
 
 -- the statement: a caller reads back the price or the refusal from the number
 abbrev pub PriceByNumber : Type 0
-PriceByNumber = (file plan volumes : List ℕ) → priceToldBy (priceNumber (priced file plan volumes)) ≡ priced file plan volumes
+PriceByNumber = (file plan volumes : List ℕ) → priceRead (priceNumber (priced file plan volumes)) ≡ priced file plan volumes
