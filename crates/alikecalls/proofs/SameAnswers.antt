@@ -78,6 +78,8 @@ same-answers =
       no-further = λ f g due same d a. one-answer f g same (alike-says .no-further f g due same d a);
       volumes = λ file f g j spells a.
           one-price file f g j spells (numbered-say-alike .read-alike volumeLine (length (j .nodes)) f g a);
-      volumes-no-further = λ file f g j r spells b a.
-          one-price file f g j spells (numbered-say-alike .no-further volumeLine (length (j .nodes)) f g r b a);
+      volumes-turned-back = λ file f g j r spells b a.
+          one-price file f g j spells (numbered-say-alike .turned-back volumeLine (length (j .nodes)) f g r b a);
+      volumes-no-further = λ file f g due j spells long d a.
+          one-price file f g j spells (numbered-say-alike .no-further volumeLine (length (j .nodes)) f g due long d a);
     }

@@ -24,12 +24,16 @@ pub record AlikeColumn (k : LineKind) (c : ℕ) (f g : List ℕ) : Type 0 where
   pub lines : ColumnDue k c f due
   pub over : AlikeOver due f g
 
--- the statement: every file is alike itself; files alike are so either way, and are read alike; of a file that is turned back at a line, what
--- follows that line is not looked at
+-- the statement: every file is alike itself; files alike are so either way, and are read alike. Of a file that is turned back at a line, what
+-- follows that line is not looked at. Files of one length with alike lines due are read alike whatever follows these lines: a file that is
+-- more than its lines is "not exactly these lines" by any bytes
 pub record NumberedSayAlike : Type 0 where
   pub itself : (k : LineKind) (c : ℕ) (f : List ℕ) → AlikeColumn k c f f
   pub either-way : (k : LineKind) (c : ℕ) (f g : List ℕ) → AlikeColumn k c f g → AlikeColumn k c g f
   pub read-alike : (k : LineKind) (c : ℕ) (f g : List ℕ) → AlikeColumn k c f g → columnIn k c f ≡ columnIn k c g
-  pub no-further
+  pub turned-back
       : (k : LineKind) (c : ℕ) (f g : List ℕ) (r : ℕ) (b : FirstBad k c 0 [] f r)
       → AlikeUpTo (replicate (length (b .passed)) (k .count) ++ (k .count ∷ [])) f g → columnIn k c f ≡ columnIn k c g
+  pub no-further
+      : (k : LineKind) (c : ℕ) (f g due : List ℕ) → length f ≡ length g → ColumnDue k c f due → AlikeUpTo due f g
+      → columnIn k c f ≡ columnIn k c g
