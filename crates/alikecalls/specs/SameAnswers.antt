@@ -1,7 +1,7 @@
 -- "A file with them", zeros before a number's digits, "must give the same answer as the file written without" (document 02, request 5): of
 -- every call that is lent a job file or a volume file, the answer, its number and every lent byte. Which job files are alike is `jobfile`'s
--- `Alike.antt`, and which volume files `pricing`'s `NumberedAlike.antt`; the file written without zeros is alike each file of its job
--- (`ReadsWhatIsWritten` of `Spellable.antt`).
+-- `Alike.antt`: the one written without zeros is alike each file of its job (`ReadsWhatIsWritten` of `Spellable.antt`). Which volume files are
+-- alike is `pricing`'s `NumberedAlike.antt`: the one written without zeros is alike each file of its volumes (`written` there).
 -- Assumes nothing.
 use mathlib.Core.Path.{_≡_}
 use mathlib.Core.Bool.{Bool, false}
