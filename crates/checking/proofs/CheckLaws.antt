@@ -151,7 +151,7 @@ pub checked-read
     : (file plan : List ℕ) (size : ℕ) → length file ≤ maxFile → workSize ≤ size → checked file plan size ≡ answered (readJob file) plan
 unfolding checked
 checked-read file plan size h g =
-    ap (λ (a : Answer). answered a plan) (admitted-read file (ltb size workSize) h (le-ltb size workSize g))
+    ap (λ (a : Answer). answered a plan) (admitted-read file (ltb size workSize) (le-ltb size workSize g))
 
 -- the answer for a job leaves the buffer cleared
 left-judged : (j : Job) (plan work : List ℕ) → workLeft (judged j plan) work ≡ cleared work

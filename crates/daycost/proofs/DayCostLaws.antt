@@ -1,13 +1,13 @@
 -- Laws of a node's cost, and of the sum over the V lines, in the shape of the code.
 -- Assumes nothing.
 use mathlib.Core.Path.{_≡_, refl, sym, ap, _∙_, subst}
-use mathlib.Core.Bool.{Bool, true, false, cond, true≢false, and-eq-true-iff}
-use mathlib.Core.List.{List, [], _∷_, map}
-use Prim.Native.Nat.{ℕ, zero, suc, _+_, _*_, _%_, _^_, _≤_, _<_}
+use mathlib.Core.Bool.{Bool, true, false, true≢false}
+use mathlib.Core.List.{List, []}
+use Prim.Native.Nat.{ℕ, _+_, _*_, _%_, _^_, _≤_, _<_}
 use native.Mathlib.Omega.{arith}
-use lib.Dec.{lit<, eqb, leb}
+use lib.Dec.{lit<}
 use lib.ListN.{length, drop, getD, drop-of-length-le, List·getD-map}
-use borrow.Author.Tests.{eq-eqb, ne-eqb, leb-true}
+use borrow.Author.Tests.{eq-eqb, ne-eqb}
 use Rattle.laws.specs.Bounded.{sumBelow, tab}
 use Rattle.laws.proofs.Bounded.{sum-none, sum-more, sum-cong, getD-tab}
 use Rattle.job.specs.Job.{Point, no-point, point, pointOf, isPoint}
@@ -15,16 +15,16 @@ use Rattle.job.specs.Plan.{enables}
 use Rattle.lines.specs.declared.field.Field.{Field}
 use Rattle.lines.specs.declared.field.Field.the-variants.{Number, Malformed}
 use Rattle.lines.specs.declared.line.Collected.{Collected}
-use Rattle.lines.specs.Line.{at, Due, ends, no-line, found, lineOf}
+use Rattle.lines.specs.Line.{at, lineOf}
 use Rattle.lines.specs.Lines.{lines}
-use Rattle.lines.specs.Places.{numbersOf, statusOf, dueAt, numbersAt, beforeAt, statusAt}
+use Rattle.lines.specs.Places.{dueAt, numbersAt, beforeAt, statusAt}
 use Rattle.lines.proofs.LinesLaws.{lines-all, lines-stop, passed-more}
 use Rattle.lines.proofs.AlikeLaws.{stand-length}
 use Rattle.framing.specs.Framing.{collected}
 use Rattle.buffer.specs.Views.{nodeIn}
-use Rattle.pricing.specs.Numbered.{goodNumbered, Column, column, not-these-lines, numbersIn, columnRead, columnIn}
+use Rattle.pricing.specs.Numbered.{Column, column, not-these-lines, numbersIn, columnRead, columnIn}
 use Rattle.pricing.specs.Pricing.{volumeLine, cost}
-use Rattle.pricing.proofs.NumberedLaws.{column-says, column-refused}
+use Rattle.pricing.proofs.NumberedLaws.{column-says, column-refused, due-number, due-none}
 use Rattle.pricing.proofs.PricingLaws.{cost-most}
 use Rattle.pricing.specs.Inner.{numberDue, NodeFit, PricesFit, costIn, sumIn}
 
@@ -55,45 +55,6 @@ module _ (prices work plan : List ℕ) (n volume : ℕ) where
           let few = fit .symbol s e in
           let same : symbol ≡ s = omega (arith, is s e) in
           rw same refl
-
--- ---- a V line
-
--- a field's number, and whether there is one
-abbrev numberOf : Field → ℕ
-numberOf (Number n) = n
-numberOf Malformed = 0
-
-abbrev isNumber : Field → ℕ
-isNumber (Number n) = 1
-isNumber Malformed = 0
-
--- a V line whose test has this outcome
-tested-passes
-    : (t : Bool) (ns : List ℕ) (v : ℕ) → cond t (Number (at ns 1)) Malformed ≡ Number v → (t ≡ true) × (at ns 1 ≡ v)
-tested-passes true ns v e = (refl, ap numberOf e)
-tested-passes false ns v e = let z : _≡_ {A = ℕ} 0 1 = ap isNumber e in absurd (omega arith)
-
-tested-fails : (t : Bool) (ns : List ℕ) → cond t (Number (at ns 1)) Malformed ≡ Malformed → _≡_ {A = ℕ} (cond t 0 16) 0 → ⊥
-tested-fails true ns e z = let one : _≡_ {A = ℕ} 1 0 = ap isNumber e in omega arith
-tested-fails false ns e z = omega arith
-
--- a line that passes, and the number beside its place
-number-passes
-    : (place : ℕ) (before : List ℕ) (d : Due) (v : ℕ) → numberDue 999999 place d ≡ Number v
-    → (statusOf volumeLine place before d ≡ 0) × (at (numbersOf d) 1 ≡ v) × (v ≤ 999999)
-number-passes place before ends v e = let z : _≡_ {A = ℕ} 0 1 = ap isNumber e in absurd (omega arith)
-number-passes place before no-line v e = let z : _≡_ {A = ℕ} 0 1 = ap isNumber e in absurd (omega arith)
-number-passes place before (found ns) v e =
-    let good = tested-passes (goodNumbered 999999 place [] ns) ns v e in
-    let both = and-eq-true-iff (eqb (at ns 0) place) (leb (at ns 1) 999999) .0 (good .0) in
-    (ap (λ (t : Bool). cond t 0 16) (good .0), good .1, omega (arith, leb-true (at ns 1) 999999 (both .1), good .1))
-
--- a line that does not pass
-number-fails
-    : (place : ℕ) (before : List ℕ) (d : Due) → numberDue 999999 place d ≡ Malformed → statusOf volumeLine place before d ≡ 0 → ⊥
-number-fails place before ends e z = omega arith
-number-fails place before no-line e z = omega arith
-number-fails place before (found ns) e z = tested-fails (goodNumbered 999999 place [] ns) ns e z
 
 -- ---- the sum
 
@@ -126,7 +87,7 @@ module _ (file prices work plan : List ℕ) where
       : (n v : ℕ) → numberDue 999999 n (lineOf 86 2 (drop (n * 14) file)) ≡ Number v
       → (statusAt volumeLine file n ≡ 0) × (volumeAt file n ≡ v) × (v ≤ 999999)
   unfolding statusAt dueAt numbersAt
-  line-passes n v e = number-passes n (beforeAt volumeLine file n) (lineOf 86 2 (drop (n * 14) file)) v e
+  line-passes n v e = due-number 86 999999 16 n (beforeAt volumeLine file n) (lineOf 86 2 (drop (n * 14) file)) v e
 
   -- one node more
   pub sum-next
@@ -168,7 +129,7 @@ module _ (file prices work plan : List ℕ) where
       → collected 16 0 ≡ sumIn prices work plan nodes (columnIn volumeLine nodes file)
   unfolding statusAt dueAt
   sum-stop sum nodes n f l s due none =
-      let bad = number-fails n (beforeAt volumeLine file n) (lineOf 86 2 (drop (n * 14) file)) (sym due ∙ none) in
+      let bad = due-none 86 999999 16 n (beforeAt volumeLine file n) (lineOf 86 2 (drop (n * 14) file)) (lit< tt) (sym due ∙ none) in
       none-summed nodes (column-refused volumeLine nodes file _ (lines-stop volumeLine file nodes n (lit< tt) l (s .passed) bad))
 
   -- all lines

@@ -1,14 +1,13 @@
 -- Laws of one numbered line, in the shape of the code.
 -- Assumes nothing.
 use mathlib.Core.Path.{_≡_, refl, sym, ap, _∙_}
-use mathlib.Core.Bool.{Bool, true, false, cond, _&&_}
+use mathlib.Core.Bool.{Bool, true, false, cond, _&&_, and-false}
 use mathlib.Core.List.{List, []}
 use Prim.Native.Nat.{ℕ, _≤_, _<_}
 use native.Mathlib.Omega.{arith}
 use lib.Dec.{eqb, leb}
 use lib.ListN.{replicate}
 use borrow.Author.Tests.{eq-eqb, ne-eqb, le-leb, lt-leb}
-use Rattle.lines.specs.declared.field.Field.{Field}
 use Rattle.lines.specs.declared.field.Field.the-variants.{Number, Malformed}
 use Rattle.lines.specs.Inner.{dueStatus, DueRead}
 use Rattle.lines.specs.Line.{Due, ends, no-line, found, lineOf, at}
@@ -28,11 +27,6 @@ found-there : (d : Due) → dueStatus d ≡ 0 → d ≡ found (numbersOf d)
 found-there ends e = let z : _≡_ {A = ℕ} 3 0 = e in absurd (omega arith)
 found-there no-line e = let z : _≡_ {A = ℕ} 4 0 = e in absurd (omega arith)
 found-there (found ns) e = refl
-
--- a test whose second half fails
-second-fails : (t : Bool) → (t && false) ≡ false
-second-fails true = refl
-second-fails false = refl
 
 module _ (letter limit place : ℕ) (bytes : List ℕ) {ns : List ℕ} {r : ℕ} (e : DueRead (lineOf letter 2 bytes) 2 (replicate 2 0) ns r) where
   -- nothing, or no line
@@ -58,7 +52,7 @@ module _ (letter limit place : ℕ) (bytes : List ℕ) {ns : List ℕ} {r : ℕ}
     pub number-above : limit < at ns 1 → Malformed ≡ numberDue limit place (lineOf letter 2 bytes)
     number-above h =
         number-tested false
-        (ap (λ (b : Bool). eqb (at ns 0) place && b) (lt-leb (at ns 1) limit h) ∙ second-fails (eqb (at ns 0) place))
+        (ap (λ (b : Bool). eqb (at ns 0) place && b) (lt-leb (at ns 1) limit h) ∙ and-false (eqb (at ns 0) place))
 
     -- a line that passes
     pub number-passes : at ns 0 ≡ place → at ns 1 ≤ limit → Number (at ns 1) ≡ numberDue limit place (lineOf letter 2 bytes)

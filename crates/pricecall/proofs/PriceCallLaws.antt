@@ -1,41 +1,28 @@
 -- Laws of pricing as a call: what the door admits with a buffer of its own is what the file spells, and the price of its job is the answer.
 -- Assumes nothing.
 use mathlib.Core.Path.{_≡_, refl, sym, ap, _∙_}
-use mathlib.Core.Bool.{Bool, true, false, cond, _||_}
+use mathlib.Core.Bool.{false, _||_}
 use mathlib.Core.List.{List}
-use Prim.Native.Nat.{ℕ, _≤_, _<_}
+use Prim.Native.Nat.{ℕ, _≤_}
 use native.Mathlib.Omega.{arith}
 use lib.Dec.{ltb}
-use lib.ListN.{length, getD, replicate, length-replicate}
+use lib.ListN.{length, replicate, length-replicate}
 use borrow.Author.Tests.{le-ltb}
-use Rattle.job.specs.Job.{point, pointOf, Node, Job}
-use Rattle.jobfile.specs.File.{Answer, accepted, turned, maxFile, readJob}
+use Rattle.laws.proofs.Tests.{or-fails}
+use Rattle.job.specs.Job.{pointOf, Node}
+use Rattle.jobfile.specs.File.{readJob}
 use Rattle.jobhead.specs.declared.head.Head.{Head}
 use Rattle.buffer.specs.Buffer.{workSize}
-use Rattle.buffer.specs.Views.{nodeIn}
 use Rattle.admission.specs.Admission.{admitted}
 use Rattle.admission.specs.Admitted.{Admitted}
+use Rattle.admission.proofs.AdmissionLaws.{admitted-read}
 use Rattle.admission.proofs.CallLaws.{answer-refused}
 use Rattle.pricing.specs.declared.price.Price.{Price}
-use Rattle.pricing.specs.declared.price.Price.the-variants.{Cents, Refused}
+use Rattle.pricing.specs.declared.price.Price.the-variants.{Refused}
 use Rattle.pricing.specs.Pricing.{housePrices, priced}
-use Rattle.pricing.specs.Inner.{PricesFit, NodesFit, NodesHeld, Billed}
+use Rattle.pricing.specs.Inner.{PricesFit, NodesFit, Billed}
 use Rattle.pricing.proofs.PricingLaws.{priced-turned, priced-job}
 use Rattle.pricing.proofs.LargestPrice.{house-price-most}
-
--- a file that is too long is turned back in either order
-long-either-way : (file : List ℕ) → cond (ltb maxFile (length file)) (turned 1) (readJob file) ≡ readJob file
-unfolding readJob
-long-either-way file = go (ltb maxFile (length file)) _
-  where
-    go : (t : Bool) (x : Answer) → cond t (turned 1) (cond t (turned 1) x) ≡ cond t (turned 1) x
-    go true x = refl
-    go false x = refl
-
--- with a buffer that is long enough, what is admitted is what the file spells
-admitted-read : (file l : List ℕ) → workSize ≤ length l → admitted file (ltb (length l) workSize || false) ≡ readJob file
-unfolding admitted
-admitted-read file l h = rw (le-ltb (length l) workSize h) (long-either-way file)
 
 -- the buffer on the stack is long enough
 pub enough : workSize ≤ length {A = ℕ} (replicate workSize 0)
@@ -45,11 +32,15 @@ enough = let e = length-replicate {A = ℕ} workSize 0 in omega arith
 pub house-fit : (prices : List ℕ) → prices ≡ housePrices → PricesFit prices
 house-fit prices e s = rw e (omega (arith, house-price-most s))
 
+-- with a buffer that is long enough, what is admitted is what the file spells
+spelt : (file l : List ℕ) → workSize ≤ length l → admitted file (ltb (length l) workSize || false) ≡ readJob file
+spelt file l h = admitted-read file (ltb (length l) workSize || false) (or-fails (ltb (length l) workSize) false (le-ltb (length l) workSize h) refl)
+
 module _ (file plan volumes l m : List ℕ) (r : Head) (enough : workSize ≤ length l)
     (a : Admitted (admitted file (ltb (length l) workSize || false)) l m r) where
   -- a refusal of the job file
   pub price-refused : (r .refusal ≡ 0 → ⊥) → Refused (r .refusal) ≡ priced file plan volumes
-  price-refused h = sym (priced-turned file plan volumes (r .refusal) (sym (admitted-read file l enough) ∙ answer-refused a h))
+  price-refused h = sym (priced-turned housePrices file plan volumes (r .refusal) (sym (spelt file l enough) ∙ answer-refused a h))
 
   -- what is asked of the buffer
   pub price-fit : r .refusal ≡ 0 → NodesFit m (r .nodes)
@@ -71,4 +62,4 @@ module _ (file plan volumes l m : List ℕ) (r : Head) (enough : workSize ≤ le
   price-billed prices p h e b =
       let j = a .job h in
       b (j .job) (record { count = j .held .nodes-are; node = j .held .node })
-      ∙ rw e (sym (priced-job file plan volumes (j .job) (sym (admitted-read file l enough) ∙ j .is)))
+      ∙ rw e (sym (priced-job housePrices file plan volumes (j .job) (sym (spelt file l enough) ∙ j .is)))

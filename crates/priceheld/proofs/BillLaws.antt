@@ -1,11 +1,11 @@
 -- Laws of the answer for the job that the work buffer holds, in the shape of the code.
 -- Assumes nothing.
 use mathlib.Core.Path.{_≡_, refl, sym, ap, _∙_}
-use mathlib.Core.Bool.{Bool, true, false, cond}
+use mathlib.Core.Bool.{Bool, true, false}
 use mathlib.Core.List.{List}
-use Prim.Native.Nat.{ℕ, _≤_, _<_}
+use Prim.Native.Nat.{ℕ}
 use native.Mathlib.Omega.{arith}
-use lib.Dec.{eqb, leb}
+use lib.Dec.{eqb}
 use lib.ListN.{length, getD}
 use borrow.Author.Tests.{eqb-true}
 use Rattle.laws.specs.Bounded.{allBelow, sumBelow}
@@ -17,12 +17,12 @@ use Rattle.framing.specs.Framing.{collected}
 use Rattle.buffer.specs.Views.{nodeIn}
 use Rattle.checking.specs.Checking.{goodMark}
 use Rattle.checking.proofs.CheckLaws.{marks, marks-same}
-use Rattle.pricing.specs.declared.price.Price.{Price}
+use Rattle.checking.proofs.PlanLaws.{mark-other}
 use Rattle.pricing.specs.declared.price.Price.the-variants.{Cents, Refused}
 use Rattle.pricing.specs.Numbered.{Column, column, not-these-lines, columnIn}
 use Rattle.pricing.specs.Pricing.{volumeLine, cost, dayCost, centsOf, billed, pricedJob}
 use Rattle.pricing.proofs.PricingLaws.{priced-11, priced-12, priced-billed}
-use Rattle.pricing.specs.Inner.{PricesFit, NodeFit, Fit, costIn, sumIn, NodesFit, NodesHeld, Billed}
+use Rattle.pricing.specs.Inner.{PricesFit, Fit, costIn, sumIn, NodesFit, NodesHeld, Billed}
 
 -- a watched node that passes its test is a point
 watched-point : (k : Kind) (b : ℕ) → goodMark k b ≡ true → eqb b 1 ≡ true → isEvent k ≡ true
@@ -30,11 +30,7 @@ watched-point k b g w = go (isEvent k) refl
   where
     go : (e : Bool) → isEvent k ≡ e → isEvent k ≡ true
     go true is = is
-    go false is =
-        let other : cond false (leb b 1) (eqb b 0) ≡ true = ap (λ (x : Bool). cond x (leb b 1) (eqb b 0)) (sym is) ∙ g in
-        let zero = eqb-true b 0 other in
-        let one = eqb-true b 1 w in
-        absurd (omega arith)
+    go false is = absurd (omega (arith, eqb-true b 0 (mark-other k b is ∙ g), eqb-true b 1 w))
 
 module _ (prices work plan volumes : List ℕ) (nodes : ℕ) where
   -- the plan has another length

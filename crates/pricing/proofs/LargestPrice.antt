@@ -6,7 +6,7 @@ use mathlib.Core.Logic.{by-cases}
 use mathlib.Core.Bool.{true, false, true≢false}
 use mathlib.Core.List.{List, [], _∷_}
 use Prim.Native.Nat.{ℕ, zero, suc, _*_, _≤_, _<_}
-use native.Mathlib.Nat.{zero-mul, suc-mul}
+use native.Mathlib.Nat.{zero-mul, suc-mul, mul-le-mul-right}
 use native.Mathlib.Decide.{decLt}
 use native.Mathlib.Omega.{arith}
 use lib.ListN.{length, getD, replicate, length-replicate, getD-replicate, List·getD-eq-default}
@@ -25,7 +25,7 @@ use Rattle.jobfile.proofs.SpellableLaws.{read-written, written-read}
 use Rattle.checking.specs.CheckingSays.{watched}
 use Rattle.pricing.specs.declared.price.Price.the-variants.{Cents}
 use Rattle.pricing.specs.Numbered.{writeColumn}
-use Rattle.pricing.specs.Pricing.{volumeLine, housePrices, cost, dayCost, centsOf, priced}
+use Rattle.pricing.specs.Pricing.{volumeLine, housePrices, cost, dayCost, centsOf, pricedAt, priced}
 use Rattle.pricing.specs.PricingSays.{Billable, maxPrice, dearest, LargestPrice}
 use Rattle.pricing.proofs.NumberedLaws.{column-says, written-column, column-within}
 use Rattle.pricing.proofs.PricingLaws.{cost-most}
@@ -139,7 +139,7 @@ dear-cost n =
 dearest-price : priced (writeJob dearest) (replicate 512 1) (writeColumn 86 0 (replicate 512 999999)) ≡ Cents maxPrice
 unfolding dearJob
 dearest-price =
-    price-of (writeJob dearest) (replicate 512 1) (writeColumn 86 0 (replicate 512 999999))
+    price-of housePrices (writeJob dearest) (replicate 512 1) (writeColumn 86 0 (replicate 512 999999))
     (dear-billable 512 (omega arith) (omega arith))
     ∙ ap (λ (t : ℕ). Cents (centsOf t)) (dear-cost 512)
 
@@ -152,24 +152,31 @@ house-price-most s =
     (λ h. omega (arith, house-prices-say .rule s h))
     (λ h. omega (arith, List·getD-eq-default housePrices 0 {n = s} (omega (arith, house-prices-say .sixteen))))
 
--- what the points of a job cost at most
+-- what the points of a job cost at most, at prices of at most `top`
 day-cost-most
-    : (j : Job) (plan counts : List ℕ) → length (j .nodes) ≤ 512 → ((n : ℕ) → getD counts n 0 ≤ 999999)
-    → dayCost housePrices j plan counts ≤ 48639951360
-day-cost-most j plan counts few within =
+    : (prices : List ℕ) (top : ℕ) (j : Job) (plan counts : List ℕ) → ((s : ℕ) → getD prices s 0 ≤ top) → ((n : ℕ) → getD counts n 0 ≤ 999999)
+    → dayCost prices j plan counts ≤ length (j .nodes) * (999999 * top)
+day-cost-most prices top j plan counts most within =
+    sum-bound (length (j .nodes)) (999999 * top) (λ n. cost prices (pointOf (nodeAt j n .kind)) (enables plan n) (getD counts n 0))
+    (λ n l. cost-most prices top (pointOf (nodeAt j n .kind)) (enables plan n) (getD counts n 0) most (within n))
+
+-- so no price is above that of 512 such points
+price-most
+    : (prices : List ℕ) (top : ℕ) (file plan volumes : List ℕ) (c : ℕ) → ((s : ℕ) → getD prices s 0 ≤ top)
+    → pricedAt prices file plan volumes ≡ Cents c → c ≤ centsOf (512 * (999999 * top))
+price-most prices top file plan volumes c most e =
+    let (j, counts, b, is) = price-sum prices file plan volumes e in
+    let few = mul-le-mul-right (999999 * top) (read-written file j (b .spells) .1 .few-nodes) in
     omega (
       arith,
-      sum-bound (length (j .nodes)) 94999905
-          (λ n. cost housePrices (pointOf (nodeAt j n .kind)) (enables plan n) (getD counts n 0))
-          (λ n l. cost-most housePrices 95 (pointOf (nodeAt j n .kind)) (enables plan n) (getD counts n 0) house-price-most (within n)),
+      is,
+      few,
+      day-cost-most prices top j plan counts most (column-within 86 999999 16 (length (j .nodes)) volumes counts (b .lines)),
     )
 
 -- no price is larger
 pub price-at-most : (file plan volumes : List ℕ) (c : ℕ) → priced file plan volumes ≡ Cents c → c ≤ maxPrice
-price-at-most file plan volumes c e =
-    let (j, counts, b, is) = price-sum file plan volumes e in
-    let few = read-written file j (b .spells) .1 .few-nodes in
-    omega (arith, is, day-cost-most j plan counts few (column-within 86 999999 16 (length (j .nodes)) volumes counts (b .lines)))
+price-at-most file plan volumes c e = price-most housePrices 95 file plan volumes c house-price-most e
 
 -- the largest price
 pub largest-price : LargestPrice

@@ -1,21 +1,25 @@
--- Files of numbered lines: the test of a line, the numbers that are read, and the file that is written of numbers.
+-- Files of numbered lines: the test of a line, the numbers that are read, the file that is written of numbers, and the line that is due.
 -- Lines that are read are those that stand in the file; numbers within their limit are written as good lines.
 -- Assumes nothing.
 use mathlib.Core.Path.{_≡_, refl, sym, ap, _∙_}
 use mathlib.Core.Logic.{_↔_}
-use mathlib.Core.Bool.{true, and-eq-true-iff}
+use mathlib.Core.Bool.{Bool, true, false, cond, and-eq-true-iff}
 use mathlib.Core.List.{List, [], _∷_, _++_, append-nil}
 use Prim.Native.Nat.{ℕ, zero, suc, _+_, _≤_, _<_}
 use native.Mathlib.Omega.{arith}
 use lib.Dec.{eqb, leb}
 use lib.ListN.{length, getD}
 use borrow.Author.Tests.{eq-eqb, le-leb, eqb-true, leb-true}
-use Rattle.lines.specs.Line.{line, at, writeLines}
+use Rattle.lines.specs.declared.field.Field.{Field}
+use Rattle.lines.specs.declared.field.Field.the-variants.{Number, Malformed}
+use Rattle.lines.specs.Line.{line, at, writeLines, Due, ends, no-line, found}
 use Rattle.lines.specs.Lines.{LineKind, Lines, lines, refused, linesOf}
+use Rattle.lines.specs.Places.{numbersOf as numbersDue, statusOf}
 use Rattle.lines.specs.Written.{Fits, GoodLines, good-none, good-more, LinesAt}
 use Rattle.lines.proofs.SpelledLine.{fits-cons}
 use Rattle.lines.proofs.SpelledLines.{written-stand, lines-says}
 use Rattle.pricing.specs.Numbered.{goodNumbered, numberedLine, Column, column, not-these-lines, numbersIn, columnRead, columnIn, writeColumn, ColumnFile, NumberedSays}
+use Rattle.pricing.specs.Inner.{numberDue}
 
 -- ---- the test of a line
 
@@ -149,3 +153,41 @@ pub column-within
     : (letter limit refusal c : ℕ) (file numbers : List ℕ) → ColumnFile (numberedLine letter limit refusal) c file numbers
     → (n : ℕ) → getD numbers n 0 ≤ limit
 column-within letter limit refusal c file numbers f n = rw (f .are) (numbers-within letter limit refusal (f .stand .good) n)
+
+-- ---- the line that is due
+
+-- a field's number, and whether there is one
+abbrev numberIn : Field → ℕ
+numberIn (Number n) = n
+numberIn Malformed = 0
+
+abbrev isNumber : Field → ℕ
+isNumber (Number n) = 1
+isNumber Malformed = 0
+
+-- a line whose test has this outcome
+tested-number : (t : Bool) (ns : List ℕ) (v : ℕ) → cond t (Number (at ns 1)) Malformed ≡ Number v → (t ≡ true) × (at ns 1 ≡ v)
+tested-number true ns v e = (refl, ap numberIn e)
+tested-number false ns v e = let z : _≡_ {A = ℕ} 0 1 = ap isNumber e in absurd (omega arith)
+
+tested-none : (t : Bool) (r : ℕ) (ns : List ℕ) → 0 < r → cond t (Number (at ns 1)) Malformed ≡ Malformed → cond t 0 r ≡ 0 → ⊥
+tested-none true r ns some e z = let one : _≡_ {A = ℕ} 1 0 = ap isNumber e in omega arith
+tested-none false r ns some e z = omega arith
+
+module _ (letter limit refusal i : ℕ) (before : List ℕ) where
+  -- one that passes, with the number beside its place
+  pub due-number
+      : (d : Due) (v : ℕ) → numberDue limit i d ≡ Number v
+      → (statusOf (numberedLine letter limit refusal) i before d ≡ 0) × (at (numbersDue d) 1 ≡ v) × (v ≤ limit)
+  due-number ends v e = let z : _≡_ {A = ℕ} 0 1 = ap isNumber e in absurd (omega arith)
+  due-number no-line v e = let z : _≡_ {A = ℕ} 0 1 = ap isNumber e in absurd (omega arith)
+  due-number (found ns) v e =
+      let good = tested-number (goodNumbered limit i [] ns) ns v e in
+      let within = numbered-test limit i [] ns .0 (good .0) in
+      (ap (λ (t : Bool). cond t 0 refusal) (good .0), good .1, omega (arith, within .1, good .1))
+
+  -- one that does not
+  pub due-none : (d : Due) → 0 < refusal → numberDue limit i d ≡ Malformed → statusOf (numberedLine letter limit refusal) i before d ≡ 0 → ⊥
+  due-none ends some e z = omega arith
+  due-none no-line some e z = omega arith
+  due-none (found ns) some e z = tested-none (goodNumbered limit i [] ns) refusal ns some e z

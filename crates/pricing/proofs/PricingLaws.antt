@@ -13,7 +13,7 @@ use Rattle.jobfile.specs.File.{Answer, accepted, turned, readJob}
 use Rattle.checking.specs.Checking.{goodMarks}
 use Rattle.pricing.specs.declared.price.Price.the-variants.{Refused}
 use Rattle.pricing.specs.Numbered.{Column, columnIn}
-use Rattle.pricing.specs.Pricing.{volumeLine, housePrices, cost, centsOf, billed, pricedJob, answeredAt, priced}
+use Rattle.pricing.specs.Pricing.{volumeLine, cost, centsOf, billed, pricedJob, answeredAt, pricedAt}
 use Rattle.pricing.specs.PricingSays.{Covers}
 
 -- ---- the answer for a job
@@ -38,16 +38,16 @@ module _ (prices : List ℕ) (j : Job) (plan volumes : List ℕ) where
 
 -- ---- the answer for a file
 
-module _ (file plan volumes : List ℕ) where
+module _ (prices file plan volumes : List ℕ) where
   -- it is turned back
-  pub priced-turned : (k : ℕ) → readJob file ≡ turned k → priced file plan volumes ≡ Refused k
-  unfolding priced
-  priced-turned k e = ap (λ (a : Answer). answeredAt housePrices a plan volumes) e
+  pub priced-turned : (k : ℕ) → readJob file ≡ turned k → pricedAt prices file plan volumes ≡ Refused k
+  unfolding pricedAt
+  priced-turned k e = ap (λ (a : Answer). answeredAt prices a plan volumes) e
 
   -- or is priced as its job
-  pub priced-job : (j : Job) → readJob file ≡ accepted j → priced file plan volumes ≡ pricedJob housePrices j plan volumes
-  unfolding priced
-  priced-job j e = ap (λ (a : Answer). answeredAt housePrices a plan volumes) e
+  pub priced-job : (j : Job) → readJob file ≡ accepted j → pricedAt prices file plan volumes ≡ pricedJob prices j plan volumes
+  unfolding pricedAt
+  priced-job j e = ap (λ (a : Answer). answeredAt prices a plan volumes) e
 
 -- ---- what a node costs at most
 

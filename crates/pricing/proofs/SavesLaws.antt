@@ -5,7 +5,7 @@ use mathlib.Core.Path.{_≡_, refl, sym, subst}
 use mathlib.Core.Logic.{⊎-elim}
 use mathlib.Core.Bool.{Bool, true, false, true≢false}
 use mathlib.Core.List.{List}
-use Prim.Native.Nat.{ℕ, _*_, _≤_}
+use Prim.Native.Nat.{ℕ, _*_, _≤_, _<_}
 use native.Mathlib.Nat.{le-refl}
 use native.Mathlib.Omega.{arith}
 use lib.ListN.{length, getD}
@@ -20,13 +20,13 @@ use Rattle.planning.specs.Listing.{planOf}
 use Rattle.planning.proofs.PlanBytes.{enabled-byte, lowered-watches, all-enabled-plan}
 use Rattle.planning.proofs.PlanningResult.{planned-lowered, planned-plan}
 use Rattle.jobfile.specs.File.{accepted, readJob}
-use Rattle.checking.specs.CheckingSays.{unwatched, watched}
+use Rattle.checking.specs.CheckingSays.{MarkFor, unwatched, watched}
 use Rattle.pricing.specs.declared.price.Price.the-variants.{Cents}
 use Rattle.pricing.specs.Numbered.{ColumnFile}
-use Rattle.pricing.specs.Pricing.{volumeLine, housePrices, cost, dayCost, centsOf, priced}
+use Rattle.pricing.specs.Pricing.{volumeLine, cost, dayCost, centsOf, pricedAt}
 use Rattle.pricing.specs.PricingSays.{Billable, WatchedIn, Saves}
 use Rattle.pricing.proofs.NumberedLaws.{column-says}
-use Rattle.pricing.proofs.PricingSays.{Marked, price-of, price-sum}
+use Rattle.pricing.proofs.PricingSays.{price-of, price-sum}
 
 -- ---- the sum
 
@@ -63,28 +63,29 @@ one-column {c} {volumes} {m} {n} f g = cc (column-says volumeLine c volumes m .1
 
 -- a plan costs no more than one in which its watched points are watched
 no-dearer
-    : (file plan other volumes : List ℕ) (c d : ℕ) → WatchedIn plan other → priced file plan volumes ≡ Cents c
-    → priced file other volumes ≡ Cents d → c ≤ d
-no-dearer file plan other volumes c d h p q =
-    let (i, m, a, c-is) = price-sum file plan volumes p in
-    let (j, n, b, d-is) = price-sum file other volumes q in
+    : (prices file plan other volumes : List ℕ) (c d : ℕ) → WatchedIn plan other → pricedAt prices file plan volumes ≡ Cents c
+    → pricedAt prices file other volumes ≡ Cents d → c ≤ d
+no-dearer prices file plan other volumes c d h p q =
+    let (i, m, a, c-is) = price-sum prices file plan volumes p in
+    let (j, n, b, d-is) = price-sum prices file other volumes q in
     go i j m n a b (one-job file (a .spells) (b .spells)) c-is d-is
   where
     go
         : (i j : Job) (m n : List ℕ) → Billable file plan volumes i m → Billable file other volumes j n → i ≡ j
-        → c ≡ centsOf (dayCost housePrices i plan m) → d ≡ centsOf (dayCost housePrices j other n) → c ≤ d
+        → c ≡ centsOf (dayCost prices i plan m) → d ≡ centsOf (dayCost prices j other n) → c ≤ d
     go i j m n a b same c-is d-is =
         let lines : ColumnFile volumeLine (length (j .nodes)) volumes m =
         subst (λ (x : Job). ColumnFile volumeLine (length (x .nodes)) volumes m) same (a .lines) in
         let one : m ≡ n = one-column lines (b .lines) in
-        let sum : dayCost housePrices i plan m ≤ dayCost housePrices j other n =
-        rw (same, one) (day-cost-le housePrices j plan other n h) in
+        let sum : dayCost prices i plan m ≤ dayCost prices j other n =
+        rw (same, one) (day-cost-le prices j plan other n h) in
         rw (c-is, d-is) (cents-le sum)
 
 -- ---- planning's own plan
 
 -- a plan of the job has a byte that each node may have
-plan-marked : {j : Job} {plan : List ℕ} → IsPlan j plan → Marked j plan
+plan-marked
+    : {j : Job} {plan : List ℕ} → IsPlan j plan → (n : ℕ) → n < length (j .nodes) → MarkFor (nodeAt j n .kind) (getD plan n 0)
 plan-marked {j} {plan} v n h =
     ⊎-elim
     (λ (w : enables plan n ≡ true). rw (enabled-byte plan n w) (watched (v .shadows n w)))
@@ -105,16 +106,17 @@ planned-watched j = lowered-watches (planned-lowered (faithful j) j)
 
 -- planning's own plan has a price that is no more than that of all points watched
 planned
-    : (file volumes counts : List ℕ) (j : Job) → readJob file ≡ accepted j → ColumnFile volumeLine (length (j .nodes)) volumes counts
-    → (c : ℕ) × (d : ℕ) × (priced file (planOf j .plan) volumes ≡ Cents c) × (priced file (allEnabled j) volumes ≡ Cents d) × (c ≤ d)
-planned file volumes counts j spells lines =
+    : (prices file volumes counts : List ℕ) (j : Job) → readJob file ≡ accepted j → ColumnFile volumeLine (length (j .nodes)) volumes counts
+    → (c : ℕ) × (d : ℕ) × (pricedAt prices file (planOf j .plan) volumes ≡ Cents c) × (pricedAt prices file (allEnabled j) volumes ≡ Cents d)
+    × (c ≤ d)
+planned prices file volumes counts j spells lines =
     let own = plan-billable (planOf j .plan) spells lines (planned-plan (faithful j) j) in
     let all = plan-billable (allEnabled j) spells lines (all-enabled-plan j) in (
-      centsOf (dayCost housePrices j (planOf j .plan) counts),
-      centsOf (dayCost housePrices j (allEnabled j) counts),
-      price-of file (planOf j .plan) volumes own,
-      price-of file (allEnabled j) volumes all,
-      cents-le (day-cost-le housePrices j (planOf j .plan) (allEnabled j) counts (planned-watched j)),
+      centsOf (dayCost prices j (planOf j .plan) counts),
+      centsOf (dayCost prices j (allEnabled j) counts),
+      price-of prices file (planOf j .plan) volumes own,
+      price-of prices file (allEnabled j) volumes all,
+      cents-le (day-cost-le prices j (planOf j .plan) (allEnabled j) counts (planned-watched j)),
     )
 
 -- what a plan saves

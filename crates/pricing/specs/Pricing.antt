@@ -54,10 +54,14 @@ abbrev pub answeredAt : List ℕ → Answer → List ℕ → List ℕ → Price
 answeredAt prices (turned k) plan volumes = Refused k
 answeredAt prices (accepted j) plan volumes = pricedJob prices j plan volumes
 
--- the answer of pricing, "one call gets job, plan and volume file"; no work buffer is lent, so there is no 2
-unfoldable pub priced : List ℕ → List ℕ → List ℕ → Price
+-- the answer of pricing at some prices; no work buffer is lent, so there is no 2
+unfoldable pub pricedAt : List ℕ → List ℕ → List ℕ → List ℕ → Price
 unfolding pricedJob
-priced file plan volumes = answeredAt housePrices (readJob file) plan volumes
+pricedAt prices file plan volumes = answeredAt prices (readJob file) plan volumes
+
+-- "one call gets job, plan and volume file": at the house prices
+abbrev pub priced : List ℕ → List ℕ → List ℕ → Price
+priced = pricedAt housePrices
 
 -- a price is 2^48 plus its cents, a refusal is its number
 abbrev pub priceNumber : Price → ℕ

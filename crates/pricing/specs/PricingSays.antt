@@ -3,14 +3,14 @@
 -- Assumes nothing.
 use mathlib.Core.Path.{_≡_}
 use mathlib.Core.Logic.{_≢_, _↔_}
-use mathlib.Core.Bool.{true, false, cond}
+use mathlib.Core.Bool.{Bool, true, false, cond}
 use mathlib.Core.List.{List, [], _∷_}
 use Prim.Native.Nat.{ℕ, _+_, _-_, _*_, _≤_, _<_}
 use lib.Dec.{leb}
 use lib.ListN.{length, getD, replicate}
 use Rattle.callnumber.specs.CallNumber.{acceptedFrom}
 use Rattle.automaton.specs.Automaton.{automatonOf}
-use Rattle.job.specs.Job.{event, Job, nodeAt}
+use Rattle.job.specs.Job.{no-point, point, event, Job, nodeAt}
 use Rattle.job.specs.Plan.{enables}
 use Rattle.planning.specs.Planning.{allEnabled}
 use Rattle.planning.specs.Listing.{planOf}
@@ -19,7 +19,7 @@ use Rattle.checking.specs.CheckingSays.{MarkFor}
 use Rattle.pricing.specs.declared.price.Price.{Price}
 use Rattle.pricing.specs.declared.price.Price.the-variants.{Cents, Refused}
 use Rattle.pricing.specs.Numbered.{ColumnFile, writeColumn}
-use Rattle.pricing.specs.Pricing.{volumeLine, housePrices, dayCost, priced, priceNumber}
+use Rattle.pricing.specs.Pricing.{volumeLine, housePrices, cost, dayCost, pricedAt, priced, priceNumber}
 
 -- ---- the answer
 
@@ -35,12 +35,12 @@ pub record Covers (thousandths c : ℕ) : Type 0 where
   pub enough : thousandths ≤ c * 1000
   pub least : (d : ℕ) → thousandths ≤ d * 1000 → c ≤ d
 
--- the statement: there is a price if and only if nothing is turned back, and it is the least that covers the sum
+-- the statement, at any prices: there is a price if and only if nothing is turned back, and it is the least that covers the sum
 abbrev pub SaysPrice : Type 0
 SaysPrice =
-    (file plan volumes : List ℕ) (c : ℕ)
-    → (priced file plan volumes ≡ Cents c)
-    ↔ ((j : Job) × (counts : List ℕ) × Billable file plan volumes j counts × Covers (dayCost housePrices j plan counts) c)
+    (prices file plan volumes : List ℕ) (c : ℕ)
+    → (pricedAt prices file plan volumes ≡ Cents c)
+    ↔ ((j : Job) × (counts : List ℕ) × Billable file plan volumes j counts × Covers (dayCost prices j plan counts) c)
 
 -- r is the first that fails
 pub data PriceRefused (file plan volumes : List ℕ) : ℕ → Type 0 where
@@ -58,11 +58,19 @@ pub data PriceRefused (file plan volumes : List ℕ) : ℕ → Type 0 where
       → ((n : ℕ) → n < length (j .nodes) → MarkFor (nodeAt j n .kind) (getD plan n 0))
       → ((counts : List ℕ) → ColumnFile volumeLine (length (j .nodes)) volumes counts → ⊥) → PriceRefused file plan volumes 16
 
--- the statement: the answer is the refusal r if and only if r is the first that fails
+-- the statement, at any prices: the answer is the refusal r if and only if r is the first that fails
 abbrev pub RefusesPrice : Type 0
-RefusesPrice = (file plan volumes : List ℕ) (r : ℕ) → (priced file plan volumes ≡ Refused r) ↔ PriceRefused file plan volumes r
+RefusesPrice =
+    (prices file plan volumes : List ℕ) (r : ℕ) → (pricedAt prices file plan volumes ≡ Refused r) ↔ PriceRefused file plan volumes r
 
--- ---- the house prices
+-- ---- what a node costs, and the house prices
+
+-- the statement: the events of a watched point cost their number times the price of its symbol; an unwatched point and a node that is no
+-- point cost nothing
+pub record CostsSay : Type 0 where
+  pub watched : (prices : List ℕ) (s volume : ℕ) → cost prices (point s) true volume ≡ volume * getD prices s 0
+  pub unwatched : (prices : List ℕ) (s volume : ℕ) → cost prices (point s) false volume ≡ 0
+  pub elsewhere : (prices : List ℕ) (w : Bool) (volume : ℕ) → cost prices no-point w volume ≡ 0
 
 -- the statement: sixteen of them, each by its rule
 pub record HousePricesSay : Type 0 where
@@ -75,15 +83,16 @@ pub record HousePricesSay : Type 0 where
 abbrev pub WatchedIn : List ℕ → List ℕ → Type 0
 WatchedIn plan other = (n : ℕ) → enables plan n ≡ true → enables other n ≡ true
 
--- the statement: a plan costs no more than one in which its watched points are watched; so planning's own plan has a price that is no more
--- than that of all points watched
+-- the statement, at any prices: a plan costs no more than one in which its watched points are watched; so planning's own plan has a price
+-- that is no more than that of all points watched
 pub record Saves : Type 0 where
   pub no-dearer
-      : (file plan other volumes : List ℕ) (c d : ℕ) → WatchedIn plan other → priced file plan volumes ≡ Cents c
-      → priced file other volumes ≡ Cents d → c ≤ d
+      : (prices file plan other volumes : List ℕ) (c d : ℕ) → WatchedIn plan other → pricedAt prices file plan volumes ≡ Cents c
+      → pricedAt prices file other volumes ≡ Cents d → c ≤ d
   pub planned
-      : (file volumes counts : List ℕ) (j : Job) → readJob file ≡ accepted j → ColumnFile volumeLine (length (j .nodes)) volumes counts
-      → (c : ℕ) × (d : ℕ) × (priced file (planOf j .plan) volumes ≡ Cents c) × (priced file (allEnabled j) volumes ≡ Cents d) × (c ≤ d)
+      : (prices file volumes counts : List ℕ) (j : Job) → readJob file ≡ accepted j → ColumnFile volumeLine (length (j .nodes)) volumes counts
+      → (c : ℕ) × (d : ℕ) × (pricedAt prices file (planOf j .plan) volumes ≡ Cents c) × (pricedAt prices file (allEnabled j) volumes ≡ Cents d)
+      × (c ≤ d)
 
 -- ---- how large a price can be
 
@@ -110,6 +119,8 @@ pub record LargestPrice : Type 0 where
 abbrev pub priceRead : ℕ → Price
 priceRead n = cond (leb acceptedFrom n) (Cents (n - acceptedFrom)) (Refused n)
 
--- the statement: a caller reads back the price or the refusal from the number
+-- the statement, at any prices: a caller reads back the price or the refusal from the number
 abbrev pub PriceByNumber : Type 0
-PriceByNumber = (file plan volumes : List ℕ) → priceRead (priceNumber (priced file plan volumes)) ≡ priced file plan volumes
+PriceByNumber =
+    (prices file plan volumes : List ℕ)
+    → priceRead (priceNumber (pricedAt prices file plan volumes)) ≡ pricedAt prices file plan volumes

@@ -1,10 +1,10 @@
 -- Plans with their prices, worked out by hand: PAIR of document 01, whose points have the symbols 0, 0 and 2, at 20, 20 and 30 cents per
--- thousand; and a job with a plain node and a call. That they are priced so, `AllPriced priceTrials`, is a theorem of `proofs/`.
+-- thousand; a job with a plain node and a call; and one with a point of each symbol. That they are priced so, `AllPriced priceTrials`, is a theorem of `proofs/`.
 -- Assumes nothing.
 use mathlib.Core.Path.{_≡_}
 use mathlib.Core.List.{List, [], _∷_, _++_}
 use Prim.Native.Nat.{ℕ}
-use Prim.Native.String.{String}
+use lib.ListN.{replicate}
 use Rattle.lines.specs.FieldTrials.{bytesIn}
 use Rattle.jobfile.specs.FileTrials.{linesIn, pairLines, pairFile, pairWithZeros}
 use Rattle.pricing.specs.declared.price.Price.{Price}
@@ -71,9 +71,57 @@ unfoldable pub fourThousands : List ℕ
 unfolding linesIn bytesIn
 fourThousands = linesIn ("V     0  1000" ∷ "V     1  1000" ∷ "V     2  1000" ∷ "V     3  1000" ∷ [])
 
+-- a point of each symbol
+unfoldable pub sixteen : List ℕ
+unfolding linesIn bytesIn
+sixteen =
+    linesIn
+    ("J     1    16    16     0"
+    ∷ "R     0     0     0     0     0     0     0     0     0     0     0     0     0     0     0     0     0     0"
+    ∷ "P     0     1     0     1     0     0"
+    ∷ "P     1     1     1     0     0     0"
+    ∷ "P     2     1     2     0     0     0"
+    ∷ "P     3     1     3     0     0     0"
+    ∷ "P     4     1     4     0     0     0"
+    ∷ "P     5     1     5     0     0     0"
+    ∷ "P     6     1     6     0     0     0"
+    ∷ "P     7     1     7     0     0     0"
+    ∷ "P     8     1     8     0     0     0"
+    ∷ "P     9     1     9     0     0     0"
+    ∷ "P    10     1    10     0     0     0"
+    ∷ "P    11     1    11     0     0     0"
+    ∷ "P    12     1    12     0     0     0"
+    ∷ "P    13     1    13     0     0     0"
+    ∷ "P    14     1    14     0     0     0"
+    ∷ "P    15     1    15     0     0     0"
+    ∷ [])
+
+-- one thousand events at the first of these, two at the second, and so on
+unfoldable pub manyThousands : List ℕ
+unfolding linesIn bytesIn
+manyThousands =
+    linesIn
+    ("V     0  1000"
+    ∷ "V     1  2000"
+    ∷ "V     2  3000"
+    ∷ "V     3  4000"
+    ∷ "V     4  5000"
+    ∷ "V     5  6000"
+    ∷ "V     6  7000"
+    ∷ "V     7  8000"
+    ∷ "V     8  9000"
+    ∷ "V     9 10000"
+    ∷ "V    10 11000"
+    ∷ "V    11 12000"
+    ∷ "V    12 13000"
+    ∷ "V    13 14000"
+    ∷ "V    14 15000"
+    ∷ "V    15 16000"
+    ∷ [])
+
 -- the table
 unfoldable pub priceTrials : List PriceTrial
-unfolding thousands cut mixed fourThousands linesIn bytesIn pairFile pairWithZeros
+unfolding thousands cut mixed fourThousands sixteen manyThousands linesIn bytesIn pairFile pairWithZeros
 priceTrials =
     -- whole cents: 20 + 20 + 30, 20 + 30, nothing; 50 events of symbol 0 are one cent
     prices pairFile all thousands (Cents 70)
@@ -92,6 +140,8 @@ priceTrials =
     ∷ prices pairFile own (linesIn ("V     0999999" ∷ "V     1  1000" ∷ "V     2  1000" ∷ [])) (Cents 50)
     -- neither are a plain node and a call: 20 + 25
     ∷ prices mixed (1 ∷ 0 ∷ 0 ∷ 1 ∷ []) fourThousands (Cents 45)
+    -- every symbol: 1 * 20 + 2 * 25 + .. + 16 * 95
+    ∷ prices sixteen (replicate 16 1) manyThousands (Cents 9520)
     -- zeros before the digits, in the volume file and in the job file
     ∷ prices pairFile all (linesIn ("V000000001000" ∷ "V  0001 01000" ∷ "V     2001000" ∷ [])) (Cents 70)
     ∷ prices pairWithZeros all thousands (Cents 70)

@@ -47,39 +47,40 @@ pub fn any(random: &mut Random, nodes: usize) -> Vec<u8> {
 pub fn refused(random: &mut Random, nodes: usize) -> Vec<u8> {
     let mut lines = lines(&events(random, nodes));
     let line = random.place(nodes);
-    let place = line as u64;
-    let fault = match random.below(12) {
-        0 => Fault::Ends(line),
-        1 => Fault::Ends(nodes - 1),
-        2 => Fault::Follow(random.pick(&[b"\n", b"0", b"V", b"\0"])),
-        3 => Fault::Follow(b"V     0     0\n"),
-        4 => {
-            let most = random.between(0, MOST_EVENTS);
-            lines.push(Line::new(b'V', &[nodes as u64, most]));
-            return filled(random, spell(&lines));
-        }
-        5 | 6 => {
-            let others = [place + 1, place + 256, place + 65_536, MOST_EVENTS - place];
-            Fault::Number(line, 0, random.pick(&others))
-        }
-        7 if nodes > 1 => {
-            let other = (line + 1 + random.place(nodes - 1)) % nodes;
-            lines.swap(line, other);
-            return filled(random, spell(&lines));
-        }
-        8 => {
+    match random.below(12) {
+        0 => lines.push(Line::new(b'V', &[nodes as u64, 0])),
+        1 if nodes > 1 => lines.swap(line, (line + 1 + random.place(nodes - 1)) % nodes),
+        2 => {
             let mut file = filled(random, spell(&lines));
             file.pop();
             return file;
         }
-        9 if random.once_in(2) => {
-            let mut file = spell(&lines);
+        // longer than any job file, now and then
+        3 if random.once_in(2) => {
+            let mut file = filled(random, spell(&lines));
             lengthen(random, &mut file);
             return file;
         }
+        _ => {
+            let fault = fault(random, line, nodes);
+            return filled(random, faulty(&lines, &[fault]));
+        }
+    }
+    filled(random, spell(&lines))
+}
+
+/// A fault of this line of so many, or of the file's end.
+fn fault(random: &mut Random, line: usize, lines: usize) -> Fault {
+    let place = line as u64;
+    let other = [place + 1, place + 256, place + 65_536, MOST_EVENTS - place];
+    match random.below(8) {
+        0 => Fault::Ends(line),
+        1 => Fault::Ends(lines - 1),
+        2 => Fault::Follow(random.pick(&[b"\n", b"0", b"V", b"\0"])),
+        3 => Fault::Follow(b"V     0     0\n"),
+        4 | 5 => Fault::Number(line, 0, random.pick(&other)),
         _ => Fault::Form(line, random.pick(&Form::ALL)),
-    };
-    filled(random, faulty(&lines, &[fault]))
+    }
 }
 
 /// A file like one for so many nodes, with any zeros and with other bytes, which it may be sound with.

@@ -1,11 +1,9 @@
 -- `daycost::day_cost` meets its contract.
 -- Invariant: the lines of the first n nodes pass, and the sum is what their events cost. Measure: the nodes still to come.
 -- Assumes nothing.
-use Prim.Native.Nat.{_≤_, _-_, _*_}
-use mathlib.Core.Path.{_≡_, sym, _∙_}
+use Prim.Native.Nat.{_≤_, _-_}
 use native.Mathlib.Omega.{arith}
 use borrow.Author.Needs.{needs}
-use lib.ListN.{length}
 use Rattle.daycost.proofs.DayCostLaws.{SumSoFar, refused-small, sum-start, sum-next, volume-few, sum-length, sum-stop, sum-end}
 use Rattle.daycost.proofs.day_cost.Statement.{statement}
 use Rattle.daycost.proofs.day_cost.Tie as tie

@@ -1,6 +1,5 @@
 -- `pricecall::price_plan` meets its contract: a refusal of the job file, or the answer for the job that was admitted.
 -- Assumes nothing.
-use native.Mathlib.Omega.{arith}
 use borrow.Author.Needs.{needs}
 use lib.ListN.{replicate}
 use Rattle.buffer.specs.Buffer.{workSize}

@@ -1,6 +1,6 @@
 -- `pricenumbers::of_price` meets its contract: cents of 48 bits are added without loss.
 -- Assumes nothing.
-use mathlib.Core.Path.{_≡_, sym, ap, subst}
+use mathlib.Core.Path.{sym, ap, subst}
 use native.Mathlib.Omega.{arith}
 use borrow.Author.Needs.{needs}
 use Rattle.pricing.specs.Pricing.{priceNumber}
