@@ -15,7 +15,7 @@ use Rattle.admission.specs.Admission.{admitted}
 use Rattle.checking.specs.declared.check.Verdict.{Verdict}
 use Rattle.checking.specs.Checking.{answered, checked}
 use Rattle.pricing.specs.Numbered.{columnIn}
-use Rattle.pricing.specs.Pricing.{volumeLine, housePrices, pricedJob, answeredAt, priced}
+use Rattle.pricing.specs.Pricing.{volumeLine, housePrices, pricedJob, answeredAt, pricedAt, priced}
 use Rattle.pricing.proofs.PricingLaws.{priced-job}
 use Rattle.pricing.proofs.NumberedAlikeLaws.{numbered-say-alike}
 use Rattle.planoutcome.specs.PlanCall.{planSize, planAnswer}
@@ -43,7 +43,7 @@ module _ (f g : List ℕ) (long : length f ≡ length g) (read : readJob f ≡ r
 
   -- the price
   same-price : (plan volumes : List ℕ) → priced f plan volumes ≡ priced g plan volumes
-  unfolding priced
+  unfolding pricedAt
   same-price plan volumes = ap (λ (x : Answer). answeredAt housePrices x plan volumes) read
 
   -- all that a call gives
@@ -68,7 +68,7 @@ one-price
 unfolding pricedJob
 one-price file f g j spells same plan =
     let one : pricedJob housePrices j plan f ≡ pricedJob housePrices j plan g = rw same in
-    ap priceGives (priced-job file plan f j spells ∙ one ∙ sym (priced-job file plan g j spells))
+    ap priceGives (priced-job housePrices file plan f j spells ∙ one ∙ sym (priced-job housePrices file plan g j spells))
 
 -- files alike, or alike as far as they are looked at
 pub same-answers : SameAnswers
