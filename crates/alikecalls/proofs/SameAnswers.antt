@@ -15,7 +15,7 @@ use Rattle.admission.specs.Admission.{admitted}
 use Rattle.checking.specs.declared.check.Verdict.{Verdict}
 use Rattle.checking.specs.Checking.{answered, checked}
 use Rattle.pricing.specs.Numbered.{columnIn}
-use Rattle.pricing.specs.Pricing.{volumeLine, housePrices, pricedJob, answeredAt, priced}
+use Rattle.pricing.specs.Pricing.{volumeLine, housePrices, pricedJob, answeredAt, pricedAt, priced}
 use Rattle.pricing.proofs.PricingLaws.{priced-job}
 use Rattle.pricing.proofs.NumberedAlikeLaws.{numbered-say-alike}
 use Rattle.planoutcome.specs.PlanCall.{planSize, planAnswer}
@@ -43,7 +43,7 @@ module _ (f g : List ℕ) (long : length f ≡ length g) (read : readJob f ≡ r
 
   -- the price
   same-price : (plan volumes : List ℕ) → priced f plan volumes ≡ priced g plan volumes
-  unfolding priced
+  unfolding pricedAt
   same-price plan volumes = ap (λ (x : Answer). answeredAt housePrices x plan volumes) read
 
   -- all that a call gives
@@ -68,7 +68,7 @@ one-price
 unfolding pricedJob
 one-price file f g j spells same plan =
     let one : pricedJob housePrices j plan f ≡ pricedJob housePrices j plan g = rw same in
-    ap priceGives (priced-job file plan f j spells ∙ one ∙ sym (priced-job file plan g j spells))
+    ap priceGives (priced-job housePrices file plan f j spells ∙ one ∙ sym (priced-job housePrices file plan g j spells))
 
 -- files alike, or alike as far as they are looked at
 pub same-answers : SameAnswers
@@ -78,6 +78,8 @@ same-answers =
       no-further = λ f g due same d a. one-answer f g same (alike-says .no-further f g due same d a);
       volumes = λ file f g j spells a.
           one-price file f g j spells (numbered-say-alike .read-alike volumeLine (length (j .nodes)) f g a);
-      volumes-no-further = λ file f g j r spells b a.
-          one-price file f g j spells (numbered-say-alike .no-further volumeLine (length (j .nodes)) f g r b a);
+      volumes-turned-back = λ file f g j r spells b a.
+          one-price file f g j spells (numbered-say-alike .turned-back volumeLine (length (j .nodes)) f g r b a);
+      volumes-no-further = λ file f g due j spells long d a.
+          one-price file f g j spells (numbered-say-alike .no-further volumeLine (length (j .nodes)) f g due long d a);
     }

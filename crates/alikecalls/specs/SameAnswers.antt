@@ -1,7 +1,7 @@
 -- "A file with them", zeros before a number's digits, "must give the same answer as the file written without" (document 02, request 5): of
 -- every call that is lent a job file or a volume file, the answer, its number and every lent byte. Which job files are alike is `jobfile`'s
--- `Alike.antt`, and which volume files `pricing`'s `NumberedAlike.antt`; the file written without zeros is alike each file of its job
--- (`ReadsWhatIsWritten` of `Spellable.antt`).
+-- `Alike.antt`: the one written without zeros is alike each file of its job (`ReadsWhatIsWritten` of `Spellable.antt`). Which volume files are
+-- alike is `pricing`'s `NumberedAlike.antt`: the one written without zeros is alike each file of its volumes (`written` there).
 -- Assumes nothing.
 use mathlib.Core.Path.{_≡_}
 use mathlib.Core.Bool.{Bool, false}
@@ -19,7 +19,7 @@ use Rattle.checking.specs.declared.check.Verdict.{Verdict}
 use Rattle.checking.specs.Checking.{checked, workLeft, verdictNumber}
 use Rattle.pricing.specs.declared.price.Price.{Price}
 use Rattle.pricing.specs.Pricing.{volumeLine, priced, priceNumber}
-use Rattle.pricing.specs.NumberedAlike.{AlikeColumn}
+use Rattle.pricing.specs.NumberedAlike.{ColumnDue, AlikeColumn}
 use Rattle.planoutcome.specs.declared.plan.Outcome.{Outcome}
 use Rattle.planoutcome.specs.PlanCall.{planAnswer, outcomeOf, planAfter, planNumber}
 use Rattle.listoutcome.specs.declared.list.Listed.{Listed}
@@ -101,12 +101,16 @@ abbrev pub OnePrice : List ℕ → List ℕ → List ℕ → Type 0
 OnePrice file f g = (plan : List ℕ) → priceGives (priced file plan f) ≡ priceGives (priced file plan g)
 
 -- the statement: files alike, cut, damaged or sound, get the same of every call; so do files of one length that are too long, or alike in the
--- lines up to one that is turned back, whatever follows it. So do volume files, by a V line for each node of the job
+-- lines up to one that is turned back, whatever follows it. So do volume files, by a V line for each node of the job: alike ones; those alike
+-- in the lines up to one that is turned back; those of one length that are alike in the lines due, whatever follows these
 pub record SameAnswers : Type 0 where
   pub alike : (f g : List ℕ) → Alike f g → OneAnswer f g
   pub no-further : (f g due : List ℕ) → length f ≡ length g → TurnedDue f due → AlikeUpTo due f g → OneAnswer f g
   pub volumes
       : (file f g : List ℕ) (j : Job) → readJob file ≡ accepted j → AlikeColumn volumeLine (length (j .nodes)) f g → OnePrice file f g
-  pub volumes-no-further
+  pub volumes-turned-back
       : (file f g : List ℕ) (j : Job) (r : ℕ) → readJob file ≡ accepted j → (b : FirstBad volumeLine (length (j .nodes)) 0 [] f r)
       → AlikeUpTo (replicate (length (b .passed)) 2 ++ (2 ∷ [])) f g → OnePrice file f g
+  pub volumes-no-further
+      : (file f g due : List ℕ) (j : Job) → readJob file ≡ accepted j → length f ≡ length g
+      → ColumnDue volumeLine (length (j .nodes)) f due → AlikeUpTo due f g → OnePrice file f g
