@@ -148,9 +148,9 @@ checked-2 file plan size h g =
 
 -- past both, the file's own
 pub checked-read
-    : (file plan : List ℕ) (size : ℕ) → length file ≤ maxFile → workSize ≤ size → checked file plan size ≡ answered (readJob file) plan
+    : (file plan : List ℕ) (size : ℕ) → workSize ≤ size → checked file plan size ≡ answered (readJob file) plan
 unfolding checked
-checked-read file plan size h g =
+checked-read file plan size g =
     ap (λ (a : Answer). answered a plan) (admitted-read file (ltb size workSize) (le-ltb size workSize g))
 
 -- the answer for a job leaves the buffer cleared

@@ -134,7 +134,7 @@ module _ (file plan : List ℕ) (size : ℕ) (b : Bool) where
       ⊎-elim
       (λ (g : ltb size workSize ≡ true). absurd (refused-not 2 b (checked-2 file plan size short (ltb-true size workSize g) ∙ h)))
       (λ (g : ltb size workSize ≡ false).
-      let room = ltb-false size workSize g in passed-file short room (sym (checked-read file plan size short room) ∙ h))
+      let room = ltb-false size workSize g in passed-file short room (sym (checked-read file plan size room) ∙ h))
       (passes-or-fails (ltb size workSize)))
       (passes-or-fails (ltb maxFile (length file)))
 
@@ -143,7 +143,7 @@ module _ (file plan : List ℕ) (size : ℕ) (b : Bool) where
   passed-verdict p =
       let j = p .0 in
       let a = p .1 in
-      checked-read file plan size (a .short) (a .room)
+      checked-read file plan size (a .room)
       ∙ ap (λ (x : Answer). answered x plan) (a .spells)
       ∙ judged-verdict j plan b (a .bytes) (marks-say j plan .1 (a .marks)) (p .2)
 

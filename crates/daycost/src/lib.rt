@@ -1,11 +1,9 @@
 // What a day's events cost: the volume file read, and the sum over the watched points.
 ghost use mathlib.Core.Path.{_≡_};
-ghost use Prim.Native.Nat.{_^_, _≤_, _<_};
-ghost use lib.ListN.{length};
-ghost use Rattle.buffer.specs.Layout.{Lent};
+ghost use Prim.Native.Nat.{_^_, _<_};
 ghost use Rattle.pricing.specs.Numbered.{columnIn};
 ghost use Rattle.pricing.specs.Pricing.{volumeLine};
-ghost use Rattle.pricing.specs.Inner.{NodeFit, PricesFit, Fit, costIn, sumIn};
+ghost use Rattle.pricing.specs.Inner.{CostFit, Fit, costIn, sumIn};
 use framing::refused;
 use lines::field::Field;
 use lines::line::Collected;
@@ -14,8 +12,7 @@ use numberedline::numbered_line;
 
 // What a day's events at node n cost, in thousandths of a cent: nothing where it is not watched.
 fn cost_at(work: &[u8], plan: &[u8], n: usize, volume: u64, prices: &[u64; 16]) -> u64
-    requires { ⌜ (Lent (now work)) × ((n < 512) × ((n < length (now plan)) × ((volume ≤ 999999)
-        × ((PricesFit (now prices)) × (NodeFit (now work) (now plan) n))))) ⌝ }
+    requires { ⌜ CostFit (now work) (now plan) (now prices) n volume ⌝ }
     ensures { λ r. ⌜ r ≡ costIn (now (prices .entry)) (now (work .entry)) (now (plan .entry)) n volume ⌝ }
 {
     if plan[n] != 1 {

@@ -36,6 +36,15 @@ pub record NodeFit (work plan : List ℕ) (n : ℕ) : Type 0 where
   pub symbol : (s : ℕ) → pointOf (nodeIn work n .kind) ≡ point s → s < 16
   pub mark : enables plan n ≡ true → isEvent (nodeIn work n .kind) ≡ true
 
+-- what the cost of node n needs
+pub record CostFit (work plan prices : List ℕ) (n volume : ℕ) : Type 0 where
+  pub long : Lent work
+  pub few : n < 512
+  pub byte : n < length plan
+  pub volume-fits : volume ≤ 999999
+  pub prices-fit : PricesFit prices
+  pub node : NodeFit work plan n
+
 -- what the sum needs of buffer, plan and prices
 pub record Fit (work plan prices : List ℕ) (nodes : ℕ) : Type 0 where
   pub long : Lent work

@@ -29,15 +29,14 @@ mul-result-2 : tie.Need-mul-result-2
 mul-result-2 c =
     let start = c .before .before .before .before .before .before in
     let price = getD (start .args .prices .now) (c .before .symbol-at .result) 0 in
-    let few = start .pre .1 .1 .1 .0 in
-    let cheap = start .pre .1 .1 .1 .1 .0 (c .before .symbol-at .result) in
-    record { fits = omega (arith, cheap, mul-le-mul-right price few) }
+    let cheap = start .pre .prices-fit (c .before .symbol-at .result) in
+    record { fits = omega (arith, cheap, mul-le-mul-right price (start .pre .volume-fits)) }
 
 returns-2 : tie.Need-returns-2
 returns-2 c =
     let start = c .before .before .before .before .before .before in
     let x = start .args in
-    cost-watched (x .prices .now) (x .work .now) (x .plan .now) (x .n) (x .volume) (start .pre .1 .1 .1 .1 .1) (c .before .before .if1 .left)
+    cost-watched (x .prices .now) (x .work .now) (x .plan .now) (x .n) (x .volume) (start .pre .node) (c .before .before .if1 .left)
     (c .before .symbol-at .result) (c .before .symbol-at .ensures .1)
 
 pub cost-at-spec : {M : Type 1} → statement M

@@ -63,7 +63,14 @@ cost-at-requires c κs =
     let f = c .before .before .before .numbered-line in
     let below = c .before .before .before .before .loop-test .taken in
     let few = volume-few (x .volumes .now) (x .prices .now) (x .work .now) (x .plan .now) (l .n) _ (f .result) (f .ensures) (c .before .volume .given .1) in
-    (start .pre .long, (omega (arith, start .pre .few), (omega (arith, start .pre .bytes), (few, (start .pre .prices-fit, start .pre .node (l .n) below)))))
+    record {
+      long = start .pre .long;
+      few = omega (arith, start .pre .few);
+      byte = omega (arith, start .pre .bytes);
+      volume-fits = few;
+      prices-fit = start .pre .prices-fit;
+      node = start .pre .node (l .n) below;
+    }
 
 add-sum : tie.Need-add-sum Inv-loop μ-loop
 add-sum c =

@@ -10,7 +10,6 @@ use dapohiru_generators::sized::{self, Sizes, FULL};
 use dapohiru_generators::spread::Spread;
 use dapohiru_generators::{small, volumes};
 use dapohiru_plain::read::Decoded;
-use dapohiru_second::job::Job;
 use dapohiru_second::pricing::Answer;
 use std::collections::BTreeSet;
 
@@ -115,7 +114,7 @@ fn damaged_job_files_agree() {
     let mut calls = Calls::new();
     for number in 0..FILES {
         let Damaged { file, unread, job } = Damaged::random(&mut random);
-        let plan = plan(&mut random, &job);
+        let plan = small::plan(&mut random, &job);
         let mut case = Case::any(&mut random, &job, plan);
         (case.checking.file, case.checking.unread) = (file, unread);
         calls.agree(format_args!("file {number}"), &case);
@@ -148,26 +147,13 @@ fn plain_price_of_the_benchmark_agrees_with_the_second() {
     counts.came(all_answers());
 }
 
-/// A plan of a job: its own points, none, or any of them.
-pub fn plan(random: &mut Random, job: &Job) -> Vec<u8> {
-    match random.below(3) {
-        0 => job.all_watched(),
-        1 => job.plan_of(&[]),
-        _ => {
-            let mut points = job.points();
-            points.retain(|_| random.once_in(2));
-            job.plan_of(&points)
-        }
-    }
-}
-
 #[test]
 fn longest_job_file_is_priced_and_one_byte_more_is_1() {
     let mut random = Random::of_this_run();
     let mut calls = Calls::new();
     for number in 0..20 {
         let job = sized::job(&mut random, FULL);
-        let plan = plan(&mut random, &job);
+        let plan = small::plan(&mut random, &job);
         let mut case = Case::any(&mut random, &job, plan);
         assert_eq!(case.checking.file.len(), dapohiru::JOB_LEN);
         let answer = calls.agree(format_args!("job {number}"), &case);

@@ -1,5 +1,5 @@
 //! Files with zeros before their numbers and the same files without get the same number.
-use crate::agreement::{all_answers, plan, Calls};
+use crate::agreement::{all_answers, Calls};
 use dapohiru_compare::memory::{start_of, Counts};
 use dapohiru_compare::pricing::{cases, refused, Case, Memory};
 use dapohiru_compare::wrapper::WRAPPER;
@@ -7,8 +7,8 @@ use dapohiru_generators::mixed;
 use dapohiru_generators::random::Random;
 use dapohiru_generators::samples::pair;
 use dapohiru_generators::sized::{self, FULL};
-use dapohiru_generators::volumes;
 use dapohiru_generators::zeros::{filled, spaced, zero_filled};
+use dapohiru_generators::{small, volumes};
 
 /// The file with spaces before its numbers, with zeros, and with any of both.
 fn alike(random: &mut Random, file: &[u8]) -> [Vec<u8>; 3] {
@@ -22,7 +22,7 @@ fn job_files_and_volume_files_that_are_alike_get_the_same_number() {
     const JOBS: usize = 1_000;
     let mut random = Random::of_this_run();
     let mut calls = Calls::new();
-    let mut zeros = 0;
+    let (mut zeros, mut volume_zeros) = (0, 0);
     for number in 0..JOBS {
         let job = match number % 100 {
             0 => sized::job(&mut random, FULL),
@@ -39,14 +39,15 @@ fn job_files_and_volume_files_that_are_alike_get_the_same_number() {
                     let answer = calls.agree(format_args!("job {number}"), &other);
                     assert_eq!(answer, wanted, "{}\nand {}", case.words(), other.words());
                     zeros += usize::from(*file != files[0]);
+                    volume_zeros += usize::from(volumes != case.volumes);
                 }
             }
         }
     }
     calls.counts.print(&format!("{JOBS} jobs"));
     calls.counts.came(all_answers());
-    println!("{zeros} job files with zeros");
-    assert!(zeros > 10 * JOBS);
+    println!("{zeros} job files and {volume_zeros} volume files with zeros");
+    assert!(zeros > 10 * JOBS && volume_zeros > 10 * JOBS);
 }
 
 #[test]
@@ -88,7 +89,7 @@ fn volume_files_that_are_alike_and_cut_at_the_same_byte_get_the_same_number() {
     let mut calls = Calls::new();
     for number in 0..60 {
         let job = mixed::small_job(&mut random);
-        let plan = plan(&mut random, &job);
+        let plan = small::plan(&mut random, &job);
         let case = Case::any(&mut random, &job, plan);
         let files = alike(&mut random, &case.volumes);
         for cut in 0..=files[0].len() {

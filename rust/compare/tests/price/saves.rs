@@ -1,13 +1,12 @@
 //! What a plan saves: one with fewer points watched costs no more, and planning's own no more than all points
 //! watched.
-use crate::agreement::plan;
 use dapohiru::numbers::ACCEPTED;
 use dapohiru_compare::pricing::Memory;
 use dapohiru_compare::wrapper::WRAPPER;
 use dapohiru_generators::mixed;
 use dapohiru_generators::random::Random;
-use dapohiru_generators::volumes;
 use dapohiru_generators::zeros::filled;
+use dapohiru_generators::{small, volumes};
 use dapohiru_second::job::Job;
 use dapohiru_second::pricing::Answer;
 
@@ -46,7 +45,7 @@ fn plan_whose_watched_points_are_watched_in_another_costs_no_more() {
     for number in 0..JOBS {
         let job = mixed::job(&mut random);
         let mut prices = Prices::any(&mut random, &mut memory, &job);
-        let more = plan(&mut random, &job);
+        let more = small::plan(&mut random, &job);
         let fewer: Vec<_> = more
             .iter()
             .map(|&byte| byte * random.below(2) as u8)
