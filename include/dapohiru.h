@@ -1,9 +1,9 @@
 /*
- * Planning, listing, the plan check and the event step of the monitor: the four calls of the static
- * library libdapohiru.a, for C (from C99 on) and C++.
+ * Planning, listing, the plan check, the journal price of a plan and the event step of the monitor: the five
+ * calls of the static library libdapohiru.a, for C (from C99 on) and C++.
  *
  * Each call gets byte buffers, each as a pointer and a length, and returns one 64-bit number. A number
- * from 1 to 15 is a refusal. Every other answer has DAPOHIRU_ACCEPTED added.
+ * from 1 to 16 is a refusal. Every other answer has DAPOHIRU_ACCEPTED added.
  *
  * The caller owns every buffer, before and after. Buffers marked const are only read. A pointer is valid
  * for its length; where the length is 0 it is not looked at, and may be anything but NULL. Buffers that a
@@ -25,8 +25,9 @@
 extern "C" {
 #endif
 
-/* Lengths in bytes. A job file may be shorter, and the three buffers may be longer. */
+/* Lengths in bytes. A job file or volume file may be shorter, and the three buffers may be longer. */
 #define DAPOHIRU_JOB_LEN 49914     /* the longest job file */
+#define DAPOHIRU_VOLUMES_LEN 7168  /* the longest volume file: 14 bytes for each of 512 nodes */
 #define DAPOHIRU_WORK_LEN 65536    /* the shortest work buffer */
 #define DAPOHIRU_PLAN_LEN 512      /* the shortest plan buffer for planning */
 #define DAPOHIRU_LISTING_LEN 32768 /* the shortest listing buffer */
@@ -51,6 +52,9 @@ extern "C" {
 /* The length in the answer of accepted listing. */
 #define DAPOHIRU_LENGTH(answer) ((answer) - DAPOHIRU_ACCEPTED)
 
+/* The price in the answer of accepted pricing. */
+#define DAPOHIRU_CENTS(answer) ((answer) - DAPOHIRU_ACCEPTED)
+
 /*
  * Refusals. The lowest that applies is returned; the lines of a file are tested in turn, 3 to 8 on each.
  * A field is a number in six columns: spaces or none, then digits, of which the first may be zeros.
@@ -66,11 +70,12 @@ extern "C" {
 #define DAPOHIRU_BAD_EDGE_LINE 8     /* an F line names a node of N or more, or does not ascend */
 #define DAPOHIRU_BYTES_FOLLOW 9      /* bytes follow the last line */
 #define DAPOHIRU_NO_ENTRY 10         /* no node is an entry */
-#define DAPOHIRU_BAD_PLAN_LENGTH 11  /* a plan to be checked is not exactly one byte for each node */
+#define DAPOHIRU_BAD_PLAN_LENGTH 11  /* a plan to be checked or priced is not exactly one byte for each node */
 #define DAPOHIRU_BAD_PLAN_BYTE 12    /* a plan byte is above 1, or is 1 at a node that is no event */
 #define DAPOHIRU_BAD_RULE 13         /* the rule of the event step: its length, S, A, a next or a final state */
 #define DAPOHIRU_BAD_SYMBOL 14       /* the event's symbol is A or more */
 #define DAPOHIRU_BAD_RECORD 15       /* the record's length is not 16, or its state is S or more */
+#define DAPOHIRU_BAD_VOLUMES 16      /* the volume file is not exactly one V line for each node, in order */
 
 /*
  * Plans: writes one byte for each node of the job, 1 at a watched point and 0 at all else, to the start of
@@ -90,6 +95,16 @@ uint64_t dapohiru_list(const uint8_t *job, size_t job_len, uint8_t *work, size_t
  * 1 to 12.
  */
 uint64_t dapohiru_check(const uint8_t *job, size_t job_len, const uint8_t *plan, size_t plan_len, uint8_t *work, size_t work_len);
+
+/*
+ * Prices a plan of exactly one byte for each node: what the journal lines of its watched points cost a day. The
+ * volume file has a V line for each node in order, with the node and its events a day, 0 to 999,999, in fields of
+ * six columns as those of the job file. A thousand events of symbol s cost 20 + 5 s cents. Returns
+ * DAPOHIRU_ACCEPTED plus the cents, a part of a cent in the sum counted as a cent; or a refusal, 1, 3 to 12, or 16,
+ * which comes last. The call is lent no work buffer, so that there is no 2: it takes less than 73,728 bytes of
+ * its caller's stack.
+ */
+uint64_t dapohiru_price(const uint8_t *job, size_t job_len, const uint8_t *plan, size_t plan_len, const uint8_t *volumes, size_t volumes_len);
 
 /*
  * Takes one event: moves the record to the next state, and raises its alarm total by one at an alarm; the total

@@ -1,9 +1,10 @@
-//! Planning, listing, the plan check and the event step of the monitor, for Rust: safe forms of the C
-//! calls in the proved static library.
+//! Planning, listing, the plan check, the journal price of a plan and the event step of the monitor, for
+//! Rust: safe forms of the C calls in the proved static library.
 //!
 //! A job file holds a rule over events and the flow graph of a procedure. [`plan`] says which points of
 //! the graph must stay watched, [`list`] what was found at each, [`check`] whether somebody else's plan
-//! is faithful, and [`event`] (or [`Rule::event`]) takes one event on the record of a running monitor.
+//! is faithful, [`price`] what the journal lines of a plan's watched points cost a day, and [`event`] (or
+//! [`Rule::event`]) takes one event on the record of a running monitor.
 //! A refusal carries its number in "Turned back, by
 //! number". The functions of [`numbers`] are the C calls as they are.
 //!
@@ -100,6 +101,8 @@ struct Service;
 
 /// The greatest length of a job file.
 pub const JOB_LEN: usize = 49_914;
+/// The greatest length of a volume file: 14 bytes for each of 512 nodes.
+pub const VOLUMES_LEN: usize = 7_168;
 /// The least length of a work buffer, and the bytes of it that an answer clears.
 pub const WORK_LEN: usize = 65_536;
 /// The least length of a plan buffer.
@@ -218,6 +221,48 @@ pub fn check(job: &[u8], plan: &[u8], work: &mut [u8]) -> Result<Verdict, Refusa
         numbers::DIFFERENT => Ok(Verdict::Different),
         number => Err(Refusal(number)),
     }
+}
+
+/// Prices a plan: what the journal lines of its watched points cost a day, in cents.
+///
+/// `plan` is one byte for each node, 1 at a watched point and 0 at all else. `volumes` is a volume file:
+/// a V line for each node in order, with the node and its events a day, 0 to 999,999, in fields as those
+/// of a job file. A thousand events of symbol s cost 20 + 5 s cents; a part of a cent in the sum over the
+/// watched points counts as a cent.
+///
+/// Refused are 1, 3 to 12, and 16, which comes last. No work buffer is lent, so that there is no 2: the
+/// call takes less than 73,728 bytes of the stack.
+///
+/// ```
+/// use dapohiru::{price, Refusal};
+///
+/// // PAIR: two points of symbol 0, at 20 cents, and one of symbol 2, at 30
+/// let job = b"\
+/// J     3     3     3     2
+/// R     0     0     1     0     0
+/// R     1     0     1     0     2
+/// R     2     1     1     0     2
+/// P     0     1     0     1     0     0
+/// P     1     1     0     0     0     0
+/// P     2     1     2     0     1     0
+/// F     0     1
+/// F     1     2
+/// ";
+/// let volumes = b"\
+/// V     0  1000
+/// V     1  1000
+/// V     2  1000
+/// ";
+/// assert_eq!(price(job, &[0, 1, 1], volumes), Ok(50));
+/// assert_eq!(price(job, &[1, 1, 1], volumes), Ok(70));
+///
+/// // the last line is missing
+/// assert_eq!(price(job, &[1, 1, 1], &volumes[..28]), Err(Refusal(16)));
+/// ```
+#[inline]
+pub fn price(job: &[u8], plan: &[u8], volumes: &[u8]) -> Result<u64, Refusal> {
+    let number = numbers::price(job, plan, volumes);
+    number.checked_sub(numbers::ACCEPTED).ok_or(Refusal(number))
 }
 
 /// Takes one event: moves the record to the next state, and raises its alarm total at an alarm.

@@ -1,8 +1,8 @@
 //! The C calls as they are, on byte slices, in the order of their C arguments: each returns one number.
 //!
-//! A refusal is its number, 1 to 15. Every other answer has 2^48 added: planning returns event nodes
+//! A refusal is its number, 1 to 16. Every other answer has 2^48 added: planning returns event nodes
 //! times 2^32, watched points times 2^16 and passes, listing the length of its lines, the check 0 for
-//! faithful and 1 for different, the event step 0 for quiet and 1 for alarm.
+//! faithful and 1 for different, pricing the cents, the event step 0 for quiet and 1 for alarm.
 //!
 //! ```
 //! use dapohiru::numbers::{event, ALARM};
@@ -66,6 +66,22 @@ pub fn check(job: &[u8], plan: &[u8], work: &mut [u8]) -> u64 {
             plan.len(),
             work.as_mut_ptr(),
             work.len(),
+        )
+    }
+}
+
+/// The number of [`crate::price`].
+#[inline]
+pub fn price(job: &[u8], plan: &[u8], volumes: &[u8]) -> u64 {
+    // SAFETY: each pointer and length are of one slice, and all three are only read.
+    unsafe {
+        ffi::dapohiru_price(
+            job.as_ptr(),
+            job.len(),
+            plan.as_ptr(),
+            plan.len(),
+            volumes.as_ptr(),
+            volumes.len(),
         )
     }
 }

@@ -58,13 +58,13 @@ fn run(source: &str, compiler: &str, options: &[&str], arguments: &[PathBuf]) ->
 fn every_call_from_c_answers_and_leaves_what_the_header_says() {
     let said = run(CALLS, "cc", C99, &[]).expect("cc is installed");
     println!("C99: {}", said.trim_end());
-    assert_eq!(said, "324 tests, 0 failed\n");
+    assert_eq!(said, "410 tests, 0 failed\n");
 }
 
 #[test]
 fn header_is_c_plus_plus_too() {
     match run(CALLS, "c++", &["-x", "c++", "-std=c++11"], &[]) {
-        Some(said) => assert_eq!(said, "324 tests, 0 failed\n"),
+        Some(said) => assert_eq!(said, "410 tests, 0 failed\n"),
         None => println!("no C++ compiler is installed"),
     }
 }
@@ -140,7 +140,7 @@ fn header_and_wrapper_declare_the_same_calls() {
     wrapper.sort();
     header.sort();
     assert_eq!(header, wrapper);
-    assert_eq!(header.len(), 4);
+    assert_eq!(header.len(), 5);
 }
 
 #[test]
@@ -174,7 +174,7 @@ fn wrapper_names_the_signatures_of_the_rattle_source() {
         let of_call = declared.into_iter().find(|call| call.0 == name);
         assert_eq!(of_call.expect("it is declared").1, flat, "{name}");
     }
-    assert_eq!(signatures.len(), 4);
+    assert_eq!(signatures.len(), 5);
 }
 
 /// A Rattle argument as C has it.
@@ -207,6 +207,7 @@ fn lengths_and_answers_of_the_header_are_those_of_the_wrapper() {
     };
     for (name, len) in [
         ("JOB_LEN", dapohiru::JOB_LEN),
+        ("VOLUMES_LEN", dapohiru::VOLUMES_LEN),
         ("WORK_LEN", dapohiru::WORK_LEN),
         ("PLAN_LEN", dapohiru::PLAN_LEN),
         ("LISTING_LEN", dapohiru::LISTING_LEN),
@@ -225,8 +226,9 @@ fn lengths_and_answers_of_the_header_are_those_of_the_wrapper() {
         is_defined(name, "(DAPOHIRU_ACCEPTED + 1)");
     }
     let refusals: Vec<_> = between(&header, "#define DAPOHIRU_", " /*")
-        .filter_map(|definition| definition.split_once(' ')?.1.parse::<u64>().ok())
-        .filter(|&number| number <= 15)
+        .filter_map(|definition| definition.split_once(' '))
+        .filter(|(name, _)| !name.ends_with("_LEN"))
+        .filter_map(|(_, value)| value.parse::<u64>().ok())
         .collect();
-    assert_eq!(refusals, (1..=15).collect::<Vec<_>>());
+    assert_eq!(refusals, (1..=16).collect::<Vec<_>>());
 }

@@ -49,10 +49,14 @@ module _ (file : List ℕ) (short : Bool) where
   unfolding admitted
   admitted-short h s = simp (le-ltb maxFile (length file) h, s)
 
-  -- past both, what the file spells
-  pub admitted-read : length file ≤ maxFile → short ≡ false → admitted file short ≡ readJob file
-  unfolding admitted
-  admitted-read h s = simp (le-ltb maxFile (length file) h, s)
+  -- with no buffer too short, what the file spells, which is 1 too where it is too long
+  pub admitted-read : short ≡ false → admitted file short ≡ readJob file
+  unfolding admitted readJob
+  admitted-read s = rw s (go (ltb maxFile (length file)) _)
+    where
+      go : (t : Bool) (x : Answer) → cond t (turned 1) (cond t (turned 1) x) ≡ cond t (turned 1) x
+      go true x = refl
+      go false x = refl
 
   -- a job is accepted only where no buffer is too short and the file spells it
   pub admitted-reads : (j : Job) → admitted file short ≡ accepted j → (short ≡ false) × (readJob file ≡ accepted j)
@@ -157,7 +161,7 @@ module _ (file l : List ℕ) (other : Bool) where
       (read : JobRead (readJob file) l m r) where
     -- the answer is what the file spells
     spells : admitted file short ≡ readJob file
-    spells = admitted-read file short fits (or-fails (ltb (length l) workSize) other (le-ltb (length l) workSize long) room)
+    spells = admitted-read file short (or-fails (ltb (length l) workSize) other (le-ltb (length l) workSize long) room)
 
     -- a refusal of the file's own
     pub admit-refused : (r .refusal ≡ 0 → ⊥) → Admitted (admitted file short) l (cleared m) (refusedHead (r .refusal))

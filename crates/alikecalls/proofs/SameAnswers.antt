@@ -1,20 +1,26 @@
--- Files alike get the same answer of every call: they have one length and are read alike, and no call looks at more of its file.
+-- Files alike get the same answer of every call: they have one length and are read alike, and no call looks at more of its file. Volume files
+-- alike have the same volumes or none, and pricing looks at no more of them.
 -- Assumes nothing.
-use mathlib.Core.Path.{_≡_, ap}
+use mathlib.Core.Path.{_≡_, sym, ap, _∙_}
 use mathlib.Core.Bool.{Bool, false, _||_}
 use mathlib.Core.List.{List}
 use Prim.Native.Nat.{ℕ}
 use lib.Dec.{ltb}
 use lib.ListN.{length}
-use Rattle.jobfile.specs.File.{Answer, readJob}
+use Rattle.job.specs.Job.{Job}
+use Rattle.jobfile.specs.File.{Answer, accepted, readJob}
 use Rattle.jobfile.proofs.AlikeLaws.{alike-says}
 use Rattle.buffer.specs.Buffer.{workSize}
 use Rattle.admission.specs.Admission.{admitted}
 use Rattle.checking.specs.declared.check.Verdict.{Verdict}
 use Rattle.checking.specs.Checking.{answered, checked}
+use Rattle.pricing.specs.Numbered.{columnIn}
+use Rattle.pricing.specs.Pricing.{volumeLine, housePrices, pricedJob, answeredAt, pricedAt, priced}
+use Rattle.pricing.proofs.PricingLaws.{priced-job}
+use Rattle.pricing.proofs.NumberedAlikeLaws.{numbered-say-alike}
 use Rattle.planoutcome.specs.PlanCall.{planSize, planAnswer}
 use Rattle.listoutcome.specs.ListCall.{listingSize, listAnswer}
-use Rattle.alikecalls.specs.SameAnswers.{planGives, listGives, checkGives, printGives, OneAnswer, SameAnswers}
+use Rattle.alikecalls.specs.SameAnswers.{planGives, listGives, checkGives, priceGives, printGives, OneAnswer, OnePrice, SameAnswers}
 
 module _ (f g : List ℕ) (long : length f ≡ length g) (read : readJob f ≡ readJob g) where
   -- what a call begins with
@@ -35,6 +41,11 @@ module _ (f g : List ℕ) (long : length f ≡ length g) (read : readJob f ≡ r
   unfolding checked
   same-verdict plan work = ap (λ (x : Answer). answered x plan) (same-admission (ltb work workSize))
 
+  -- the price
+  same-price : (plan volumes : List ℕ) → priced f plan volumes ≡ priced g plan volumes
+  unfolding pricedAt
+  same-price plan volumes = ap (λ (x : Answer). answeredAt housePrices x plan volumes) read
+
   -- all that a call gives
   one-answer : OneAnswer f g
   one-answer =
@@ -46,8 +57,18 @@ module _ (f g : List ℕ) (long : length f ≡ length g) (read : readJob f ≡ r
         listing = λ work listing. ap (λ (x : Answer). listGives x work listing) (same-list (length work) (length listing));
         verdict = same-verdict;
         checking = λ plan work. ap (λ (v : Verdict). checkGives v work) (same-verdict plan (length work));
+        pricing = λ plan volumes. ap priceGives (same-price plan volumes);
         printing = λ work. ap (λ (x : Answer). printGives x work) (same-admission false);
       }
+
+-- volume files that are read alike get one price
+one-price
+    : (file f g : List ℕ) (j : Job) → readJob file ≡ accepted j
+    → columnIn volumeLine (length (j .nodes)) f ≡ columnIn volumeLine (length (j .nodes)) g → OnePrice file f g
+unfolding pricedJob
+one-price file f g j spells same plan =
+    let one : pricedJob housePrices j plan f ≡ pricedJob housePrices j plan g = rw same in
+    ap priceGives (priced-job housePrices file plan f j spells ∙ one ∙ sym (priced-job housePrices file plan g j spells))
 
 -- files alike, or alike as far as they are looked at
 pub same-answers : SameAnswers
@@ -55,4 +76,10 @@ same-answers =
     record {
       alike = λ f g a. one-answer f g (a .long) (alike-says .read-alike f g a);
       no-further = λ f g due same d a. one-answer f g same (alike-says .no-further f g due same d a);
+      volumes = λ file f g j spells a.
+          one-price file f g j spells (numbered-say-alike .read-alike volumeLine (length (j .nodes)) f g a);
+      volumes-turned-back = λ file f g j r spells b a.
+          one-price file f g j spells (numbered-say-alike .turned-back volumeLine (length (j .nodes)) f g r b a);
+      volumes-no-further = λ file f g due j spells long d a.
+          one-price file f g j spells (numbered-say-alike .no-further volumeLine (length (j .nodes)) f g due long d a);
     }

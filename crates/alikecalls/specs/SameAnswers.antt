@@ -1,19 +1,25 @@
 -- "A file with them", zeros before a number's digits, "must give the same answer as the file written without" (document 02, request 5): of
--- every call that is lent a job file, the answer, its number and every lent byte. Which files are alike is `jobfile`'s `Alike.antt`; the
--- file written without zeros is alike each file of its job (`ReadsWhatIsWritten` of `Spellable.antt`).
+-- every call that is lent a job file or a volume file, the answer, its number and every lent byte. Which job files are alike is `jobfile`'s
+-- `Alike.antt`: the one written without zeros is alike each file of its job (`ReadsWhatIsWritten` of `Spellable.antt`). Which volume files are
+-- alike is `pricing`'s `NumberedAlike.antt`: the one written without zeros is alike each file of its volumes (`written` there).
 -- Assumes nothing.
 use mathlib.Core.Path.{_≡_}
 use mathlib.Core.Bool.{Bool, false}
-use mathlib.Core.List.{List}
+use mathlib.Core.List.{List, [], _∷_, _++_}
 use Prim.Native.Nat.{ℕ}
-use lib.ListN.{length}
+use lib.ListN.{length, replicate}
+use Rattle.job.specs.Job.{Job}
+use Rattle.lines.specs.Written.{FirstBad}
 use Rattle.lines.specs.Alike.{AlikeUpTo}
-use Rattle.jobfile.specs.File.{Answer}
+use Rattle.jobfile.specs.File.{Answer, accepted, readJob}
 use Rattle.jobfile.specs.ListingLines.{printedFor}
 use Rattle.jobfile.specs.Alike.{TurnedDue, Alike}
 use Rattle.admission.specs.Admission.{admitted, workAfter}
 use Rattle.checking.specs.declared.check.Verdict.{Verdict}
 use Rattle.checking.specs.Checking.{checked, workLeft, verdictNumber}
+use Rattle.pricing.specs.declared.price.Price.{Price}
+use Rattle.pricing.specs.Pricing.{volumeLine, priced, priceNumber}
+use Rattle.pricing.specs.NumberedAlike.{ColumnDue, AlikeColumn}
 use Rattle.planoutcome.specs.declared.plan.Outcome.{Outcome}
 use Rattle.planoutcome.specs.PlanCall.{planAnswer, outcomeOf, planAfter, planNumber}
 use Rattle.listoutcome.specs.declared.list.Listed.{Listed}
@@ -53,6 +59,15 @@ pub record CheckResult : Type 0 where
 abbrev pub checkGives : Verdict → List ℕ → CheckResult
 checkGives v work = record { verdict = v; number = verdictNumber v; work = workLeft v work }
 
+-- of pricing: the price, its number
+pub record PriceResult : Type 0 where
+  pub price : Price
+  pub number : ℕ
+
+-- for an answer
+abbrev pub priceGives : Price → PriceResult
+priceGives p = record { price = p; number = priceNumber p }
+
 -- of the listing program: what is printed, the work buffer
 pub record PrintResult : Type 0 where
   pub text : List ℕ
@@ -62,8 +77,8 @@ pub record PrintResult : Type 0 where
 abbrev pub printGives : Answer → List ℕ → PrintResult
 printGives a work = record { text = printedFor a; work = workAfter a work }
 
--- two files get the same of every call. Each contract of a call names its file in `admitted`, `planAnswer`, `listAnswer` or `checked` alone, so what is
--- said of these is said of all that a call gives
+-- two files get the same of every call. Each contract of a call names its file in `admitted`, `planAnswer`, `listAnswer`, `checked` or `priced` alone,
+-- so what is said of these is said of all that a call gives
 pub record OneAnswer (f g : List ℕ) : Type 0 where
   -- what every call begins with
   pub admission : (short : Bool) → admitted f short ≡ admitted g short
@@ -78,10 +93,24 @@ pub record OneAnswer (f g : List ℕ) : Type 0 where
       ≡ listGives (listAnswer g (length work) (length listing)) work listing
   pub verdict : (plan : List ℕ) (work : ℕ) → checked f plan work ≡ checked g plan work
   pub checking : (plan work : List ℕ) → checkGives (checked f plan (length work)) work ≡ checkGives (checked g plan (length work)) work
+  pub pricing : (plan volumes : List ℕ) → priceGives (priced f plan volumes) ≡ priceGives (priced g plan volumes)
   pub printing : (work : List ℕ) → printGives (admitted f false) work ≡ printGives (admitted g false) work
 
+-- two volume files get the same of pricing, beside one job file
+abbrev pub OnePrice : List ℕ → List ℕ → List ℕ → Type 0
+OnePrice file f g = (plan : List ℕ) → priceGives (priced file plan f) ≡ priceGives (priced file plan g)
+
 -- the statement: files alike, cut, damaged or sound, get the same of every call; so do files of one length that are too long, or alike in the
--- lines up to one that is turned back, whatever follows it
+-- lines up to one that is turned back, whatever follows it. So do volume files, by a V line for each node of the job: alike ones; those alike
+-- in the lines up to one that is turned back; those of one length that are alike in the lines due, whatever follows these
 pub record SameAnswers : Type 0 where
   pub alike : (f g : List ℕ) → Alike f g → OneAnswer f g
   pub no-further : (f g due : List ℕ) → length f ≡ length g → TurnedDue f due → AlikeUpTo due f g → OneAnswer f g
+  pub volumes
+      : (file f g : List ℕ) (j : Job) → readJob file ≡ accepted j → AlikeColumn volumeLine (length (j .nodes)) f g → OnePrice file f g
+  pub volumes-turned-back
+      : (file f g : List ℕ) (j : Job) (r : ℕ) → readJob file ≡ accepted j → (b : FirstBad volumeLine (length (j .nodes)) 0 [] f r)
+      → AlikeUpTo (replicate (length (b .passed)) 2 ++ (2 ∷ [])) f g → OnePrice file f g
+  pub volumes-no-further
+      : (file f g due : List ℕ) (j : Job) → readJob file ≡ accepted j → length f ≡ length g
+      → ColumnDue volumeLine (length (j .nodes)) f due → AlikeUpTo due f g → OnePrice file f g

@@ -38,7 +38,7 @@ use Rattle.checking.specs.Checking.{goodMark, judged, answered, checked,
 -- ---- the answer for a job
 
 -- the node may have its plan byte
-abbrev marks : List ℕ → (ℕ → Node) → ℕ → Bool
+abbrev pub marks : List ℕ → (ℕ → Node) → ℕ → Bool
 marks plan node n = goodMark (node n .kind) (getD plan n 0)
 
 -- refusal 11
@@ -60,14 +60,18 @@ pub judged-verdict
 unfolding judged
 judged-verdict j plan b h g e = simp (eq-eqb (length plan) (length (j .nodes)) h, g, e)
 
+-- as many tests on the same nodes
+pub marks-same
+    : (plan : List ℕ) (x y : ℕ → Node) (m n : ℕ) → m ≡ n → ((k : ℕ) → k < m → x k ≡ y k) → allBelow m (marks plan x) ≡ allBelow n (marks plan y)
+marks-same plan x y m n e h =
+    all-cong m (marks plan x) (marks plan y) (λ k l. ap (λ (z : Node). goodMark (z .kind) (getD plan k 0)) (h k l))
+    ∙ ap (λ (k : ℕ). allBelow k (marks plan y)) e
+
 -- the tests on the buffer's nodes are those on the job's
 marks-held
     : (j : Job) (plan l : List ℕ) (table : List (List ℕ)) (finals states nodes : ℕ) → JobHeld j l table finals states nodes
     → allBelow nodes (marks plan (nodeIn l)) ≡ allBelow (length (j .nodes)) (marks plan (nodeAt j))
-marks-held j plan l table finals states nodes h =
-    all-cong nodes (marks plan (nodeIn l)) (marks plan (nodeAt j))
-    (λ n g. ap (λ (x : Node). goodMark (x .kind) (getD plan n 0)) (h .node n g))
-    ∙ ap (λ (k : ℕ). allBelow k (marks plan (nodeAt j))) (h .nodes-are)
+marks-held j plan l table finals states nodes h = marks-same plan (nodeIn l) (nodeAt j) nodes (length (j .nodes)) (h .nodes-are) (h .node)
 
 module _ (plan l : List ℕ) (table : List (List ℕ)) (finals states nodes : ℕ) where
   -- the plan has another length
@@ -144,10 +148,10 @@ checked-2 file plan size h g =
 
 -- past both, the file's own
 pub checked-read
-    : (file plan : List ℕ) (size : ℕ) → length file ≤ maxFile → workSize ≤ size → checked file plan size ≡ answered (readJob file) plan
+    : (file plan : List ℕ) (size : ℕ) → workSize ≤ size → checked file plan size ≡ answered (readJob file) plan
 unfolding checked
-checked-read file plan size h g =
-    ap (λ (a : Answer). answered a plan) (admitted-read file (ltb size workSize) h (le-ltb size workSize g))
+checked-read file plan size g =
+    ap (λ (a : Answer). answered a plan) (admitted-read file (ltb size workSize) (le-ltb size workSize g))
 
 -- the answer for a job leaves the buffer cleared
 left-judged : (j : Job) (plan work : List ℕ) → workLeft (judged j plan) work ≡ cleared work

@@ -2,15 +2,14 @@
 -- Why: past all refusals the verdict is the test `faithful`, which decides whether a walk shows a difference.
 -- Assumes nothing.
 use mathlib.Core.Path.{_≡_, refl, sym, ap, _∙_, subst}
-use mathlib.Core.Logic.{⊎-elim}
+use mathlib.Core.Logic.{⊎-elim, _↔_}
 use mathlib.Core.Bool.{Bool, true, false, cond}
 use mathlib.Core.List.{List}
-use Prim.Native.Nat.{ℕ, zero, suc, _+_, _≤_}
+use Prim.Native.Nat.{ℕ, zero, suc, _+_, _≤_, _<_}
 use native.Mathlib.Omega.{arith}
 use lib.Dec.{eqb, leb, ltb}
 use lib.ListN.{length, getD}
 use borrow.Author.Tests.{ltb-true, ltb-false, leb-true, eqb-true, eqb-false, ne-eqb}
-use Rattle.laws.specs.Bounded.{allBelow}
 use Rattle.laws.proofs.Bounded.{all-at, all-of}
 use Rattle.laws.proofs.Tests.{passes-or-fails}
 use Rattle.callnumber.specs.CallNumber.{acceptedFrom}
@@ -26,7 +25,7 @@ use Rattle.checking.specs.declared.check.Verdict.{Verdict}
 use Rattle.checking.specs.declared.check.Verdict.the-variants.{Faithful, Different, Refused}
 use Rattle.checking.specs.Checking.{goodMark, hasLength, goodMarks, judged, answered, checked, workLeft, verdictNumber}
 use Rattle.checking.specs.CheckingSays.{MarkFor, unwatched, watched, Admissible, SaysFaithful, SaysDifferent, WorkBufferSays, verdictRead, VerdictByNumber}
-use Rattle.checking.proofs.CheckLaws.{judged-11, judged-12, judged-verdict, checked-1, checked-2, checked-read}
+use Rattle.checking.proofs.CheckLaws.{marks, judged-11, judged-12, judged-verdict, checked-1, checked-2, checked-read}
 
 -- ---- plan bytes
 
@@ -49,9 +48,16 @@ zero-good k = go (isEvent k)
     go false = refl
 
 -- those pass
-mark-good : {k : Kind} {b : ℕ} → MarkFor k b → goodMark k b ≡ true
+pub mark-good : {k : Kind} {b : ℕ} → MarkFor k b → goodMark k b ≡ true
 mark-good (unwatched {k}) = zero-good k
 mark-good (watched is) = rw is refl
+
+-- the test of all bytes in words
+pub marks-say : (j : Job) (plan : List ℕ) → (goodMarks j plan ≡ true) ↔ ((n : ℕ) → n < length (j .nodes) → MarkFor (nodeAt j n .kind) (getD plan n 0))
+marks-say j plan = (
+  λ g n i. good-mark (nodeAt j n .kind) (getD plan n 0) (all-at (length (j .nodes)) (marks plan (nodeAt j)) g n i),
+  λ m. all-of (length (j .nodes)) (marks plan (nodeAt j)) (λ n i. mark-good (m n i)),
+)
 
 -- ---- verdicts
 
@@ -84,10 +90,6 @@ abbrev Passed : List ℕ → List ℕ → ℕ → Bool → Type 0
 Passed file plan size b = (j : Job) × Admissible file plan size j × (faithful j plan ≡ b)
 
 module _ (file plan : List ℕ) (size : ℕ) (b : Bool) where
-  -- the node may have its byte
-  abbrev good : Job → ℕ → Bool
-  good j n = goodMark (nodeAt j n .kind) (getD plan n 0)
-
   -- from a verdict on a job
   passed-job
       : length file ≤ maxFile → workSize ≤ size → (j : Job) → readJob file ≡ accepted j → judged j plan ≡ verdict b → Passed file plan size b
@@ -95,7 +97,7 @@ module _ (file plan : List ℕ) (size : ℕ) (b : Bool) where
       ⊎-elim
       (λ (l : eqb (length plan) (length (j .nodes)) ≡ true).
       ⊎-elim
-      (λ (g : allBelow (length (j .nodes)) (good j) ≡ true).
+      (λ (g : goodMarks j plan ≡ true).
       let bytes : length plan ≡ length (j .nodes) = eqb-true (length plan) (length (j .nodes)) l in (
         j,
         record {
@@ -103,13 +105,13 @@ module _ (file plan : List ℕ) (size : ℕ) (b : Bool) where
           room = room;
           spells = spells;
           bytes = bytes;
-          marks = λ n i. good-mark (nodeAt j n .kind) (getD plan n 0) (all-at (length (j .nodes)) (good j) g n i);
+          marks = marks-say j plan .0 g;
         },
         verdict-same (faithful j plan) b (sym (judged-verdict j plan (faithful j plan) bytes g refl) ∙ h),
       ))
-      (λ (g : allBelow (length (j .nodes)) (good j) ≡ false).
+      (λ (g : goodMarks j plan ≡ false).
       absurd (refused-not 12 b (sym (judged-12 j plan (eqb-true (length plan) (length (j .nodes)) l) g) ∙ h)))
-      (passes-or-fails (allBelow (length (j .nodes)) (good j))))
+      (passes-or-fails (goodMarks j plan)))
       (λ (l : eqb (length plan) (length (j .nodes)) ≡ false).
       absurd (refused-not 11 b (sym (judged-11 j plan (eqb-false (length plan) (length (j .nodes)) l)) ∙ h)))
       (passes-or-fails (eqb (length plan) (length (j .nodes))))
@@ -132,7 +134,7 @@ module _ (file plan : List ℕ) (size : ℕ) (b : Bool) where
       ⊎-elim
       (λ (g : ltb size workSize ≡ true). absurd (refused-not 2 b (checked-2 file plan size short (ltb-true size workSize g) ∙ h)))
       (λ (g : ltb size workSize ≡ false).
-      let room = ltb-false size workSize g in passed-file short room (sym (checked-read file plan size short room) ∙ h))
+      let room = ltb-false size workSize g in passed-file short room (sym (checked-read file plan size room) ∙ h))
       (passes-or-fails (ltb size workSize)))
       (passes-or-fails (ltb maxFile (length file)))
 
@@ -141,9 +143,9 @@ module _ (file plan : List ℕ) (size : ℕ) (b : Bool) where
   passed-verdict p =
       let j = p .0 in
       let a = p .1 in
-      checked-read file plan size (a .short) (a .room)
+      checked-read file plan size (a .room)
       ∙ ap (λ (x : Answer). answered x plan) (a .spells)
-      ∙ judged-verdict j plan b (a .bytes) (all-of (length (j .nodes)) (good j) (λ n i. mark-good (a .marks n i))) (p .2)
+      ∙ judged-verdict j plan b (a .bytes) (marks-say j plan .1 (a .marks)) (p .2)
 
 -- a job that a file spells is well-formed
 formed : {file plan : List ℕ} {size : ℕ} {j : Job} → Admissible file plan size j → WellFormedJob j

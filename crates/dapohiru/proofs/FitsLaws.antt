@@ -1,6 +1,7 @@
--- Every answer of planning and of listing has a number of 64 bits: the counts are at most 513, a listing fits its buffer.
+-- Every answer of planning, of listing and of pricing has a number of 64 bits: the counts are at most 513, a listing fits its buffer, a price
+-- is at most the largest.
 -- Assumes nothing.
-use mathlib.Core.Path.{_≡_}
+use mathlib.Core.Path.{_≡_, sym}
 use mathlib.Core.Bool.{Bool}
 use mathlib.Core.List.{List}
 use Prim.Native.Nat.{ℕ}
@@ -14,6 +15,11 @@ use Rattle.listoutcome.specs.ListCall.{listedOf}
 use Rattle.listoutcome.specs.declared.list.Listed.{Listed}
 use Rattle.listoutcome.specs.declared.list.Listed.the-variants.{Length, Refused as ListedRefused}
 use Rattle.listoutcome.proofs.ListSays.{length-few}
+use Rattle.pricing.specs.declared.price.Price.{Price}
+use Rattle.pricing.specs.declared.price.Price.the-variants.{Cents, Refused as PriceRefused}
+use Rattle.pricing.specs.Pricing.{priced}
+use Rattle.pricing.specs.Inner.{CentsFit}
+use Rattle.pricing.proofs.LargestPrice.{price-at-most}
 use Rattle.answernumbers.specs.Fits.{OutcomeFits, ListedFits}
 
 -- of planning
@@ -27,3 +33,8 @@ outcome-fits file short (Refused k) e = tt
 pub listed-fits : (file : List ℕ) (short : Bool) (r : Listed) → r ≡ listedOf (admitted file short) → ListedFits r
 listed-fits file short (Length n) e = omega (arith, length-few file short n e)
 listed-fits file short (ListedRefused k) e = tt
+
+-- of pricing
+pub price-fits : (file plan volumes : List ℕ) (r : Price) → r ≡ priced file plan volumes → CentsFit r
+price-fits file plan volumes (Cents c) e = omega (arith, price-at-most file plan volumes c (sym e))
+price-fits file plan volumes (PriceRefused k) e = tt

@@ -3,3 +3,4 @@ pub mod event; // event.rt: the event step
 pub mod check; // check.rt: the plan check
 pub mod plan; // plan.rt: planning
 pub mod list; // list.rt: listing
+pub mod price; // price.rt: pricing

@@ -1,26 +1,22 @@
 -- What is printed for a file: the listing that `list_job` wrote, or the X line of its refusal. Both fit the lent buffer.
 -- Assumes nothing.
 use Prim.Native.Nat.{ℕ, _+_, _≤_, _<_}
-use mathlib.Core.Path.{_≡_, sym, ap, _∙_}
-use mathlib.Core.Logic.{⊎-elim}
-use mathlib.Core.Bool.{true, false}
+use mathlib.Core.Path.{_≡_, refl, sym, ap, _∙_}
+use mathlib.Core.Bool.{false}
 use mathlib.Core.List.{List, [], _∷_}
 use native.Mathlib.Omega.{arith}
-use lib.Dec.{ltb}
 use lib.ListN.{length}
 use lib.Seq.{sets, length-sets}
-use borrow.Author.Tests.{le-ltb, ltb-true}
-use Rattle.laws.proofs.Tests.{passes-or-fails}
+use borrow.Author.Tests.{le-ltb}
 use Rattle.lines.specs.Line.{line}
-use Rattle.jobfile.specs.File.{Answer, accepted, turned, maxFile, readJob}
-use Rattle.jobfile.specs.Refusal.{too-long}
+use Rattle.jobfile.specs.File.{Answer, accepted, turned, readJob}
 use Rattle.jobfile.specs.ListingLines.{printedFor}
-use Rattle.jobfile.proofs.RefusalLaws.{turned-says}
 use Rattle.jobfile.proofs.SpellableLaws.{read-written}
 use Rattle.jobfile.proofs.ListingLength.{refused-length, listing-in-buffer}
 use Rattle.jobfile.proofs.ListingFits.{listing-fits}
 use Rattle.buffer.specs.Buffer.{workSize}
 use Rattle.admission.specs.Admission.{admitted, workAfter}
+use Rattle.admission.proofs.AdmissionLaws.{admitted-read}
 use Rattle.listoutcome.specs.declared.list.Listed.{Listed}
 use Rattle.listoutcome.specs.declared.list.Listed.the-variants.{Length, Refused}
 use Rattle.listoutcome.specs.ListCall.{listingSize, listAnswer, listedOf, listingAfter}
@@ -31,20 +27,11 @@ use Rattle.listoutcome.specs.ListCall.{listingSize, listAnswer, listedOf, listi
 answer-in-room : (file : List ℕ) (w o : ℕ) → workSize ≤ w → listingSize ≤ o → listAnswer file w o ≡ admitted file false
 answer-in-room file w o h g = simp (le-ltb w workSize h, le-ltb o listingSize g)
 
--- and the answer is the file's own, which is 1 too where the file is too long
-admitted-read : (file : List ℕ) → admitted file false ≡ readJob file
-unfolding admitted
-admitted-read file =
-    ⊎-elim
-    (λ (t : ltb maxFile (length file) ≡ true). simp t (sym (turned-says file 1 .1 (too-long (ltb-true maxFile (length file) t)))))
-    (λ (f : ltb maxFile (length file) ≡ false). simp f)
-    (passes-or-fails (ltb maxFile (length file)))
-
 -- ---- what is printed for it
 
 -- it fits the buffer
 printed-fits : (file : List ℕ) → length (printedFor (admitted file false)) ≤ listingSize
-printed-fits file = go (admitted file false) (sym (admitted-read file))
+printed-fits file = go (admitted file false) (sym (admitted-read file false refl))
   where
     go : (a : Answer) → readJob file ≡ a → length (printedFor a) ≤ listingSize
     go (accepted j) e = listing-in-buffer j (read-written file j e .1 .few-nodes)
@@ -52,7 +39,7 @@ printed-fits file = go (admitted file false) (sym (admitted-read file))
 
 -- a refusal's number fits its field
 number-fits : (file : List ℕ) (k : ℕ) → admitted file false ≡ turned k → k < 1000000
-number-fits file k e = omega (arith, listing-fits .turned-back file k (sym (admitted-read file) ∙ e))
+number-fits file k e = omega (arith, listing-fits .turned-back file k (sym (admitted-read file false refl) ∙ e))
 
 -- ---- what is printed of an answer: the listing that was written, or the X line
 

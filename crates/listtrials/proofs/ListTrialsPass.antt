@@ -1,13 +1,10 @@
 -- The table of calls is answered as it should be: past the tests of the buffers the answer is the file's, which is computed, row by row.
 -- Assumes nothing.
 use mathlib.Core.Path.{_≡_, refl, sym, ap, subst, _∙_}
-use mathlib.Core.Bool.{false}
 use mathlib.Core.List.{List, []}
 use Prim.Native.Nat.{ℕ}
-use lib.Dec.{ltb}
 use lib.ListN.{length}
 use lib.Seq.{sets}
-use borrow.Author.Tests.{ltb-false}
 use Rattle.laws.specs.Bounded.{allBelow, sumBelow}
 use Rattle.laws.specs.Bits.{has}
 use Rattle.automaton.specs.Automaton.{cell}
@@ -17,7 +14,7 @@ use Rattle.job.specs.Found.{setOf}
 use Rattle.job.specs.Search.{pushAll, explore, reached, anyOf, numbersOf, targets, silentMoves, toldMoves, afterConfig, splits, startsBelow, faithful, arrives, apart}
 use Rattle.lines.specs.Line.{decimal, field, fields, digitsOf, fieldOf, fieldsOf, lineOf}
 use Rattle.lines.specs.Lines.{linesOf}
-use Rattle.jobfile.specs.File.{Answer, accepted, turned, maxFile, finalsOf, someEntry, readRest, readJob}
+use Rattle.jobfile.specs.File.{Answer, accepted, turned, finalsOf, someEntry, readRest, readJob}
 use Rattle.jobfile.specs.FileTrials.{linesIn}
 use Rattle.jobfile.specs.ListingLines.{shadowsBytes, listingBytes}
 use Rattle.buffer.specs.Buffer.{workSize, cleared}
@@ -38,12 +35,12 @@ written-after (turned k) listing = refl
 
 -- a call is answered as its file
 lists-so
-    : {t : CallTrial} → ltb maxFile (length (t .file)) ≡ false → listedOf (readJob (t .file)) ≡ t .listed
-    → bytesWritten (readJob (t .file)) ≡ linesIn (t .text) → ((work : List ℕ) → workAfter (readJob (t .file)) work ≡ cleared work)
+    : {t : CallTrial} → listedOf (readJob (t .file)) ≡ t .listed → bytesWritten (readJob (t .file)) ≡ linesIn (t .text)
+    → ((work : List ℕ) → workAfter (readJob (t .file)) work ≡ cleared work)
     → ListsSo t
-lists-so {t} fits listed written left work listing w l =
+lists-so {t} listed written left work listing w l =
     let room = long-enough (length work) workSize (length listing) listingSize w l in
-    let read = admitted-read (t .file) _ (ltb-false maxFile (length (t .file)) fits) room in
+    let read = admitted-read (t .file) _ room in
     subst (λ (a : Answer). ListedSo t a work listing) (sym read) (record {
       answer = listed;
       written = written-after (readJob (t .file)) listing ∙ ap (sets listing 0) written;
@@ -54,27 +51,27 @@ lists-so {t} fits listed written left work listing w l =
 pub call-trials-pass : AllListed callTrials
 unfolding callTrials allBelow sumBelow has cell setOf passed samePlan passesFrom enabledCount linesFrom listingOf pushAll explore reached anyOf numbersOf targets silentMoves toldMoves afterConfig splits startsBelow faithful arrives apart decimal field fields digitsOf fieldOf fieldsOf lineOf linesOf finalsOf someEntry readRest readJob shadowsBytes listingBytes
 call-trials-pass =
-    lists-so refl refl refl (λ work. refl)
-    and lists-so refl refl refl (λ work. refl)
-    and lists-so refl refl refl (λ work. refl)
-    and lists-so refl refl refl (λ work. refl)
-    and lists-so refl refl refl (λ work. refl)
-    and lists-so refl refl refl (λ work. refl)
-    and lists-so refl refl refl (λ work. refl)
-    and lists-so refl refl refl (λ work. refl)
-    and lists-so refl refl refl (λ work. refl)
-    and lists-so refl refl refl (λ work. refl)
-    and lists-so refl refl refl (λ work. refl)
-    and lists-so refl refl refl (λ work. refl)
-    and lists-so refl refl refl (λ work. refl)
-    and lists-so refl refl refl (λ work. refl)
-    and lists-so refl refl refl (λ work. refl)
-    and lists-so refl refl refl (λ work. refl)
-    and lists-so refl refl refl (λ work. refl)
-    and lists-so refl refl refl (λ work. refl)
-    and lists-so refl refl refl (λ work. refl)
-    and lists-so refl refl refl (λ work. refl)
-    and lists-so refl refl refl (λ work. refl)
-    and lists-so refl refl refl (λ work. refl)
-    and lists-so refl refl refl (λ work. refl)
+    lists-so refl refl (λ work. refl)
+    and lists-so refl refl (λ work. refl)
+    and lists-so refl refl (λ work. refl)
+    and lists-so refl refl (λ work. refl)
+    and lists-so refl refl (λ work. refl)
+    and lists-so refl refl (λ work. refl)
+    and lists-so refl refl (λ work. refl)
+    and lists-so refl refl (λ work. refl)
+    and lists-so refl refl (λ work. refl)
+    and lists-so refl refl (λ work. refl)
+    and lists-so refl refl (λ work. refl)
+    and lists-so refl refl (λ work. refl)
+    and lists-so refl refl (λ work. refl)
+    and lists-so refl refl (λ work. refl)
+    and lists-so refl refl (λ work. refl)
+    and lists-so refl refl (λ work. refl)
+    and lists-so refl refl (λ work. refl)
+    and lists-so refl refl (λ work. refl)
+    and lists-so refl refl (λ work. refl)
+    and lists-so refl refl (λ work. refl)
+    and lists-so refl refl (λ work. refl)
+    and lists-so refl refl (λ work. refl)
+    and lists-so refl refl (λ work. refl)
     and done

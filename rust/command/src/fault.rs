@@ -1,4 +1,4 @@
-//! A fault of a job file or of a plan, with its place; the first fault in the form of a line.
+//! A fault of a job file, a volume file or a plan, with its place; the first fault in the form of a line.
 use dapohiru_second::reading::{self, Stop};
 
 /// A fault of a file, or of a plan.
@@ -14,15 +14,17 @@ pub struct Fault {
 }
 
 impl Fault {
-    /// The fault of a line that is missing or has the wrong form: it has this letter and a field for each
-    /// name.
-    pub fn of_form(stop: &Stop, letter: char, names: &[String]) -> Self {
+    /// The fault of a line that is missing or has the wrong form, if it has one: the line due has this letter
+    /// and a field for each name.
+    pub fn of_form(stop: &Stop, letter: char, names: &[String]) -> Option<Self> {
         let line = stop.line;
-        let wrong = |first: usize, last: usize, expected| Fault {
-            number: stop.number,
-            place: Some((stop.due, first, last)),
-            found: shown(line.get(first - 1..).unwrap_or_default(), last + 1 - first),
-            expected,
+        let wrong = |first: usize, last: usize, expected| {
+            Some(Fault {
+                number: stop.number,
+                place: Some((stop.due, first, last)),
+                found: shown(line.get(first - 1..).unwrap_or_default(), last + 1 - first),
+                expected,
+            })
         };
         let fields = names.len();
         if line.is_empty() {
@@ -53,6 +55,9 @@ impl Fault {
                 return wrong(first + 1, first + 6, expected);
             }
         }
+        if line.get(columns_due) == Some(&b'\n') {
+            return None;
+        }
         let end = columns_due + 1;
         wrong(
             end,
@@ -69,6 +74,27 @@ impl Fault {
             found: stop.numbers[field].to_string(),
             expected,
         }
+    }
+
+    /// The fault of the first field of a line of which something else is expected.
+    pub fn of_first_field(
+        stop: &Stop,
+        wrong: impl Fn(usize, u64) -> Option<String>,
+    ) -> Option<Self> {
+        let numbers = stop.numbers.iter().enumerate();
+        let mut wrong = numbers.filter_map(|(field, &number)| Some((field, wrong(field, number)?)));
+        let (field, expected) = wrong.next()?;
+        Some(Fault::of_field(stop, field, expected))
+    }
+
+    /// The fault of bytes that follow the last line.
+    pub fn of_rest(stop: &Stop) -> Option<Self> {
+        Some(Fault {
+            number: stop.number,
+            place: Some((stop.due + 1, 1, 1)),
+            found: format!("`{}`", stop.rest.first()?.escape_ascii()),
+            expected: "the end of the file".to_string(),
+        })
     }
 }
 

@@ -43,10 +43,9 @@ fn run(given: &Given) -> Result<u8, String> {
     if picture == Some("png") && to.is_none() && io::stdout().is_terminal() {
         return Err("graph: a PNG picture is not for a terminal, take -o FILE".to_string());
     }
-    if let Some(plan) = given.further(1) {
-        input::at_most_one_is_input(given.name(0), plan)?;
-    }
-    let read: Vec<_> = (0..2).filter_map(|place| given.further(place)).collect();
+    let files = [("JOB", given.further(0)), ("PLAN", given.further(1))];
+    input::at_most_one_is_input(&files)?;
+    let read: Vec<_> = files.iter().filter_map(|(_, file)| *file).collect();
     output::loses_nothing(to, &read)?;
     let file = input::job(given.name(0))?;
     let job = job::accepted(&file)?;

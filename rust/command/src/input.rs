@@ -1,10 +1,12 @@
-//! What is read: job files and plan files.
+//! What is read: job files, plan files and volume files.
 use std::ffi::OsStr;
 use std::fs::File;
 use std::io::{self, Read};
 
 /// The bytes of a plan file that are read; no plan is as long.
 const PLAN_FILE: usize = 4_096;
+/// The bytes of a volume file that are looked at; the longest that is accepted has far fewer.
+pub const VOLUME_FILE: usize = 65_536;
 
 /// A file that was read.
 pub struct Input {
@@ -44,6 +46,11 @@ pub fn plan(name: &OsStr) -> Result<Plan, String> {
     })
 }
 
+/// Reads a volume file; of one that is far too long one byte more than is looked at.
+pub fn volumes(name: &OsStr) -> Result<Input, String> {
+    read(name, VOLUME_FILE + 1)
+}
+
 /// Reads a file, or standard input for `-`, up to so many bytes.
 pub fn read(name: &OsStr, most: usize) -> Result<Input, String> {
     let (shown, file): (_, Box<dyn Read>) = if name == "-" {
@@ -59,10 +66,14 @@ pub fn read(name: &OsStr, most: usize) -> Result<Input, String> {
     Ok(Input { shown, bytes })
 }
 
-/// Refuses two files that are both standard input.
-pub fn at_most_one_is_input(one: &OsStr, other: &OsStr) -> Result<(), String> {
-    match one == "-" && other == "-" {
-        true => Err("JOB and PLAN cannot both be standard input".to_string()),
-        false => Ok(()),
+/// Refuses two files that are both standard input; each file stands beside what it is.
+pub fn at_most_one_is_input(files: &[(&str, Option<&OsStr>)]) -> Result<(), String> {
+    let is_input = |(_, file): &&(_, Option<&OsStr>)| file.is_some_and(|file| file == "-");
+    let inputs: Vec<_> = files.iter().filter(is_input).collect();
+    match inputs[..] {
+        [(one, _), (other, _), ..] => {
+            Err(format!("{one} and {other} cannot both be standard input"))
+        }
+        _ => Ok(()),
     }
 }

@@ -23,6 +23,12 @@ pub fn checked(job: &Input, plan: &Plan) -> Result<Verdict, String> {
         .map_err(|refusal| refusal::of_plan(job, plan, refusal))
 }
 
+/// What a plan costs a day by the proved call, in cents, or what is said of its refusal.
+pub fn priced(job: &Input, plan: &Plan, volumes: &Input) -> Result<u64, String> {
+    dapohiru::price(&job.bytes, &plan.bytes, &volumes.bytes)
+        .map_err(|refusal| refusal::of_price(job, plan, volumes, refusal))
+}
+
 /// The bytes of a plan that the proved call accepts; of one that is different a note says so.
 pub fn given_plan(job: &Input, plan: Plan) -> Result<Vec<u8>, String> {
     if checked(job, &plan)? == Verdict::Different {
@@ -42,10 +48,7 @@ pub fn accepted(job: &Input) -> Result<Job, String> {
         Err(refusal) => return Err(refusal::of_job(job, refusal)),
         Ok(_) => unreachable!("no job has no node"),
     }
-    let shown = &job.shown;
-    reading::job(&job.bytes).map_err(|number| {
-        format!("{shown}: the library accepts the file, and the second reader refuses it as {number}: nothing can be shown of it")
-    })
+    reading::job(&job.bytes).map_err(|number| refusal::by_second_reader_alone(&job.shown, number))
 }
 
 /// The rule of a job, as the event step takes it.

@@ -1,7 +1,7 @@
 //! The command `list`: what was found at each point of a job.
 use crate::args::{Command, Given};
 use crate::explain::explained;
-use crate::names::Names;
+use crate::names::{self, Names};
 use crate::{input, job, output, refusal};
 use dapohiru::Refusal;
 
@@ -27,14 +27,10 @@ Exit status: 0 a listing; 2 a refused job or something else that is wrong.
 };
 
 fn run(given: &Given) -> Result<u8, String> {
-    let names = given.value("--names");
-    if names.is_some() && !given.has("--explain") {
-        return Err("list: --names is only of use with --explain".to_string());
-    }
-    if names.is_some_and(|names| names == "-") && given.name(0) == "-" {
-        return Err("list: JOB and the names cannot both be standard input".to_string());
-    }
-    let file = input::job(given.name(0))?;
+    let (name, names) = (given.name(0), names::asked(given, "list")?);
+    input::at_most_one_is_input(&[("JOB", Some(name)), ("the names", names)])
+        .map_err(|why| format!("list: {why}"))?;
+    let file = input::job(name)?;
     let mut listing = vec![0; dapohiru::LISTING_LEN];
     match dapohiru::list(&file.bytes, &mut vec![0; dapohiru::WORK_LEN], &mut listing) {
         Ok(len) => listing.truncate(len),

@@ -1,6 +1,7 @@
 //! The command line of the planner and the monitor: a thin layer over the proved calls, which decides
 //! nothing itself. Each command is a module.
 mod args;
+mod bill;
 mod check;
 mod dot;
 mod events;
@@ -15,12 +16,14 @@ mod names;
 mod output;
 mod place;
 mod plan;
+mod price;
 mod progress;
 mod refusal;
 mod release;
 mod stop;
 mod summary;
 mod table;
+mod volumes;
 mod watch;
 
 use args::{Asked, Command};
@@ -28,10 +31,11 @@ use std::ffi::OsString;
 use std::process::ExitCode;
 
 /// The commands, in the order of the help.
-const COMMANDS: [&Command; 6] = [
+const COMMANDS: [&Command; 7] = [
     &plan::COMMAND,
     &list::COMMAND,
     &check::COMMAND,
+    &price::COMMAND,
     &watch::COMMAND,
     &release::COMMAND,
     &graph::COMMAND,
@@ -79,9 +83,9 @@ fn help() -> String {
         text += &format!("  {}\n      {}\n", command.usage, command.summary);
     }
     text + "
-JOB is a job file, PLAN a file that holds a line of 0 and 1 with one digit for each node. One of
-the files of a command may be -, which is standard input; watch reads its events there. What
-begins with - is an option, up to the word --.
+JOB is a job file, PLAN a file that holds a line of 0 and 1 with one digit for each node, VOLUMES one
+with a line for each node and its events a day. One of the files of a command may be -, which is
+standard input; watch reads its events there. What begins with - is an option, up to the word --.
 `dapohiru COMMAND --help` tells more of a command.
 
 Exit status: 0 done, faithful, no alarm; 1 different, an alarm, or a refused job in a release;

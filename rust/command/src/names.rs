@@ -1,4 +1,5 @@
 //! Names for symbols, from a file.
+use crate::args::Given;
 use crate::input::{self, Input};
 use std::ffi::OsStr;
 
@@ -7,6 +8,16 @@ const NAMES_FILE: usize = 65_536;
 
 /// For each symbol its name, if it has one.
 pub struct Names(Vec<Option<String>>);
+
+/// The file of the names that are asked for, which are shown with `--explain` alone.
+pub fn asked<'a>(given: &'a Given, command: &str) -> Result<Option<&'a OsStr>, String> {
+    match given.value("--names") {
+        Some(_) if !given.has("--explain") => {
+            Err(format!("{command}: --names is only of use with --explain"))
+        }
+        names => Ok(names),
+    }
+}
 
 impl Names {
     /// The names in a file, or none: a line for each name, which is a symbol, a space and the name.

@@ -40,9 +40,9 @@ pub fn first_fault(file: &[u8]) -> Option<Fault> {
         6 => rule(&stop),
         7 => node(&stop),
         8 => edge(&stop),
-        9 => bytes_follow(&stop),
+        9 => Fault::of_rest(&stop),
         10 => Some(no_entry(&stop)),
-        _ => Some(form(&stop)),
+        _ => form(&stop),
     }
 }
 
@@ -54,7 +54,7 @@ fn rule_names(symbols: u64) -> Vec<String> {
 }
 
 /// The line due is missing, or has not its form.
-fn form(stop: &Stop) -> Fault {
+fn form(stop: &Stop) -> Option<Fault> {
     let [states, symbols, nodes, _] = stop.sizes;
     let due = stop.due as u64 - 1;
     let (letter, names) = match due {
@@ -66,17 +66,9 @@ fn form(stop: &Stop) -> Fault {
     Fault::of_form(stop, letter, &names)
 }
 
-/// The fault of the first field of which something else is expected.
-fn first_wrong(stop: &Stop, wrong: impl Fn(usize, u64) -> Option<String>) -> Option<Fault> {
-    let numbers = stop.numbers.iter().enumerate();
-    let mut wrong = numbers.filter_map(|(field, &number)| Some((field, wrong(field, number)?)));
-    let (field, expected) = wrong.next()?;
-    Some(Fault::of_field(stop, field, expected))
-}
-
 /// A number of the J line is outside its limits.
 fn sizes(stop: &Stop) -> Option<Fault> {
-    first_wrong(stop, |field, number| {
+    Fault::of_first_field(stop, |field, number| {
         let (name, low, high) = SIZES[field];
         let good = (low..=high).contains(&number);
         (!good).then(|| format!("{name}, {low} to {high}"))
@@ -89,7 +81,7 @@ fn rule(stop: &Stop) -> Option<Fault> {
     let (names, last) = (rule_names(symbols), states - 1);
     // the J line comes before the R lines
     let state = stop.due as u64 - 2;
-    first_wrong(stop, |field, number| {
+    Fault::of_first_field(stop, |field, number| {
         let name = &names[field];
         let (good, expected) = match field {
             0 => (number == state, format!("{name}, {state} in this line")),
@@ -125,7 +117,7 @@ fn node(stop: &Stop) -> Option<Fault> {
     let [states, symbols, ..] = stop.sizes;
     let (kind, exit) = (stop.numbers[1], stop.numbers[4]);
     let node = stop.due as u64 - 2 - states;
-    first_wrong(stop, |field, number| {
+    Fault::of_first_field(stop, |field, number| {
         let (highest, expected) = match field {
             0 => (node, format!("the node, {node} in this line")),
             1 => (3, KINDS.to_string()),
@@ -144,7 +136,7 @@ fn edge(stop: &Stop) -> Option<Fault> {
     let last = stop.sizes[2] - 1;
     let edge = (stop.numbers[0], stop.numbers[1]);
     if edge.0 > last || edge.1 > last {
-        return first_wrong(stop, |field, number| {
+        return Fault::of_first_field(stop, |field, number| {
             (number > last).then(|| format!("{}, 0 to {last}", EDGE[field]))
         });
     }
@@ -154,16 +146,6 @@ fn edge(stop: &Stop) -> Option<Fault> {
     );
     let field = usize::from(edge.0 == from);
     Some(Fault::of_field(stop, field, expected))
-}
-
-/// Bytes follow the last line.
-fn bytes_follow(stop: &Stop) -> Option<Fault> {
-    Some(Fault {
-        number: 9,
-        place: Some((stop.due + 1, 1, 1)),
-        found: format!("`{}`", stop.rest.first()?.escape_ascii()),
-        expected: "the end of the file".to_string(),
-    })
 }
 
 /// No node is an entry.

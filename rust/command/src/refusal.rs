@@ -3,6 +3,7 @@
 use crate::fault::Fault;
 use crate::input::{Input, Plan};
 use crate::place::first_fault;
+use crate::volumes;
 use dapohiru::Refusal;
 use dapohiru_second::job::{EVENT, REENTRANT};
 use dapohiru_second::reading;
@@ -17,6 +18,14 @@ pub fn of_plan(job: &Input, plan: &Plan, refusal: Refusal) -> String {
     match refusal.0 {
         11 | 12 => told(&plan.shown, refusal, plan_fault(job, &plan.bytes)),
         _ => of_job(job, refusal),
+    }
+}
+
+/// What is said of a refused job file, plan or volume file, whichever it is.
+pub fn of_price(job: &Input, plan: &Plan, volumes: &Input, refusal: Refusal) -> String {
+    match refusal.0 {
+        16 => told(&volumes.shown, refusal, volume_fault(job, &volumes.bytes)),
+        _ => of_plan(job, plan, refusal),
     }
 }
 
@@ -35,6 +44,11 @@ fn told(shown: &str, refusal: Refusal, fault: Option<Fault>) -> String {
         found, expected, ..
     } = fault;
     format!("{shown}: {refusal}: {meaning}\n  {place}found {found}\n  expected: {expected}")
+}
+
+/// What is said of a file that the proved call accepts and the second reader refuses.
+pub fn by_second_reader_alone(shown: &str, number: u64) -> String {
+    format!("{shown}: the library accepts the file, and the second reader refuses it as {number}: nothing can be shown of it")
 }
 
 /// The first fault of a plan for a job that is accepted.
@@ -67,7 +81,13 @@ fn plan_fault(job: &Input, plan: &[u8]) -> Option<Fault> {
     fault(12, node + 1, format!("`{}`", plan[node]), expected)
 }
 
-/// What a refusal means (document 01, "Turned back, by number").
+/// The first fault of a volume file for a job that is accepted.
+fn volume_fault(job: &Input, volumes: &[u8]) -> Option<Fault> {
+    let nodes = reading::job(&job.bytes).ok()?.nodes;
+    volumes::read(volumes, nodes.len()).err()
+}
+
+/// What a refusal means (document 01, "Turned back, by number", and document 02).
 fn meaning(number: u64) -> &'static str {
     match number {
         1 => "the file is too long",
@@ -82,7 +102,8 @@ fn meaning(number: u64) -> &'static str {
         10 => "no node is an entry",
         11 => "the plan has not one digit for each node",
         12 => "the plan has a digit above 1, or a 1 at a node that is no event node",
-        _ => "no refusal of a job or a plan",
+        16 => "the volume file is not exactly one V line for each node, in order",
+        _ => "no refusal of a job, a plan or a volume file",
     }
 }
 

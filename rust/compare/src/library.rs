@@ -1,5 +1,5 @@
 //! The calls of the library, as functions on byte slices in the order of the C arguments, which return
-//! document 01's numbers.
+//! the numbers of documents 01 and 02.
 use crate::guarded::lend;
 use dapohiru::numbers;
 use dapohiru_second::serving::Service;
@@ -7,7 +7,7 @@ use dapohiru_second::serving::Service;
 /// The event step: rule, S, A, final set, symbol, record.
 pub type Event = fn(&[u8], u64, u64, u64, u64, &mut [u8]) -> u64;
 
-/// The four calls. Each returns the number of its answer.
+/// The five calls. Each returns the number of its answer.
 #[derive(Clone, Copy)]
 pub struct Library {
     /// Job, work buffer, plan buffer.
@@ -16,6 +16,8 @@ pub struct Library {
     pub list: fn(&[u8], &mut [u8], &mut [u8]) -> u64,
     /// Job, plan, work buffer.
     pub check: fn(&[u8], &[u8], &mut [u8]) -> u64,
+    /// Job, plan, volume file.
+    pub price: fn(&[u8], &[u8], &[u8]) -> u64,
     pub event: Event,
 }
 
@@ -34,6 +36,7 @@ pub const CALLS: Library = Library {
     plan: numbers::plan,
     list: numbers::list,
     check: numbers::check,
+    price: numbers::price,
     event: numbers::event,
 };
 
@@ -52,6 +55,11 @@ pub const GUARDED: Library = Library {
     check: |job, plan, work| {
         lend([job, plan], [work], |[job, plan], [work]| {
             numbers::check(job, plan, work)
+        })
+    },
+    price: |job, plan, volumes| {
+        lend([job, plan, volumes], [], |[job, plan, volumes], []| {
+            numbers::price(job, plan, volumes)
         })
     },
     event: |rule, states, symbols, finals, symbol, record| {

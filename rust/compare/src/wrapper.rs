@@ -26,6 +26,13 @@ pub fn check(job: &[u8], plan: &[u8], work: &mut [u8]) -> Result<Verdict, Refusa
     })
 }
 
+/// [`dapohiru::price`], on guarded buffers too.
+pub fn price(job: &[u8], plan: &[u8], volumes: &[u8]) -> Result<u64, Refusal> {
+    lend([job, plan, volumes], [], |[job, plan, volumes], []| {
+        dapohiru::price(job, plan, volumes)
+    })
+}
+
 /// [`dapohiru::event`], on guarded buffers too.
 pub fn event(
     rule: &[u8],
@@ -55,6 +62,7 @@ pub const WRAPPER: Library = Library {
             Verdict::Different => 1,
         }))
     },
+    price: |job, plan, volumes| number(price(job, plan, volumes)),
     event: |rule, states, symbols, finals, symbol, record| {
         let report = event(rule, states, symbols, finals, symbol, record);
         number(report.map(|report| match report {

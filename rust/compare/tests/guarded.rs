@@ -2,6 +2,7 @@
 //! library. Each test runs itself again as a child that must die.
 use dapohiru_compare::guarded::{lend, Flush, Room};
 use dapohiru_generators::samples::pair;
+use dapohiru_generators::volumes;
 use std::env;
 use std::hint::black_box;
 use std::os::unix::process::ExitStatusExt;
@@ -93,10 +94,10 @@ fn longer_than_it_is(room: &mut Room, len: usize, missing: usize, flush: Flush) 
     unsafe { slice::from_raw_parts_mut(first, len) }
 }
 
-/// Makes all four calls, with the named buffer shorter than it is said to be.
+/// Makes all five calls, with the named buffer shorter than it is said to be.
 fn call_with_short(name: &str, flush: Flush) {
-    let file = pair().file();
-    let mut rooms: Vec<_> = (0..8).map(|_| Room::new(1 << 17)).collect();
+    let (file, thousands) = (pair().file(), volumes::file(&[1_000; 3]));
+    let mut rooms: Vec<_> = (0..10).map(|_| Room::new(1 << 17)).collect();
     let mut rooms = rooms.iter_mut();
     let mut lent = |of: &str, len: usize, missing: usize| {
         let missing = if of == name { missing } else { 0 };
@@ -112,21 +113,23 @@ fn call_with_short(name: &str, flush: Flush) {
     let plan = lent("plan", 512, in_plan);
     let listing = lent("listing", 32_768, in_listing);
     let checked = lent("checked", 3, 1);
+    let priced = lent("priced", 3, 1);
+    let volumes = lent("volumes", thousands.len(), 1);
     let rule = lent("rule", 256, 1);
     let record = lent("record", 16, 1);
-    if name == "job" {
+    for (of, lent, bytes) in [("job", &mut *job, file), ("volumes", volumes, thousands)] {
         let there = match flush {
-            Flush::End => 0..file.len() - 1,
-            Flush::Start => 1..file.len(),
+            _ if of != name => 0..bytes.len(),
+            Flush::End => 0..bytes.len() - 1,
+            Flush::Start => 1..bytes.len(),
         };
-        job[there.clone()].copy_from_slice(&file[there]);
-    } else {
-        job.copy_from_slice(&file);
+        lent[there.clone()].copy_from_slice(&bytes[there]);
     }
     let numbers = [
         dapohiru::numbers::plan(job, work, plan),
         dapohiru::numbers::list(job, work, listing),
         dapohiru::numbers::check(job, checked, work),
+        dapohiru::numbers::price(job, priced, volumes),
         dapohiru::numbers::event(rule, 16, 16, 0, 15, record),
     ];
     black_box(numbers);
@@ -134,8 +137,9 @@ fn call_with_short(name: &str, flush: Flush) {
 
 #[test]
 fn library_that_is_told_a_longer_buffer_dies_where_its_bytes_end() {
-    const NAMES: [&str; 8] = [
-        "nothing", "job", "work", "plan", "listing", "checked", "rule", "record",
+    const NAMES: [&str; 10] = [
+        "nothing", "job", "work", "plan", "listing", "checked", "priced", "volumes", "rule",
+        "record",
     ];
     if let Ok(task) = env::var(TASK) {
         let (name, flush) = task.split_once(' ').expect("a name and a place");

@@ -2,19 +2,28 @@
 
 use dapohiru_compare::wrapper::WRAPPER;
 use dapohiru_generators::random::Random;
-use dapohiru_generators::small;
 use dapohiru_generators::zeros::filled;
+use dapohiru_generators::{small, volumes};
 use dapohiru_second::job::Job;
 use dapohiru_second::reading::WORK;
 use std::thread;
 
-/// The answers of all calls for one job and its file, with what they write.
-fn answers((job, file): &(Job, Vec<u8>), work: &mut [u8]) -> (Vec<u64>, Vec<u8>) {
+/// A job with its file and a volume file.
+struct Files {
+    job: Job,
+    file: Vec<u8>,
+    volumes: Vec<u8>,
+}
+
+/// The answers of all calls for one job, with what they write.
+fn answers(files: &Files, work: &mut [u8]) -> (Vec<u64>, Vec<u8>) {
+    let Files { job, file, volumes } = files;
     let (mut plan, mut listing) = (vec![7; 512], vec![7; 32_768]);
     let mut numbers = vec![
         (WRAPPER.plan)(file, work, &mut plan),
         (WRAPPER.list)(file, work, &mut listing),
         (WRAPPER.check)(file, &job.plan_of(&[]), work),
+        (WRAPPER.price)(file, &job.all_watched(), volumes),
     ];
     let (rule, mut record) = (job.table(), [0; 16]);
     let (states, symbols, finals) = (job.states() as u64, job.symbols, job.final_set());
@@ -38,8 +47,11 @@ fn many_threads_get_the_answers_that_one_gets() {
     let jobs: Vec<_> = (0..300)
         .map(|_| {
             let job = small::job(&mut random);
-            let file = filled(&mut random, job.file());
-            (job, file)
+            Files {
+                file: filled(&mut random, job.file()),
+                volumes: volumes::any(&mut random, job.nodes.len()),
+                job,
+            }
         })
         .collect();
     let alone: Vec<_> = jobs

@@ -1,5 +1,5 @@
-//! A file with zeros before its numbers and the same file without: every call on a file returns the same
-//! number for both and leaves the same bytes.
+//! A file with zeros before its numbers and the same file without: planning, listing and the check return the
+//! same number for both and leave the same bytes. Pricing has tests of its own.
 use dapohiru::numbers::ACCEPTED;
 use dapohiru_compare::checking;
 use dapohiru_compare::library::{Library, CALLS};
@@ -164,26 +164,13 @@ fn job(random: &mut Random, number: usize) -> Job {
     }
 }
 
-/// A plan of a job: its own points, none, or any of them.
-fn plan(random: &mut Random, job: &Job) -> Vec<u8> {
-    match random.below(3) {
-        0 => job.all_watched(),
-        1 => job.plan_of(&[]),
-        _ => {
-            let mut points = job.points();
-            points.retain(|_| random.once_in(2));
-            job.plan_of(&points)
-        }
-    }
-}
-
 #[test]
 fn zeros_before_the_numbers_of_a_job_change_no_answer_and_no_byte() {
     const JOBS: usize = 600;
     let mut calls = Calls::new();
     for number in 0..JOBS {
         let job = job(&mut calls.random, number);
-        let plan = plan(&mut calls.random, &job);
+        let plan = small::plan(&mut calls.random, &job);
         calls.agree(&job.file(), |_, _| {}, &plan);
     }
     for number in 0..6 {
@@ -205,7 +192,7 @@ fn zeros_change_no_refusal_and_no_byte_after_it() {
     let mut calls = Calls::new();
     for number in 0..JOBS {
         let job = job(&mut calls.random, number);
-        let mut plan = plan(&mut calls.random, &job);
+        let mut plan = small::plan(&mut calls.random, &job);
         for refusal in NUMBERS {
             let refusal = possible(&job, refusal);
             let file = refused(&mut calls.random, &job, refusal);

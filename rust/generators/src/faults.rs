@@ -60,7 +60,7 @@ impl Form {
     pub const WITHOUT_ZEROS: [Form; 4] = [Form::Letter, Form::Field, Form::Column, Form::EndByte];
 
     /// All of them.
-    const ALL: [Form; 6] = [
+    pub const ALL: [Form; 6] = [
         Form::Letter,
         Form::Field,
         Form::Column,

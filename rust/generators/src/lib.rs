@@ -1,6 +1,6 @@
-//! What tests and benchmarks are made of, from a printed seed: random jobs, small and large, damaged
-//! files, zeros before the numbers of files, random walks and random calls of the event step; and jobs
-//! written by hand.
+//! What tests and benchmarks are made of, from a printed seed: random jobs, small and large, volume files,
+//! damaged files, zeros before the numbers of files, random walks and random calls of the event step; and
+//! jobs written by hand.
 pub mod damage;
 pub mod events;
 pub mod faults;
@@ -16,6 +16,7 @@ pub mod sized;
 pub mod small;
 pub mod spread;
 pub mod story;
+pub mod volumes;
 pub mod walker;
 pub mod widen;
 pub mod zeros;

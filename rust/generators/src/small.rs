@@ -219,6 +219,19 @@ fn edges(random: &mut Random, nodes: u64) -> Vec<(u64, u64)> {
     edges.into_iter().collect()
 }
 
+/// A plan of a job: all its points, none, or any of them.
+pub fn plan(random: &mut Random, job: &Job) -> Vec<u8> {
+    match random.below(3) {
+        0 => job.all_watched(),
+        1 => job.plan_of(&[]),
+        _ => {
+            let mut points = job.points();
+            points.retain(|_| random.once_in(2));
+            job.plan_of(&points)
+        }
+    }
+}
+
 /// Random plans of a job: every one where there are at most 6 points, else some of them.
 pub fn plans(random: &mut Random, job: &Job) -> Vec<Vec<u8>> {
     let points = job.points();

@@ -1,6 +1,6 @@
 //! The plan check: sweeps over all nodes until nothing changes. What comes in again and what returns is
 //! gathered on the way and goes on after each sweep.
-use crate::read::{Decoded, Node};
+use crate::read::Decoded;
 use crate::ways::{join, WaysBack};
 
 /// For each full state the set of planned states that arrive together with it.
@@ -45,7 +45,7 @@ impl Checker {
             return Err(2);
         }
         let answer = self.read(file).and_then(|()| {
-            self.accept(plan)?;
+            self.job.accept(plan)?;
             Ok(self.faithful(plan))
         });
         work[..WORK].fill(0);
@@ -73,19 +73,6 @@ impl Checker {
     /// Whether a node of the job is an event node.
     pub fn is_point(&self, node: usize) -> bool {
         self.job.nodes[node].kind == 1
-    }
-
-    /// The tests of refusals 11 and 12.
-    fn accept(&self, plan: &[u8]) -> Result<(), u64> {
-        let nodes = &self.job.nodes[..self.job.node_count];
-        if plan.len() != nodes.len() {
-            return Err(11);
-        }
-        let fault = |(node, &byte): (&Node, &u8)| byte > u8::from(node.kind == 1);
-        if nodes.iter().zip(plan).any(fault) {
-            return Err(12);
-        }
-        Ok(())
     }
 
     /// Whether a plan of the job that was read is faithful.

@@ -69,6 +69,19 @@ impl Decoded {
         Ok(())
     }
 
+    /// The tests of refusals 11 and 12 on a plan of the job.
+    pub fn accept(&self, plan: &[u8]) -> Result<(), u64> {
+        let nodes = &self.nodes[..self.node_count];
+        if plan.len() != nodes.len() {
+            return Err(11);
+        }
+        let fault = |(node, &byte): (&Node, &u8)| byte > u8::from(node.kind == 1);
+        if nodes.iter().zip(plan).any(fault) {
+            return Err(12);
+        }
+        Ok(())
+    }
+
     /// Decodes the R lines.
     fn rules(&mut self, rest: &mut &[u8]) -> Result<(), u64> {
         self.finals = 0;
@@ -149,7 +162,7 @@ impl Decoded {
 }
 
 /// Takes the line due, with this letter and as many fields as there are numbers.
-fn take(rest: &mut &[u8], letter: u8, numbers: &mut [u32]) -> Result<(), u64> {
+pub(crate) fn take(rest: &mut &[u8], letter: u8, numbers: &mut [u32]) -> Result<(), u64> {
     if rest.is_empty() {
         return Err(3);
     }

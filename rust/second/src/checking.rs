@@ -65,28 +65,40 @@ pub fn check(call: &Call, slip: Option<Slip>) -> Outcome {
 fn refusal(call: &Call, slip: Option<Slip>) -> Option<u64> {
     let too_long = (call.file_len > LONGEST).then_some(1);
     let too_short = (call.work_len < WORK).then_some(2);
-    let unread = call.held.err();
-    let above_one = call.plan.iter().any(|&byte| byte > 1).then_some(12);
-    let (length, bytes) = match call.held {
-        Ok(walks) => (
-            length_refusal(walks.job, call.plan, slip),
-            bytes_refusal(walks.job, call.plan, slip),
-        ),
-        Err(_) => (None, None),
-    };
+    let job = call.held.map(|walks| walks.job);
+    let [unread, length, bytes] = file_and_plan(job, call.plan, slip);
     let tests = match slip {
         Some(Slip::WorkBeforeLength) => [too_short, too_long, unread, length, bytes],
         Some(Slip::WorkAfterFile) => [too_long, unread, too_short, length, bytes],
-        Some(Slip::PlanBytesBeforeFile) => {
-            [too_long, too_short, above_one, unread, length.or(bytes)]
-        }
-        Some(Slip::PlanBytesBeforeLength) => [too_long, too_short, unread, bytes, length],
         _ => [too_long, too_short, unread, length, bytes],
     };
     tests.into_iter().flatten().next()
 }
 
-/// 11: a plan to be checked is not exactly N bytes.
+/// The refusals that apply to what a file holds and to a plan, in the order in which they are tested: 3 to
+/// 10, 11, 12.
+pub(crate) fn file_and_plan(
+    held: Result<&Job, u64>,
+    plan: &[u8],
+    slip: Option<Slip>,
+) -> [Option<u64>; 3] {
+    let unread = held.err();
+    let above_one = plan.iter().any(|&byte| byte > 1).then_some(12);
+    let (length, bytes) = match held {
+        Ok(job) => (
+            length_refusal(job, plan, slip),
+            bytes_refusal(job, plan, slip),
+        ),
+        Err(_) => (None, None),
+    };
+    match slip {
+        Some(Slip::PlanBytesBeforeFile) => [above_one, unread, length.or(bytes)],
+        Some(Slip::PlanBytesBeforeLength) => [unread, bytes, length],
+        _ => [unread, length, bytes],
+    }
+}
+
+/// 11: a plan is not exactly N bytes.
 fn length_refusal(job: &Job, plan: &[u8], slip: Option<Slip>) -> Option<u64> {
     let nodes = job.nodes.len();
     let refused = match slip {

@@ -25,7 +25,12 @@ macro_rules! slips {
 impl Slip {
     /// The slips that the plan check can make.
     pub fn of_check() -> Vec<Slip> {
-        [Slip::WALKS, Slip::BUFFERS, Slip::CHECK].concat()
+        [Slip::WALKS, Slip::BUFFERS, Slip::PLANS, Slip::CHECK].concat()
+    }
+
+    /// The slips that pricing can make.
+    pub fn of_pricing() -> Vec<Slip> {
+        [Slip::PLANS, Slip::PRICES, Slip::VOLUMES].concat()
     }
 
     /// The slips that planning and listing can make.
@@ -161,8 +166,8 @@ slips! {
         ClearsAllOfWork,
     }
 
-    /// Slips of the plan check's own refusals and of what it leaves.
-    CHECK {
+    /// Slips of the refusals of plans, which the plan check and pricing have.
+    PLANS {
         /// A plan byte above 1 is refused before the file is looked at.
         PlanBytesBeforeFile,
         /// 12 is tested before 11.
@@ -179,10 +184,81 @@ slips! {
         PlanByteAtReentrantAccepted,
         /// The last plan byte is not tested.
         LastPlanByteNotTested,
+    }
+
+    /// Slips of what the plan check leaves.
+    CHECK {
         /// Refusals 11 and 12 leave the work buffer as it is.
         PlanRefusalLeavesWork,
         /// The answer different leaves the work buffer as it is.
         DifferentLeavesWork,
+    }
+
+    /// Slips of prices, of what counts, and of cents.
+    PRICES {
+        // cents
+        /// A part of a cent is left out.
+        RoundedDown,
+        /// Half a cent or more counts as a cent, and less is left out.
+        RoundedToNearest,
+        /// A cent is added to whole cents, too.
+        WholeCentsRaised,
+        /// A part of a cent counts as a cent at each point.
+        RoundedPerPoint,
+        /// The sum is cut to 32 bits.
+        SumCutTo32Bits,
+
+        // what counts
+        /// Unwatched points count, too.
+        UnwatchedCounted,
+        /// Calls of either kind count, too, as symbol 0.
+        CallsCounted,
+        /// The last node does not count.
+        LastNodeNotCounted,
+
+        // prices
+        /// Symbol s costs 25 + 5 s.
+        PriceFrom25,
+        /// Every symbol costs what symbol 0 does.
+        OnePrice,
+        /// The price goes by the node's number, and not by its symbol.
+        PriceByNode,
+    }
+
+    /// Slips of the volume file and of the place of its refusal.
+    VOLUMES {
+        /// 16 is tested before 12.
+        VolumesBeforePlanBytes,
+        /// 16 is tested before 11.
+        VolumesBeforePlan,
+        /// A volume file of more than 49,914 bytes is 1.
+        LongVolumesAs1,
+        /// Where a V line is due and the file ends it is 3, and where the line has not its form 4.
+        VolumesAs3And4,
+        /// The last V line may be missing; its volume is 0.
+        LastVolumeMissingAccepted,
+        /// The last end byte may be missing.
+        VolumeEndByteMissingAccepted,
+        /// Bytes after the last V line are accepted.
+        BytesAfterVolumesAccepted,
+        /// Any letter is accepted.
+        VolumeLetterNotTested,
+        /// V lines may stand in any order.
+        VolumePlacesNotTested,
+        /// Zeros before a number are refused.
+        VolumeZerosRefused,
+        /// Of a volume the lowest 16 bits count.
+        VolumeCutTo16Bits,
+        /// A volume of 999,999 is refused.
+        MostVolumeRefused,
+        /// A volume of 0 is refused.
+        NoVolumeRefused,
+        /// A volume at a plain node is refused, where it is not 0.
+        VolumeAtPlainRefused,
+        /// V lines stand for points only.
+        VolumesOfPointsOnly,
+        /// V lines of nodes that are not watched are not looked at.
+        UnwatchedVolumeNotTested,
     }
 
     /// Slips of passes, tries and counts.

@@ -2,9 +2,12 @@
 use crate::tally::Tally;
 use dapohiru::numbers::ACCEPTED;
 use dapohiru_compare::library::CALLS;
-use dapohiru_compare::{checking, serving};
+use dapohiru_compare::{checking, pricing, serving};
 use dapohiru_generators::random::Random;
+use dapohiru_generators::samples::pair;
+use dapohiru_generators::volumes;
 use dapohiru_second::job::Job;
+use dapohiru_second::pricing::Answer;
 use dapohiru_second::reading::{self, WORK};
 use dapohiru_second::serving::Service;
 
@@ -19,12 +22,21 @@ pub fn filled(len: usize, byte: u8) -> Box<[u8]> {
 }
 
 /// Calls, with the answers counted.
-#[derive(Default)]
 pub struct Calls {
+    /// Makes the volume files; all else is made without it.
+    volumes: Random,
     pub tally: Tally,
 }
 
 impl Calls {
+    /// No call so far, and volume files from this seed on.
+    pub fn new(seed: u64) -> Self {
+        Calls {
+            volumes: Random(seed),
+            tally: Tally::default(),
+        }
+    }
+
     /// Plans or lists with buffers of these lengths; gives the number.
     pub fn serve(&mut self, service: Service, file: &[u8], work: usize, lent: usize) -> u64 {
         let (file, mut work, mut lent) = (exact(file), filled(work, 9), filled(lent, 7));
@@ -41,14 +53,25 @@ impl Calls {
         number
     }
 
-    /// A file in all three calls, of which each is refused as it should be, or accepted.
+    /// Prices with buffers of these lengths; gives the number.
+    pub fn price(&mut self, file: &[u8], plan: &[u8], volumes: &[u8]) -> u64 {
+        let (file, plan, volumes) = (exact(file), exact(plan), exact(volumes));
+        let number = (CALLS.price)(&file, &plan, &volumes);
+        let cents = number.checked_sub(ACCEPTED).map(Answer::Cents);
+        self.tally
+            .add_priced(cents.unwrap_or(Answer::Refused(number)));
+        number
+    }
+
+    /// A file in all four calls, of which each is refused as it should be, or accepted; a price is the one of
+    /// the second implementation.
     pub fn file(&mut self, random: &mut Random, file: &[u8]) -> Result<(), String> {
         let read = reading::job(file);
         let (plan, of_plan) = match &read {
             Ok(job) => plan(random, job),
             Err(_) => (vec![1; 3], None),
         };
-        let refusal = read.err();
+        let refusal = read.as_ref().err().copied();
         let numbers = [
             self.serve(Service::Plan, file, WORK, Service::Plan.least()),
             self.serve(Service::List, file, WORK, Service::List.least()),
@@ -57,11 +80,39 @@ impl Calls {
         let wanted = [refusal, refusal, refusal.or(of_plan)];
         let seen = numbers.map(|number| (number < ACCEPTED).then_some(number));
         if seen == wanted {
-            return Ok(());
+            return self.priced(file, read, plan);
         }
         Err(format!(
             "refusals {seen:?}, and {wanted:?} wanted; plan {plan:?}, file {}",
             file.escape_ascii()
+        ))
+    }
+
+    /// The price of a plan, with a volume file that is sound, damaged or has a fault, beside the second
+    /// implementation. The file holds this job, or deserves this refusal.
+    fn priced(&mut self, file: &[u8], read: Result<Job, u64>, plan: Vec<u8>) -> Result<(), String> {
+        let unread = read.as_ref().err().copied();
+        let job = read.unwrap_or_else(|_| pair());
+        let random = &mut self.volumes;
+        let nodes = job.nodes.len();
+        let volumes = match random.below(4) {
+            0 => volumes::refused(random, nodes),
+            1 => volumes::damaged(random, nodes),
+            _ => volumes::any(random, nodes),
+        };
+        let mut case = pricing::Case::of(&job, plan, volumes);
+        (case.checking.file, case.checking.unread) = (file.to_vec(), unread);
+        let wanted = match case.wanted(None) {
+            Answer::Cents(cents) => ACCEPTED + cents,
+            Answer::Refused(number) => number,
+        };
+        let number = self.price(file, &case.checking.plan, &case.volumes);
+        if number == wanted {
+            return Ok(());
+        }
+        Err(format!(
+            "{number} of pricing, and {wanted} wanted; {}",
+            case.words()
         ))
     }
 }

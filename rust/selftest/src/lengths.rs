@@ -5,6 +5,7 @@ use dapohiru_compare::library::CALLS;
 use dapohiru_generators::events::Call;
 use dapohiru_generators::random::Random;
 use dapohiru_generators::samples::pair;
+use dapohiru_generators::volumes;
 use dapohiru_generators::zeros::zero_filled;
 use dapohiru_second::reading::{LONGEST, WORK};
 use dapohiru_second::serving::Service;
@@ -27,6 +28,7 @@ fn same(number: u64, wanted: u64, what: &str) -> Result<(), String> {
 pub fn run(calls: &mut Calls, random: &mut Random) -> Result<(), String> {
     plan_and_listing_buffers(calls)?;
     plans(calls)?;
+    volume_files(calls)?;
     files(calls, &pair().file())?;
     files(calls, &zero_filled(pair().file()))?;
     rules_and_records(calls)?;
@@ -68,6 +70,28 @@ fn plans(calls: &mut Calls) -> Result<(), String> {
     Ok(())
 }
 
+/// Plans to be priced, with volume files that are cut short or have lines past the last.
+fn volume_files(calls: &mut Calls) -> Result<(), String> {
+    let file = pair().file();
+    let spaced = volumes::file(&[1_000; 5_000]);
+    let both = [spaced.clone(), zero_filled(spaced)];
+    for plan in LENGTHS.into_iter().chain([2, 3, 4]) {
+        for len in LENGTHS.into_iter().chain(0..=4 * 14) {
+            for volumes in &both {
+                let number = calls.price(&file, &vec![0; plan], &volumes[..len]);
+                let wanted = match (plan, len) {
+                    (3, 42) => ACCEPTED,
+                    (3, _) => 16,
+                    _ => 11,
+                };
+                let what = format!("plan of {plan}, volume file of {len} bytes");
+                same(number, wanted, &what)?;
+            }
+        }
+    }
+    Ok(())
+}
+
 /// A file of PAIR, cut short or with bytes past its last line.
 fn files(calls: &mut Calls, whole: &[u8]) -> Result<(), String> {
     let around = LONGEST - 1..=LONGEST + 1;
@@ -88,6 +112,8 @@ fn files(calls: &mut Calls, whole: &[u8]) -> Result<(), String> {
         }
         let number = calls.check(&file, &[1, 1, 1], WORK);
         same(number, wanted, &format!("check of {len} bytes"))?;
+        let number = calls.price(&file, &[0, 0, 0], &volumes::file(&[1_000; 3]));
+        same(number, wanted, &format!("price of {len} bytes"))?;
     }
     Ok(())
 }
@@ -152,7 +178,7 @@ mod tests {
     fn every_slip_of_the_second_step_is_a_difference() {
         let found = |slip| {
             let mut random = Random(1);
-            events(&mut Calls::default(), &mut random, Second { slip })
+            events(&mut Calls::new(1), &mut random, Second { slip })
         };
         assert_eq!(found(None), Ok(()));
         for &slip in Slip::ALL {

@@ -1,5 +1,6 @@
 //! Calls on buffers that are allocations of their own size, for valgrind to see every byte read or
-//! written beside one. The answers are compared with the second reader and the second step too.
+//! written beside one. The answers are compared with the second reader, the second prices and the second step
+//! too.
 use crate::calls::Calls;
 use crate::found::Found;
 use crate::lengths;
@@ -37,7 +38,7 @@ fn file(random: &mut Random) -> Vec<u8> {
 /// Makes the calls, and says what they came to.
 pub fn run(seed: u64, files: u64, out: &mut impl Write) -> io::Result<Found> {
     let mut progress = Progress::new();
-    let mut calls = Calls::default();
+    let mut calls = Calls::new(!seed);
     let mut random = Random(seed);
     let mut found = lengths::run(&mut calls, &mut random);
     let longest = sized::job(&mut random, FULL).file();

@@ -5,6 +5,7 @@ use dapohiru::numbers::ACCEPTED;
 use dapohiru_compare::checking;
 use dapohiru_compare::library::GUARDED;
 use dapohiru_compare::on_file::OnFile;
+use dapohiru_compare::pricing;
 use dapohiru_compare::promise;
 use dapohiru_compare::serving;
 use dapohiru_compare::step::compare;
@@ -16,8 +17,10 @@ use dapohiru_generators::random::Random;
 use dapohiru_generators::sized::{self, FULL};
 use dapohiru_generators::small;
 use dapohiru_generators::spread::Spread;
+use dapohiru_generators::volumes;
 use dapohiru_generators::zeros::filled;
 use dapohiru_second::job::Job;
+use dapohiru_second::pricing::MOST_EVENTS;
 use dapohiru_second::serving::{Given, Service};
 use dapohiru_second::step::Second;
 use dapohiru_second::walk::Walks;
@@ -28,6 +31,9 @@ pub struct Rounds {
     slips: Slips,
     serving: serving::Memory,
     checking: checking::Memory,
+    pricing: pricing::Memory,
+    /// Makes the volume files of a round and what is priced with them; the other calls are made without it.
+    volumes: Random,
     pub tally: Tally,
 }
 
@@ -39,6 +45,8 @@ impl Rounds {
             slips,
             serving: serving::Memory::new(GUARDED),
             checking: checking::Memory::new(GUARDED),
+            pricing: pricing::Memory::new(GUARDED),
+            volumes: Random(0),
             tally: Tally::default(),
         }
     }
@@ -46,6 +54,7 @@ impl Rounds {
     /// Makes one round; says in words how the library differs.
     pub fn make(&mut self, number: u64) -> Result<(), String> {
         let mut random = Random(self.seed ^ Random(number).number());
+        self.volumes = Random(!random.0);
         self.serving.begin(random.number());
         self.checking.begin(random.number());
         let random = &mut random;
@@ -56,7 +65,8 @@ impl Rounds {
             }
             1 | 5 => {
                 let job = small::job(random);
-                self.check(random, &job)
+                self.check(random, &job)?;
+                self.price(&job)
             }
             2 => self.damaged(random),
             3 => self.step(random),
@@ -98,7 +108,22 @@ impl Rounds {
         self.check_cases(job, &cases)
     }
 
-    /// A damaged file in all three calls; the second reader says what it deserves.
+    /// Compares calls of pricing.
+    fn price_cases(&mut self, cases: &[pricing::Case]) -> Result<(), String> {
+        for case in cases {
+            let answer = case.compare(&mut self.pricing, self.slips.walks)?;
+            self.tally.add_priced(answer);
+        }
+        Ok(())
+    }
+
+    /// Plans of a job with volume files, some of them damaged or with faults.
+    fn price(&mut self, job: &Job) -> Result<(), String> {
+        let cases = pricing::cases(&mut self.volumes, job);
+        self.price_cases(&cases)
+    }
+
+    /// A damaged file in all four calls; the second reader says what it deserves.
     fn damaged(&mut self, random: &mut Random) -> Result<(), String> {
         for _ in 0..8 {
             let damaged = Damaged::random(random);
@@ -114,7 +139,12 @@ impl Rounds {
                 unread,
                 ..checking::Case::of(&job, plan)
             };
-            self.check_cases(&job, &[case])?;
+            self.check_cases(&job, std::slice::from_ref(&case))?;
+            let volumes = volumes::any(&mut self.volumes, job.nodes.len());
+            self.price_cases(&[pricing::Case {
+                checking: case,
+                volumes,
+            }])?;
         }
         Ok(())
     }
@@ -156,7 +186,7 @@ impl Rounds {
         Ok(())
     }
 
-    /// A small job spread over up to 512 nodes, in all three calls.
+    /// A small job spread over up to 512 nodes, in all four calls.
     fn spread(&mut self, random: &mut Random) -> Result<(), String> {
         let small = small::job(random);
         let nodes = random.pick(&[16, 17, 64, 65, 255, 256, 257, 511, 512]);
@@ -164,7 +194,7 @@ impl Rounds {
         self.whole(random, &job)
     }
 
-    /// A job of 512 nodes with long loops, or of the longest file, in all three calls.
+    /// A job of 512 nodes with long loops, or of the longest file, in all four calls.
     fn large(&mut self, random: &mut Random) -> Result<(), String> {
         let job = match random.below(4) {
             0 => sized::job(random, FULL),
@@ -174,12 +204,23 @@ impl Rounds {
         self.whole(random, &job)
     }
 
-    /// Planning, listing, and the check of the plan and of two others.
+    /// Planning, listing, the check of the plan and of two others, and their prices.
     fn whole(&mut self, random: &mut Random, job: &Job) -> Result<(), String> {
         let both = Service::BOTH.map(|service| serving::Case::of(service, job).with_zeros(random));
         let given = self.serve_cases(job, &both)?;
         let plans = [given.planned.plan, job.all_watched(), job.plan_of(&[])];
         let cases = plans.map(|plan| checking::Case::of(job, plan).with_zeros(random));
-        self.check_cases(job, &cases)
+        self.check_cases(job, &cases)?;
+        let nodes = job.nodes.len();
+        let most = volumes::file(&vec![MOST_EVENTS; nodes]);
+        for checking in cases {
+            let any = volumes::any(&mut self.volumes, nodes);
+            let with = |volumes: Vec<u8>| pricing::Case {
+                checking: checking.clone(),
+                volumes,
+            };
+            self.price_cases(&[with(any), with(most.clone())])?;
+        }
+        Ok(())
     }
 }

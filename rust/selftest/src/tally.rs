@@ -3,6 +3,7 @@ use dapohiru_compare::checking;
 use dapohiru_compare::promise::{Needed, Walked};
 use dapohiru_compare::records;
 use dapohiru_compare::serving;
+use dapohiru_second::pricing;
 use dapohiru_second::step::Answer;
 use std::fmt;
 
@@ -13,10 +14,11 @@ pub struct Tally {
     pub listed: u64,
     pub faithful: u64,
     pub different: u64,
+    pub priced: u64,
     pub quiet: u64,
     pub alarm: u64,
-    /// By number, 1 to 15.
-    pub refused: [u64; 16],
+    /// By number, 1 to 16.
+    pub refused: [u64; 17],
     walks: u64,
     /// Walks that came in again, and walks that returned.
     came_in: u64,
@@ -28,7 +30,7 @@ pub struct Tally {
 }
 
 /// What each refusal means.
-const MEANINGS: [&str; 15] = [
+const MEANINGS: [&str; 16] = [
     "the file is longer than 49,914 bytes",
     "a lent buffer is too short",
     "the file ends where a line is due",
@@ -44,6 +46,7 @@ const MEANINGS: [&str; 15] = [
     "a rule",
     "a symbol",
     "a record",
+    "a volume file is not exactly one V line for each node",
 ];
 
 impl Tally {
@@ -69,6 +72,14 @@ impl Tally {
             checking::Said::Faithful => self.faithful += 1,
             checking::Said::Different => self.different += 1,
             checking::Said::Refused(number) => self.add_refused(number, 1),
+        }
+    }
+
+    /// Counts an answer of pricing.
+    pub fn add_priced(&mut self, answer: pricing::Answer) {
+        match answer {
+            pricing::Answer::Cents(_) => self.priced += 1,
+            pricing::Answer::Refused(number) => self.add_refused(number, 1),
         }
     }
 
@@ -107,7 +118,8 @@ impl Tally {
 
     /// All calls.
     pub fn calls(&self) -> u64 {
-        let accepted = self.planned + self.listed + self.faithful + self.different;
+        let checked = self.faithful + self.different;
+        let accepted = self.planned + self.listed + checked + self.priced;
         let on_walks = 2 * self.told.events - self.told.skipped;
         let refused: u64 = self.refused.iter().sum();
         accepted + self.quiet + self.alarm + on_walks + refused
@@ -122,6 +134,7 @@ impl fmt::Display for Tally {
             (self.listed, "jobs listed"),
             (self.faithful, "plans faithful"),
             (self.different, "plans different"),
+            (self.priced, "plans priced"),
             (self.quiet, "events quiet"),
             (self.alarm, "events with an alarm"),
             (self.walks, "walks with two monitors"),

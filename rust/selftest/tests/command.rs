@@ -32,7 +32,7 @@ fn count(text: &str, words: &str) -> u64 {
 
 /// Asks that every refusal came.
 fn every_refusal_comes(text: &str) {
-    for number in 1..=15 {
+    for number in 1..=16 {
         let refused = format!("refused {number:>2}:");
         assert!(count(text, &refused) > 0, "{number}");
     }
@@ -48,6 +48,7 @@ fn rounds_find_no_difference_and_every_answer_comes() {
         "jobs listed",
         "plans faithful",
         "plans different",
+        "plans priced",
         "events quiet",
         "events with an alarm",
         "walks that came in again",
@@ -70,7 +71,12 @@ fn same_seed_makes_the_same_rounds() {
 
 #[test]
 fn every_slip_of_the_second_implementation_is_a_difference_that_can_be_seen_again() {
-    let of_walks = [slip::Slip::of_check(), slip::Slip::of_planning()].concat();
+    let of_walks = [
+        slip::Slip::of_check(),
+        slip::Slip::of_planning(),
+        slip::Slip::of_pricing(),
+    ];
+    let of_walks = of_walks.concat();
     let of_walks = of_walks.iter().map(|slip| format!("{slip:?}"));
     let of_step = step::Slip::ALL.iter().map(|slip| format!("{slip:?}"));
     for slip in of_walks.chain(of_step) {

@@ -29,6 +29,7 @@ static uint8_t file[DAPOHIRU_JOB_LEN + 1];
 static uint8_t work[DAPOHIRU_WORK_LEN + PAST];
 static uint8_t plan[DAPOHIRU_PLAN_LEN + PAST];
 static uint8_t listing[DAPOHIRU_LISTING_LEN + PAST];
+static uint8_t volumes[DAPOHIRU_VOLUMES_LEN + PAST];
 
 static int all(const uint8_t *bytes, size_t len, uint8_t value)
 {
@@ -42,13 +43,21 @@ static int all(const uint8_t *bytes, size_t len, uint8_t value)
 /* What stands before the numbers of the file: spaces, or zeros. */
 static char lead = ' ';
 
-/* PAIR as the file, and buffers that hold other bytes. */
-static void fresh(void)
+/* Copies a file with the lead before its numbers. */
+static void spell(uint8_t *to, const char *from, size_t len)
 {
     size_t k;
 
-    for (k = 0; k < PAIR_LEN; k++)
-        file[k] = (uint8_t)(PAIR[k] == ' ' ? lead : PAIR[k]);
+    for (k = 0; k < len; k++)
+        to[k] = (uint8_t)(from[k] == ' ' ? lead : from[k]);
+}
+
+/* PAIR as the file, its volume file, and buffers that hold other bytes. */
+static void fresh(void)
+{
+    spell(file, PAIR, PAIR_LEN);
+    memset(volumes, FILL, sizeof volumes);
+    spell(volumes, VOLUMES, VOLUMES_LEN);
     memset(work, FILL, sizeof work);
     memset(plan, FILL, sizeof plan);
     memset(listing, FILL, sizeof listing);
@@ -110,7 +119,7 @@ static void calls_that_may_come_back_in_are_planned_and_checked(void)
     HOLD(dapohiru_check(file, PAIR_LEN, marked, 3, work, sizeof work) == DAPOHIRU_BAD_PLAN_BYTE);
 }
 
-/* Asks that the three calls on the file refuse it by this number, and leave what a refusal leaves. */
+/* Asks that the calls on the file refuse it by this number, and leave what a refusal leaves. */
 static void refused(uint64_t number, size_t file_len, size_t work_len)
 {
     static const uint8_t own[] = {1, 0, 1};
@@ -125,6 +134,9 @@ static void refused(uint64_t number, size_t file_len, size_t work_len)
     HOLD(dapohiru_check(file, file_len, own, 3, work, work_len) == number);
     HOLD(work_after(number));
     HOLD(all(plan, sizeof plan, FILL) && all(listing, sizeof listing, FILL));
+    /* pricing gets no work buffer, and no 2 */
+    if (number != DAPOHIRU_BUFFER_TOO_SHORT)
+        HOLD(dapohiru_price(file, file_len, own, 3, volumes, VOLUMES_LEN) == number);
 }
 
 /* Puts one byte into PAIR and asks for the refusal. */
@@ -187,6 +199,46 @@ static void plans_are_refused_by_number(void)
     HOLD(memcmp(file, PAIR, PAIR_LEN) == 0);
 }
 
+/* Asks that a plan for PAIR gets this answer with the first bytes of the volume file, and that no file is changed. */
+static void priced(uint64_t answer, const uint8_t *own, size_t own_len, size_t volumes_len)
+{
+    static uint8_t kept[sizeof file + sizeof volumes];
+
+    memcpy(kept, file, sizeof file);
+    memcpy(kept + sizeof file, volumes, sizeof volumes);
+    HOLD(dapohiru_price(file, PAIR_LEN, own, own_len, volumes, volumes_len) == answer);
+    HOLD(memcmp(kept, file, sizeof file) == 0 && memcmp(kept + sizeof file, volumes, sizeof volumes) == 0);
+}
+
+static void plans_are_priced_or_refused_by_number(void)
+{
+    static const uint8_t every[] = {1, 1, 1}, planned[] = {0, 1, 1}, none[] = {0, 0, 0}, above[] = {1, 2, 1, 0};
+    /* the length of a V line, and the place of its last digit */
+    const size_t v_len = 14, last = 12;
+
+    fresh();
+    priced(DAPOHIRU_ACCEPTED + 70, every, 3, VOLUMES_LEN);
+    priced(DAPOHIRU_ACCEPTED + 50, planned, 3, VOLUMES_LEN);
+    priced(DAPOHIRU_ACCEPTED, none, 3, VOLUMES_LEN);
+    HOLD(DAPOHIRU_CENTS(dapohiru_price(file, PAIR_LEN, every, 3, volumes, VOLUMES_LEN)) == 70);
+    /* one event more is a part of a cent */
+    volumes[last] = '1';
+    priced(DAPOHIRU_ACCEPTED + 71, every, 3, VOLUMES_LEN);
+    priced(DAPOHIRU_ACCEPTED + 50, planned, 3, VOLUMES_LEN);
+
+    priced(DAPOHIRU_BAD_VOLUMES, every, 3, 0);
+    priced(DAPOHIRU_BAD_VOLUMES, every, 3, VOLUMES_LEN - v_len);
+    priced(DAPOHIRU_BAD_VOLUMES, every, 3, VOLUMES_LEN - 1);
+    volumes[VOLUMES_LEN] = '\n';
+    priced(DAPOHIRU_BAD_VOLUMES, every, 3, VOLUMES_LEN + 1);
+    priced(DAPOHIRU_BAD_VOLUMES, every, 3, sizeof volumes);
+    volumes[6] = '1';
+    priced(DAPOHIRU_BAD_VOLUMES, every, 3, VOLUMES_LEN);
+    priced(DAPOHIRU_BAD_PLAN_BYTE, above, 3, VOLUMES_LEN);
+    priced(DAPOHIRU_BAD_PLAN_LENGTH, above, 2, VOLUMES_LEN);
+    priced(DAPOHIRU_BAD_PLAN_LENGTH, above, 4, VOLUMES_LEN);
+}
+
 /* A record with the given state and alarm total, and bytes past it. */
 static uint8_t room[DAPOHIRU_RECORD_LEN + PAST];
 
@@ -244,11 +296,13 @@ int main(void)
     pair_is_planned_listed_and_checked();
     calls_that_may_come_back_in_are_planned_and_checked();
     files_and_buffers_are_refused_by_number();
+    plans_are_priced_or_refused_by_number();
     lead = ' ';
     pair_is_planned_listed_and_checked();
     calls_that_may_come_back_in_are_planned_and_checked();
     files_and_buffers_are_refused_by_number();
     plans_are_refused_by_number();
+    plans_are_priced_or_refused_by_number();
     events_move_the_record_and_count_alarms();
     printf("%d tests, %d failed\n", tests, failures);
     return failures == 0 && tests > 0 ? EXIT_SUCCESS : EXIT_FAILURE;

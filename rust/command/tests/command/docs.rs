@@ -75,7 +75,9 @@ fn examples_of_the_users_page_print_what_stands_there() {
         assert_eq!(without_times(&printed), without_times(wanted), "{command}");
     }
     println!("{} examples", examples.len());
-    for name in ["plan", "list", "check", "watch", "release", "graph"] {
+    for name in [
+        "plan", "list", "check", "price", "watch", "release", "graph",
+    ] {
         let word = format!("./dapohiru {name} ");
         assert!(
             examples.iter().any(|(command, _)| command.contains(&word)),

@@ -6,7 +6,7 @@ use std::process::Stdio;
 
 /// The commands that print, each with its standard input.
 fn printing() -> Vec<(Vec<String>, &'static str)> {
-    let job = example("pair.job");
+    let (job, volumes) = (example("pair.job"), example("pair.volumes"));
     let folder = folder("full-release");
     file(&folder, "pair.job", PAIR.as_bytes());
     let release = folder.display().to_string();
@@ -19,6 +19,8 @@ fn printing() -> Vec<(Vec<String>, &'static str)> {
         (vec!["list", "-"], ""),
         (vec!["check", &job, "-"], "011\n"),
         (vec!["check", &job, "-"], "001\n"),
+        (vec!["price", &job, "-", &volumes], "011\n"),
+        (vec!["price", &job, "-", &volumes, "--explain"], "011\n"),
         (vec!["watch", &job], ""),
         (vec!["watch", &job], "0\n2\n2\n2\n"),
         (vec!["release", &release], ""),

@@ -8,7 +8,7 @@ use dapohiru_generators::zeros::filled;
 use dapohiru_second::job::Job;
 
 /// The columns where a fault is seen; of F lines that do not ascend either node may be named.
-fn columns(fault: Fault, letters: &[u8], fields: usize) -> Option<String> {
+pub fn columns(fault: Fault, letters: &[u8], fields: usize) -> Option<String> {
     let field = |field: usize| format!("columns {} to {}", 6 * field + 2, 6 * field + 7);
     match fault {
         Fault::Ends(_) | Fault::Follow(_) | Fault::Form(_, Form::Letter) => {

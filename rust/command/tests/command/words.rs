@@ -1,11 +1,13 @@
 //! The words of the command line: wrong ones, missing files, and the help.
 use crate::program::{example, run};
 
-const COMMANDS: [&str; 6] = ["plan", "list", "check", "watch", "release", "graph"];
+const COMMANDS: [&str; 7] = [
+    "plan", "list", "check", "price", "watch", "release", "graph",
+];
 
 #[test]
 fn unknown_command_is_told_with_the_known_ones() {
-    let known = "the commands are plan, list, check, watch, release, graph; `dapohiru --help` tells of each\n";
+    let known = "the commands are plan, list, check, price, watch, release, graph; `dapohiru --help` tells of each\n";
     for (words, why) in [
         (&[][..], "no command is given"),
         (&["monitor"], "monitor is no command"),
@@ -25,12 +27,16 @@ fn wrong_words_are_told_with_the_usage() {
         (&["list", "--explain"], "JOB is missing"),
         (&["check"], "JOB is missing"),
         (&["check", &job], "PLAN is missing"),
+        (&["price", "--explain"], "JOB is missing"),
+        (&["price", &job], "PLAN is missing"),
+        (&["price", &job, "b"], "VOLUMES is missing"),
         (&["watch"], "JOB is missing"),
         (&["release"], "DIR is missing"),
         (&["graph", "--svg"], "JOB is missing"),
         (&["plan", &job, "b"], "b is one name too many"),
         (&["list", &job, "b"], "b is one name too many"),
         (&["check", &job, "b", "c"], "c is one name too many"),
+        (&["price", &job, "b", "c", "d"], "d is one name too many"),
         (&["watch", &job, "b", "c"], "c is one name too many"),
         (&["release", "a", "b"], "b is one name too many"),
         (&["graph", &job, "b", "c"], "c is one name too many"),
@@ -38,6 +44,7 @@ fn wrong_words_are_told_with_the_usage() {
         (&["plan", "--quick", &job], "--quick is no option"),
         (&["plan", &job, "--state=1"], "--state=1 is no option"),
         (&["list", &job, "-o", "x"], "-o is no option"),
+        (&["price", &job, "b", "c", "--json"], "--json is no option"),
         (
             &["list", &job, "--explain=yes"],
             "--explain=yes is no option",
@@ -49,6 +56,10 @@ fn wrong_words_are_told_with_the_usage() {
         (&["watch", &job, "--state="], "--state is not followed by Q"),
         (
             &["list", &job, "--names"],
+            "--names is not followed by FILE",
+        ),
+        (
+            &["price", &job, "b", "c", "--names"],
             "--names is not followed by FILE",
         ),
         (&["plan", &job, "-o", "a", "-o", "b"], "-o is given twice"),
@@ -87,6 +98,26 @@ fn words_that_do_not_go_together_are_told() {
             "JOB and PLAN cannot both be standard input",
         ),
         (
+            &["price", &job, "b", "c", "--names", "x"],
+            "price: --names is only of use with --explain",
+        ),
+        (
+            &["price", "-", "-", "c"],
+            "price: JOB and PLAN cannot both be standard input",
+        ),
+        (
+            &["price", "-", "b", "-"],
+            "price: JOB and VOLUMES cannot both be standard input",
+        ),
+        (
+            &["price", &job, "-", "-"],
+            "price: PLAN and VOLUMES cannot both be standard input",
+        ),
+        (
+            &["price", &job, "b", "-", "--explain", "--names=-"],
+            "price: VOLUMES and the names cannot both be standard input",
+        ),
+        (
             &["watch", "-"],
             "watch: standard input holds the events, so JOB and PLAN are files",
         ),
@@ -111,6 +142,7 @@ fn words_that_do_not_go_together_are_told() {
 #[test]
 fn missing_file_is_named() {
     let job = example("pair.job");
+    let volumes = example("pair.volumes");
     let missing = "/no/such/file";
     for words in [
         &["plan", missing][..],
@@ -119,6 +151,10 @@ fn missing_file_is_named() {
         &["list", &job, "--explain", "--names", missing],
         &["check", missing, missing],
         &["check", &job, missing],
+        &["price", missing, missing, missing],
+        &["price", &job, missing, &volumes],
+        &["price", missing, "-", &volumes],
+        &["price", &job, "-", missing],
         &["watch", missing],
         &["watch", &job, missing],
         &["release", missing],

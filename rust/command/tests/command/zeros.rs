@@ -39,6 +39,7 @@ fn every_command_prints_for_a_file_with_zeros_what_it_prints_without() {
         file(&folder, "b.plan", b"001\n"),
     );
     let (symbols, events) = (example("pair.names"), "0\n1\n2\n=1\n7\n");
+    let volumes = example("pair.volumes");
     for (words, input, status) in [
         (&["plan", "JOB"][..], "", 0),
         (&["list", "JOB"], "", 0),
@@ -46,6 +47,9 @@ fn every_command_prints_for_a_file_with_zeros_what_it_prints_without() {
         (&["check", "JOB", &plan], "", 0),
         (&["check", "JOB", &other], "", 1),
         (&["check", "JOB", "-"], "01\n", 2),
+        (&["price", "JOB", &plan, &volumes], "", 0),
+        (&["price", "JOB", &plan, &volumes, "--explain"], "", 0),
+        (&["price", "JOB", &plan, "-"], "V     0     0\n", 2),
         (&["watch", "JOB"], events, 2),
         (&["watch", "JOB", &plan, "--state", "1"], events, 2),
         (&["watch", "JOB", &other], "0\n1\n2\n", 0),

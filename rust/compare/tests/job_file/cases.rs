@@ -1,5 +1,5 @@
 //! Random calls: jobs, files with random faults of all kinds, and random bytes.
-use crate::damage::{columns, misspelled, numbers_near, sizes, BYTES};
+use dapohiru_compare::damage::{columns, misspelled, numbers_near, sizes, BYTES};
 use dapohiru_compare::memory::PAST_FILE;
 use dapohiru_generators::faults::short_work;
 use dapohiru_generators::random::Random;

@@ -1,9 +1,9 @@
 //! Every damage of some kind to small files.
 use crate::cases::Case;
-use crate::damage;
 use crate::memory::{compare_all, Memory};
 use crate::samples::{answer, least, small, spelled};
 use dapohiru::Refusal;
+use dapohiru_compare::damage;
 use dapohiru_compare::memory::Counts;
 use dapohiru_second::job::{Line, CALL, REENTRANT};
 use dapohiru_second::reading::WORK;
@@ -70,7 +70,8 @@ fn lines_swapped_doubled_or_missing_agree() {
 #[test]
 fn numbers_at_and_past_every_limit_agree() {
     for (what, lines) in small() {
-        let counts = compare_all(what, damage::numbers_replaced(&lines));
+        let sizes = damage::sizes(&lines);
+        let counts = compare_all(what, damage::numbers_replaced(&lines, sizes));
         counts.came([4, 5, 6, 7].map(Some));
         assert!(what == "the least job" || counts.of(Some(8)) > 0);
     }

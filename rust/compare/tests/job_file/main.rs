@@ -1,7 +1,6 @@
 //! Reading a job file by the library, beside a second reader and by itself.
 mod agreement;
 mod cases;
-mod damage;
 mod damaged;
 mod memory;
 mod samples;

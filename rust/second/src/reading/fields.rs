@@ -3,7 +3,7 @@ use super::{Reader, Slip};
 
 impl Reader {
     /// The number in a field of six columns: spaces, none or more, and then digits to the end.
-    pub(super) fn number(self, field: &[u8]) -> Option<u64> {
+    pub(crate) fn number(self, field: &[u8]) -> Option<u64> {
         let is_space = |byte: u8| {
             byte == b' '
                 || (byte == b'\t' && self.slips(Slip::TabAccepted))

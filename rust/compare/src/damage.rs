@@ -5,7 +5,7 @@ use std::ops::Range;
 use std::slice::from_ref;
 
 /// Bytes that stand next to those of a file, or are taken for them by mistake.
-pub const BYTES: &[u8] = b" 012349:/\t\r\n\0-+.,aJRPFjrpf\x0b\x7f\x80\xa0\xb0\xff";
+pub const BYTES: &[u8] = b" 012349:/\t\r\n\0-+.,aJRPFVjrpfv\x0b\x7f\x80\xa0\xb0\xff";
 
 /// The columns of a field in the line that starts at this byte.
 pub fn columns(start: usize, field: usize) -> Range<usize> {
@@ -113,12 +113,12 @@ pub fn lines_moved(lines: &[Line]) -> Vec<Vec<u8>> {
     files
 }
 
-/// Each number replaced by those near it and near every limit.
-pub fn numbers_replaced(lines: &[Line]) -> Vec<Vec<u8>> {
+/// Each number replaced by those near it and near every limit of a file with these sizes.
+pub fn numbers_replaced(lines: &[Line], sizes: Sizes) -> Vec<Vec<u8>> {
     let mut files = Vec::new();
     for line in 0..lines.len() {
         for field in 0..lines[line].numbers.len() {
-            for number in numbers_near(lines[line].numbers[field], sizes(lines)) {
+            for number in numbers_near(lines[line].numbers[field], sizes) {
                 let mut damaged = lines.to_vec();
                 damaged[line].numbers[field] = number;
                 files.push(spell(&damaged));

@@ -1,0 +1,6 @@
+//! Pricing by the library on random calls, beside the second implementation.
+mod cases;
+mod memory;
+
+pub use cases::{cases, refused, Case};
+pub use memory::Memory;

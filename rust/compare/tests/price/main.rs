@@ -1,0 +1,9 @@
+//! Pricing by the library, beside a second implementation written from document 02, and by itself.
+mod agreement;
+mod alike;
+mod damaged;
+mod refusals;
+mod saves;
+mod slips;
+mod stack;
+mod trials;

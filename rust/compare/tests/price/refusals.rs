@@ -1,0 +1,169 @@
+//! Every refusal, alone and beside another fault.
+use crate::agreement::{all_answers, Calls};
+use dapohiru_compare::memory::Counts;
+use dapohiru_compare::pricing::{refused, Case, Memory};
+use dapohiru_compare::wrapper::WRAPPER;
+use dapohiru_generators::faults::NUMBERS;
+use dapohiru_generators::random::Random;
+use dapohiru_generators::samples::{call, event, exit, pair, reentrant, PAIR, PLAIN_NODE};
+use dapohiru_generators::{small, volumes};
+use dapohiru_second::job::Job;
+use dapohiru_second::pricing::Answer;
+use dapohiru_second::reading::LONGEST;
+
+/// A job with nodes of all kinds under PAIR's rule.
+pub fn all_kinds() -> Job {
+    let nodes = vec![
+        event(0),
+        PLAIN_NODE,
+        call(3),
+        exit(event(2), 0),
+        reentrant(1),
+        event(1),
+    ];
+    PAIR.job(1, nodes, &[(0, 1), (1, 2), (2, 3), (3, 4), (4, 5)])
+}
+
+/// The refusals of pricing.
+const REFUSALS: [u64; 12] = [1, 3, 4, 5, 6, 7, 8, 9, 10, 11, 12, 16];
+
+#[test]
+fn lower_of_two_faults_decides() {
+    let mut random = Random::of_this_run();
+    let mut calls = Calls::new();
+    let job = all_kinds();
+    let from_file = |number: u64| NUMBERS.contains(&number);
+    for one in REFUSALS {
+        let others = REFUSALS.into_iter().filter(|&other| other >= one);
+        for other in others.filter(|&other| !(from_file(one) && from_file(other) && one != other)) {
+            for _ in 0..40 {
+                let mut case = Case::any(&mut random, &job, job.all_watched());
+                let mut faults = vec![one, other];
+                // a file fault goes in first, since it makes another file; 1 makes that file too long
+                faults.sort_by_key(|&number| (!from_file(number), number == 12));
+                faults.dedup();
+                for number in faults {
+                    case = case.with_fault(&mut random, number);
+                }
+                let name = format!("{one} and {other}");
+                let answer = calls.agree(&name, &case);
+                assert_eq!(answer, Answer::Refused(one), "{name}: {}", case.words());
+            }
+        }
+    }
+    calls.counts.print("one fault or two");
+    calls.counts.came(REFUSALS.map(Some));
+}
+
+#[test]
+fn all_faults_at_once_are_refused_by_the_first() {
+    let mut random = Random::of_this_run();
+    let mut calls = Calls::new();
+    let job = all_kinds();
+    for number in NUMBERS {
+        for _ in 0..20 {
+            let mut case = Case::any(&mut random, &job, job.all_watched());
+            // in the order from the last test to the first
+            for (faults, wanted) in [(16, 16), (12, 12), (11, 11), (number, number), (1, 1)] {
+                case = case.with_fault(&mut random, faults);
+                let answer = calls.agree(format_args!("{wanted}"), &case);
+                assert_eq!(answer, Answer::Refused(wanted), "{}", case.words());
+            }
+        }
+    }
+    calls.counts.print("one fault more at a time");
+}
+
+#[test]
+fn volume_file_of_any_other_length_is_16_however_long_it_is() {
+    let mut memory = Memory::new(WRAPPER);
+    let (file, plan) = (pair().file(), [1, 1, 1]);
+    let thousands = volumes::file(&[1_000; 8_000]);
+    for len in (0..=14 * 6).chain([7_168, LONGEST, LONGEST + 1, 65_536, thousands.len()]) {
+        let answer = memory.call(&file, &plan, &thousands[..len]).unwrap();
+        let wanted = match len {
+            42 => Answer::Cents(70),
+            _ => Answer::Refused(16),
+        };
+        assert_eq!(answer, wanted, "{len} bytes");
+    }
+}
+
+#[test]
+fn files_for_one_node_more_or_fewer_are_16() {
+    let mut random = Random::of_this_run();
+    let mut calls = Calls::new();
+    for nodes in [1, 2, 3, 255, 256, 257, 510, 511, 512] {
+        let job = PAIR.job(1, vec![event(2); nodes], &[]);
+        for lines in [nodes - 1, nodes, nodes + 1, 2 * nodes] {
+            let mut case = Case::any(&mut random, &job, job.all_watched());
+            case.volumes = volumes::any(&mut random, lines);
+            let answer = calls.agree(format_args!("{nodes} nodes"), &case);
+            let wanted = (lines != nodes).then_some(16);
+            assert_eq!(refused(answer), wanted, "{lines} lines for {nodes} nodes");
+        }
+    }
+}
+
+#[test]
+fn empty_buffers_are_lent_too() {
+    let mut memory = Memory::new(WRAPPER);
+    let (file, volumes) = (pair().file(), volumes::file(&[1_000; 3]));
+    let mut answer = |file: &[u8], plan: &[u8], volumes: &[u8]| {
+        let answer = memory.call(file, plan, volumes);
+        refused(answer.unwrap())
+    };
+    assert_eq!(answer(b"", b"", b""), Some(3));
+    assert_eq!(answer(b"", &[1, 1, 1], &volumes), Some(3));
+    assert_eq!(answer(&file, b"", b""), Some(11));
+    assert_eq!(answer(&file, b"", &volumes), Some(11));
+    assert_eq!(answer(&file, &[1, 1, 1], b""), Some(16));
+    assert_eq!(answer(&file, &[1, 1, 1], &volumes), None);
+}
+
+#[test]
+fn plan_byte_is_refused_at_every_node_that_is_no_point() {
+    let mut memory = Memory::new(WRAPPER);
+    let job = all_kinds();
+    let (file, points) = (job.file(), job.points());
+    let volumes = volumes::file(&vec![1_000; job.nodes.len()]);
+    for node in 0..job.nodes.len() {
+        for byte in 0..=255 {
+            let mut plan = job.plan_of(&[]);
+            plan[node] = byte;
+            let wanted = match byte {
+                0 => Answer::Cents(0),
+                1 if points.contains(&node) => Answer::Cents(20 + 5 * job.nodes[node].value),
+                _ => Answer::Refused(12),
+            };
+            let answer = memory.call(&file, &plan, &volumes).unwrap();
+            assert_eq!(answer, wanted, "byte {byte} at node {node}");
+        }
+    }
+}
+
+#[test]
+fn one_call_leaves_nothing_for_the_next() {
+    let mut random = Random::of_this_run();
+    let mut memory = Memory::new(WRAPPER);
+    let mut counts = Counts::default();
+    let mut calls = Vec::new();
+    for _ in 0..200 {
+        let job = small::job(&mut random);
+        calls.extend(dapohiru_compare::pricing::cases(&mut random, &job));
+    }
+    let mut answer = |case: &Case| {
+        let answer = memory.call(&case.checking.file, &case.checking.plan, &case.volumes);
+        answer.unwrap()
+    };
+    let first: Vec<_> = calls.iter().map(&mut answer).collect();
+    for _ in 0..4 {
+        for _ in 0..calls.len() {
+            let place = random.place(calls.len());
+            assert_eq!(answer(&calls[place]), first[place]);
+            counts.add(refused(first[place]));
+        }
+    }
+    counts.print("in any order");
+    counts.came(all_answers());
+}
