@@ -72,7 +72,7 @@ pub record CostsSay : Type 0 where
   pub unwatched : (prices : List ℕ) (s volume : ℕ) → cost prices (point s) false volume ≡ 0
   pub elsewhere : (prices : List ℕ) (w : Bool) (volume : ℕ) → cost prices no-point w volume ≡ 0
 
--- the statement: sixteen of them, each by its rule
+-- the statement: there are sixteen house prices, each by its rule
 pub record HousePricesSay : Type 0 where
   pub sixteen : length housePrices ≡ 16
   pub rule : (s : ℕ) → s < 16 → getD housePrices s 0 ≡ 20 + 5 * s
