@@ -1,4 +1,4 @@
--- What every call that is lent a work buffer begins with, and what it leaves of lent bytes (document 01, "Turned back, by number").
+-- What every call on a job file begins with, and what it leaves of lent bytes (document 01, "Turned back, by number").
 -- Assumes nothing.
 use mathlib.Core.Path.{_≡_}
 use mathlib.Core.Bool.{Bool, cond}

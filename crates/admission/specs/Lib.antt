@@ -1,4 +1,4 @@
--- What every call that is lent a work buffer begins with.
+-- What every call on a job file begins with.
 -- Assumes nothing.
 pub mod Admission
 -- inner contracts

@@ -1,1 +1,1 @@
-// What every call that is lent a work buffer begins with: definitions and laws. The function is in the crate `door`.
+// What every call on a job file begins with: definitions and laws. The function is in the crate `door`.

@@ -8,7 +8,7 @@ use Prim.Native.Nat.{ℕ}
 use lib.Dec.{ltb}
 use lib.ListN.{length}
 use Rattle.job.specs.Job.{Job}
-use Rattle.jobfile.specs.File.{Answer, accepted, readJob}
+use Rattle.jobfile.specs.File.{Answer, accepted, turned, readJob}
 use Rattle.jobfile.proofs.AlikeLaws.{alike-says}
 use Rattle.buffer.specs.Buffer.{workSize}
 use Rattle.admission.specs.Admission.{admitted}
@@ -16,7 +16,8 @@ use Rattle.checking.specs.declared.check.Verdict.{Verdict}
 use Rattle.checking.specs.Checking.{answered, checked}
 use Rattle.pricing.specs.Numbered.{columnIn}
 use Rattle.pricing.specs.Pricing.{volumeLine, housePrices, pricedJob, answeredAt, pricedAt, priced}
-use Rattle.pricing.proofs.PricingLaws.{priced-job}
+use Rattle.pricing.specs.NumberedAlike.{AlikeColumn}
+use Rattle.pricing.proofs.PricingLaws.{priced-turned, priced-job}
 use Rattle.pricing.proofs.NumberedAlikeLaws.{numbered-say-alike}
 use Rattle.planoutcome.specs.PlanCall.{planSize, planAnswer}
 use Rattle.listoutcome.specs.ListCall.{listingSize, listAnswer}
@@ -70,16 +71,27 @@ one-price file f g j spells same plan =
     let one : pricedJob housePrices j plan f ≡ pricedJob housePrices j plan g = rw same in
     ap priceGives (priced-job housePrices file plan f j spells ∙ one ∙ sym (priced-job housePrices file plan g j spells))
 
+-- beside a job file that is turned back no volume file is read
+none-read : (file f g : List ℕ) (r : ℕ) → readJob file ≡ turned r → OnePrice file f g
+none-read file f g r refused plan = ap priceGives (priced-turned housePrices file plan f r refused ∙ sym (priced-turned housePrices file plan g r refused))
+
+-- volume files alike
+same-volumes
+    : (file f g : List ℕ) (j : Job) → readJob file ≡ accepted j → AlikeColumn volumeLine (length (j .nodes)) f g → OnePrice file f g
+same-volumes file f g j spells a = one-price file f g j spells (numbered-say-alike .read-alike volumeLine (length (j .nodes)) f g a)
+
 -- files alike, or alike as far as they are looked at
 pub same-answers : SameAnswers
 same-answers =
     record {
       alike = λ f g a. one-answer f g (a .long) (alike-says .read-alike f g a);
       no-further = λ f g due same d a. one-answer f g same (alike-says .no-further f g due same d a);
-      volumes = λ file f g j spells a.
-          one-price file f g j spells (numbered-say-alike .read-alike volumeLine (length (j .nodes)) f g a);
+      volumes = same-volumes;
+      job-and-volumes = λ file other f g plan j a spells v.
+          same-volumes file f g j spells v plan ∙ ap priceGives (same-price file other (a .long) (alike-says .read-alike file other a) plan g);
       volumes-turned-back = λ file f g j r spells b a.
           one-price file f g j spells (numbered-say-alike .turned-back volumeLine (length (j .nodes)) f g r b a);
       volumes-no-further = λ file f g due j spells long d a.
           one-price file f g j spells (numbered-say-alike .no-further volumeLine (length (j .nodes)) f g due long d a);
+      volumes-not-read = none-read;
     }

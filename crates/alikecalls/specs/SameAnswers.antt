@@ -11,7 +11,7 @@ use lib.ListN.{length, replicate}
 use Rattle.job.specs.Job.{Job}
 use Rattle.lines.specs.Written.{FirstBad}
 use Rattle.lines.specs.Alike.{AlikeUpTo}
-use Rattle.jobfile.specs.File.{Answer, accepted, readJob}
+use Rattle.jobfile.specs.File.{Answer, accepted, turned, readJob}
 use Rattle.jobfile.specs.ListingLines.{printedFor}
 use Rattle.jobfile.specs.Alike.{TurnedDue, Alike}
 use Rattle.admission.specs.Admission.{admitted, workAfter}
@@ -101,16 +101,21 @@ abbrev pub OnePrice : List ℕ → List ℕ → List ℕ → Type 0
 OnePrice file f g = (plan : List ℕ) → priceGives (priced file plan f) ≡ priceGives (priced file plan g)
 
 -- the statement: files alike, cut, damaged or sound, get the same of every call; so do files of one length that are too long, or alike in the
--- lines up to one that is turned back, whatever follows it. So do volume files, by a V line for each node of the job: alike ones; those alike
--- in the lines up to one that is turned back; those of one length that are alike in the lines due, whatever follows these
+-- lines up to one that is turned back, whatever follows it. So do volume files, by a V line for each node of the job: alike ones, beside job
+-- files alike too; those alike in the lines up to one that is turned back; those of one length that are alike in the lines due, whatever
+-- follows these; and any beside a job file that is turned back
 pub record SameAnswers : Type 0 where
   pub alike : (f g : List ℕ) → Alike f g → OneAnswer f g
   pub no-further : (f g due : List ℕ) → length f ≡ length g → TurnedDue f due → AlikeUpTo due f g → OneAnswer f g
   pub volumes
       : (file f g : List ℕ) (j : Job) → readJob file ≡ accepted j → AlikeColumn volumeLine (length (j .nodes)) f g → OnePrice file f g
+  pub job-and-volumes
+      : (file other f g plan : List ℕ) (j : Job) → Alike file other → readJob file ≡ accepted j → AlikeColumn volumeLine (length (j .nodes)) f g
+      → priceGives (priced file plan f) ≡ priceGives (priced other plan g)
   pub volumes-turned-back
       : (file f g : List ℕ) (j : Job) (r : ℕ) → readJob file ≡ accepted j → (b : FirstBad volumeLine (length (j .nodes)) 0 [] f r)
       → AlikeUpTo (replicate (length (b .passed)) 2 ++ (2 ∷ [])) f g → OnePrice file f g
   pub volumes-no-further
       : (file f g due : List ℕ) (j : Job) → readJob file ≡ accepted j → length f ≡ length g
       → ColumnDue volumeLine (length (j .nodes)) f due → AlikeUpTo due f g → OnePrice file f g
+  pub volumes-not-read : (file f g : List ℕ) (r : ℕ) → readJob file ≡ turned r → OnePrice file f g

@@ -3,7 +3,7 @@
 use mathlib.Core.Path.{_≡_, refl, sym, ap, _∙_, subst}
 use mathlib.Core.Bool.{Bool, true, false, true≢false}
 use mathlib.Core.List.{List, []}
-use Prim.Native.Nat.{ℕ, _+_, _*_, _%_, _^_, _≤_, _<_}
+use Prim.Native.Nat.{ℕ, _+_, _*_, _%_, _≤_, _<_}
 use native.Mathlib.Omega.{arith}
 use lib.Dec.{lit<}
 use lib.ListN.{length, drop, getD, drop-of-length-le, List·getD-map}
@@ -26,7 +26,7 @@ use Rattle.pricing.specs.Numbered.{Column, column, not-these-lines, numbersIn, 
 use Rattle.pricing.specs.Pricing.{volumeLine, cost}
 use Rattle.pricing.proofs.NumberedLaws.{column-says, column-refused, due-number, due-none}
 use Rattle.pricing.proofs.PricingLaws.{cost-most}
-use Rattle.pricing.specs.Inner.{numberDue, NodeFit, PricesFit, costIn, sumIn}
+use Rattle.pricing.specs.Inner.{numberDue, NodeFit, PricesFit, Summed, costIn, sumIn}
 
 -- ---- what a node's events cost
 
@@ -57,10 +57,6 @@ module _ (prices work plan : List ℕ) (n volume : ℕ) where
           rw same refl
 
 -- ---- the sum
-
--- beside a refusal stands 0
-pub refused-small : {r : Collected} {x : Collected} → r ≡ collected 16 0 → collected 16 0 ≡ x → (r ≡ x) × (r .number < 2 ^ 48)
-refused-small e f = (e ∙ f, rw e (lit< tt))
 
 -- the volume in the V line of node n
 abbrev volumeAt : List ℕ → ℕ → ℕ
@@ -109,13 +105,13 @@ module _ (file prices work plan : List ℕ) where
 
   -- ---- the file as a whole
 
-  -- a file that is not these lines
-  none-summed : (nodes : ℕ) → columnIn volumeLine nodes file ≡ not-these-lines → collected 16 0 ≡ sumIn prices work plan nodes (columnIn volumeLine nodes file)
-  none-summed nodes e = sym (ap (sumIn prices work plan nodes) e)
+  -- a file that is not these lines: 16 beside 0
+  none-summed : (nodes : ℕ) (r : Collected) → r ≡ collected 16 0 → columnIn volumeLine nodes file ≡ not-these-lines → Summed prices work plan file nodes r
+  none-summed nodes r e none = record { is = e ∙ sym (ap (sumIn prices work plan nodes) none); small = rw e (lit< tt) }
 
   -- another length
-  pub sum-length : (nodes : ℕ) → (length file ≡ nodes * 14 → ⊥) → collected 16 0 ≡ sumIn prices work plan nodes (columnIn volumeLine nodes file)
-  sum-length nodes h = none-summed nodes (other-length (columnIn volumeLine nodes file) refl)
+  pub sum-length : (nodes : ℕ) (r : Collected) → r ≡ collected 16 0 → (length file ≡ nodes * 14 → ⊥) → Summed prices work plan file nodes r
+  sum-length nodes r refusal h = none-summed nodes r refusal (other-length (columnIn volumeLine nodes file) refl)
     where
       other-length : (x : Column) → columnIn volumeLine nodes file ≡ x → columnIn volumeLine nodes file ≡ not-these-lines
       other-length (column vs) e =
@@ -125,12 +121,12 @@ module _ (file prices work plan : List ℕ) where
 
   -- a line that does not pass
   pub sum-stop
-      : (sum nodes n : ℕ) (f : Field) → n < nodes → SumSoFar sum n → f ≡ numberDue 999999 n (lineOf 86 2 (drop (n * 14) file)) → f ≡ Malformed
-      → collected 16 0 ≡ sumIn prices work plan nodes (columnIn volumeLine nodes file)
+      : (sum nodes n : ℕ) (f : Field) (r : Collected) → r ≡ collected 16 0 → n < nodes → SumSoFar sum n
+      → f ≡ numberDue 999999 n (lineOf 86 2 (drop (n * 14) file)) → f ≡ Malformed → Summed prices work plan file nodes r
   unfolding statusAt dueAt
-  sum-stop sum nodes n f l s due none =
+  sum-stop sum nodes n f r refusal l s due none =
       let bad = due-none 86 999999 16 n (beforeAt volumeLine file n) (lineOf 86 2 (drop (n * 14) file)) (lit< tt) (sym due ∙ none) in
-      none-summed nodes (column-refused volumeLine nodes file _ (lines-stop volumeLine file nodes n (lit< tt) l (s .passed) bad))
+      none-summed nodes r refusal (column-refused volumeLine nodes file _ (lines-stop volumeLine file nodes n (lit< tt) l (s .passed) bad))
 
   -- all lines
   sum-all
@@ -154,6 +150,7 @@ module _ (file prices work plan : List ℕ) where
 
   -- a loop left at its bound
   pub sum-end
-      : (sum nodes n : ℕ) → n ≡ nodes → length file ≡ nodes * 14 → SumSoFar sum n
-      → collected 0 sum ≡ sumIn prices work plan nodes (columnIn volumeLine nodes file)
-  sum-end sum nodes n e long s = sum-all sum nodes long (subst (SumSoFar sum) e s)
+      : (sum nodes n : ℕ) → n ≡ nodes → nodes ≤ 512 → length file ≡ nodes * 14 → SumSoFar sum n
+      → Summed prices work plan file nodes (collected 0 sum)
+  sum-end sum nodes n e few long s =
+      record { is = sum-all sum nodes long (subst (SumSoFar sum) e s); small = omega (arith, s .small) }

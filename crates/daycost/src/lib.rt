@@ -1,9 +1,6 @@
 // What a day's events cost: the volume file read, and the sum over the watched points.
 ghost use mathlib.Core.Path.{_≡_};
-ghost use Prim.Native.Nat.{_^_, _<_};
-ghost use Rattle.pricing.specs.Numbered.{columnIn};
-ghost use Rattle.pricing.specs.Pricing.{volumeLine};
-ghost use Rattle.pricing.specs.Inner.{CostFit, Fit, costIn, sumIn};
+ghost use Rattle.pricing.specs.Inner.{CostFit, Fit, Summed, costIn};
 use framing::refused;
 use lines::field::Field;
 use lines::line::Collected;
@@ -32,8 +29,7 @@ pub fn day_cost(
     prices: &[u64; 16],
 ) -> Collected
     requires { ⌜ Fit (now work) (now plan) (now prices) nodes ⌝ }
-    ensures { λ r. ⌜ (r ≡ sumIn (now (prices .entry)) (now (work .entry)) (now (plan .entry)) nodes (columnIn volumeLine nodes (now (volumes .entry))))
-        × (r .number < 2 ^ 48) ⌝ }
+    ensures { λ r. ⌜ Summed (now (prices .entry)) (now (work .entry)) (now (plan .entry)) (now (volumes .entry)) nodes r ⌝ }
 {
     if volumes.len() != nodes * 14 {
         return refused(16);

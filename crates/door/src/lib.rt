@@ -1,4 +1,4 @@
-// The door of every call that is lent a work buffer: the tests 1, 2 and 3 to 10.
+// The door of every call on a job file: the tests 1, 2 and 3 to 10.
 ghost use mathlib.Core.Bool.{_||_};
 ghost use lib.Dec.{ltb};
 ghost use lib.ListN.{length};

@@ -1,4 +1,4 @@
-// A plan to be checked: refusal 12, and its place in the work buffer.
+// A plan to be checked or priced: refusal 12; and its place in the work buffer, for the check.
 ghost use mathlib.Core.Path.{_≡_};
 ghost use Prim.Native.Nat.{_<_, _≤_};
 ghost use lib.ListN.{length, getD};

@@ -20,7 +20,7 @@ use Rattle.admission.proofs.CallLaws.{answer-refused}
 use Rattle.pricing.specs.declared.price.Price.{Price}
 use Rattle.pricing.specs.declared.price.Price.the-variants.{Refused}
 use Rattle.pricing.specs.Pricing.{housePrices, priced}
-use Rattle.pricing.specs.Inner.{PricesFit, NodesFit, Billed}
+use Rattle.pricing.specs.Inner.{PricesFit, BillFit, Billed}
 use Rattle.pricing.proofs.PricingLaws.{priced-turned, priced-job}
 use Rattle.pricing.proofs.LargestPrice.{house-price-most}
 
@@ -29,7 +29,7 @@ pub enough : workSize ≤ length {A = ℕ} (replicate workSize 0)
 enough = let e = length-replicate {A = ℕ} workSize 0 in omega arith
 
 -- the house prices are within their limit
-pub house-fit : (prices : List ℕ) → prices ≡ housePrices → PricesFit prices
+house-fit : (prices : List ℕ) → prices ≡ housePrices → PricesFit prices
 house-fit prices e s = rw e (omega (arith, house-price-most s))
 
 -- with a buffer that is long enough, what is admitted is what the file spells
@@ -39,12 +39,12 @@ spelt file l h = admitted-read file (ltb (length l) workSize || false) (or-fails
 module _ (file plan volumes l m : List ℕ) (r : Head) (enough : workSize ≤ length l)
     (a : Admitted (admitted file (ltb (length l) workSize || false)) l m r) where
   -- a refusal of the job file
-  pub price-refused : (r .refusal ≡ 0 → ⊥) → Refused (r .refusal) ≡ priced file plan volumes
-  price-refused h = sym (priced-turned housePrices file plan volumes (r .refusal) (sym (spelt file l enough) ∙ answer-refused a h))
+  pub price-turned : (r .refusal ≡ 0 → ⊥) → Refused (r .refusal) ≡ priced file plan volumes
+  price-turned h = sym (priced-turned housePrices file plan volumes (r .refusal) (sym (spelt file l enough) ∙ answer-refused a h))
 
-  -- what is asked of the buffer
-  pub price-fit : r .refusal ≡ 0 → NodesFit m (r .nodes)
-  price-fit h =
+  -- what is asked of buffer and prices
+  pub price-fit : (prices : List ℕ) → r .refusal ≡ 0 → prices ≡ housePrices → BillFit m prices (r .nodes)
+  price-fit prices h house =
       let j = a .job h in
       let held = j .held in
       record {
@@ -53,6 +53,7 @@ module _ (file plan volumes l m : List ℕ) (r : Head) (enough : workSize ≤ le
         symbol = λ n s l e.
             let below = held .formed .kinds n .point-below s (ap (λ (x : Node). pointOf (x .kind)) (sym (held .node n l)) ∙ e) in
             omega (arith, below, held .formed .rule .few-symbols);
+        prices-fit = house-fit prices house;
       }
 
   -- the price of the job that was admitted

@@ -22,7 +22,7 @@ use Rattle.pricing.specs.declared.price.Price.the-variants.{Cents, Refused}
 use Rattle.pricing.specs.Numbered.{Column, column, not-these-lines, columnIn}
 use Rattle.pricing.specs.Pricing.{volumeLine, cost, dayCost, centsOf, billed, pricedJob}
 use Rattle.pricing.proofs.PricingLaws.{priced-11, priced-12, priced-billed}
-use Rattle.pricing.specs.Inner.{PricesFit, Fit, costIn, sumIn, NodesFit, NodesHeld, Billed}
+use Rattle.pricing.specs.Inner.{Fit, costIn, sumIn, BillFit, NodesHeld, Billed}
 
 -- a watched node that passes its test is a point
 watched-point : (k : Kind) (b : ℕ) → goodMark k b ≡ true → eqb b 1 ≡ true → isEvent k ≡ true
@@ -48,13 +48,13 @@ module _ (prices work plan volumes : List ℕ) (nodes : ℕ) where
 
     module _ (good : allBelow nodes (marks plan (nodeIn work)) ≡ true) where
       -- what the sum needs
-      pub bill-fit : NodesFit work nodes → PricesFit prices → Fit work plan prices nodes
-      bill-fit fit cheap =
+      pub bill-fit : BillFit work prices nodes → Fit work plan prices nodes
+      bill-fit fit =
           record {
             long = fit .long;
             few = fit .few;
             bytes = omega arith;
-            prices-fit = cheap;
+            prices-fit = fit .prices-fit;
             node = λ n l. record {
               symbol = λ s e. fit .symbol n s l e;
               mark = watched-point (nodeIn work n .kind) (getD plan n 0) (all-at nodes (marks plan (nodeIn work)) good n l);

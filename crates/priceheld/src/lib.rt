@@ -1,5 +1,5 @@
 // The price of a plan, for the job that the work buffer holds.
-ghost use Rattle.pricing.specs.Inner.{PricesFit, NodesFit, Billed};
+ghost use Rattle.pricing.specs.Inner.{BillFit, Billed};
 use daycost::day_cost;
 use planmarks::is_plan;
 use pricing::price::Price;
@@ -7,7 +7,7 @@ use tariff::cents;
 
 // The answer for the job that the work buffer holds: 11, 12, 16, or the price in cents.
 pub fn bill(plan: &[u8], volumes: &[u8], work: &[u8], nodes: usize, prices: &[u64; 16]) -> Price
-    requires { ⌜ (NodesFit (now work) nodes) × (PricesFit (now prices)) ⌝ }
+    requires { ⌜ BillFit (now work) (now prices) nodes ⌝ }
     ensures { λ r. ⌜ Billed (now (prices .entry)) (now (work .entry)) nodes (now (plan .entry)) (now (volumes .entry)) r ⌝ }
 {
     if plan.len() != nodes {

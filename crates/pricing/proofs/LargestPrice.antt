@@ -33,7 +33,7 @@ use Rattle.pricing.proofs.PricingSays.{price-of, price-sum, house-price
 
 -- ---- a job with it
 
--- a watched point of symbol 15
+-- a point of symbol 15
 abbrev dearNode : Node
 dearNode = record { kind = event 15; entry = 1; exit = false; after = 0 }
 

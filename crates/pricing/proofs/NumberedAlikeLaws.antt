@@ -16,7 +16,7 @@ use Rattle.lines.proofs.SpelledLines.{written-stand, lines-says, refused-says}
 use Rattle.lines.proofs.AlikeLaws.{over-same, over-turned, over-up-to, lines-alike, alike-stand, first-bad-alike, stand-length, stand-only, written-only, lines-say-alike}
 use Rattle.pricing.specs.Numbered.{goodNumbered, numberedLine, numbersIn, columnRead, columnIn, writeColumn, ColumnFile}
 use Rattle.pricing.specs.NumberedAlike.{ColumnDue, some-due, all-due, AlikeColumn, NumberedSayAlike}
-use Rattle.pricing.proofs.NumberedLaws.{numbered-says}
+use Rattle.pricing.proofs.NumberedLaws.{placed, column-written, numbered-says}
 
 -- bytes follow the lines in both or in neither
 past-alike
@@ -80,30 +80,25 @@ module _ (letter limit refusal : ℕ) where
       ap {B = List ℕ} (λ x. x ∷ b ∷ []) (numbered-says .test limit i before (a ∷ b ∷ []) .0 good .0)
   line-is i before (a ∷ b ∷ d ∷ ns) two good = absurd (omega arith)
 
-  -- good lines of the same numbers are the same
+  -- good lines are their numbers, each beside its place
+  lines-placed : {i : ℕ} {before : List ℕ} {ls : List (List ℕ)} → GoodLines kind i before ls → ls ≡ placed i (numbersIn ls)
+  unfolding placed
+  lines-placed good-none = refl
+  lines-placed (good-more {i} {before} {ns} {ls} count fit good more) =
+      ap (λ (l : List ℕ). l ∷ ls) (line-is i before ns count good)
+      ∙ ap {B = List (List ℕ)} (λ l. (i ∷ at ns 1 ∷ []) ∷ l) (lines-placed more)
+
+  -- so those of the same numbers are the same
   same-lines
       : {i : ℕ} {before after : List ℕ} {ls ms : List (List ℕ)} → GoodLines kind i before ls → GoodLines kind i after ms
       → numbersIn ls ≡ numbersIn ms → ls ≡ ms
-  same-lines good-none good-none e = refl
-  same-lines good-none (good-more count fit good more) e = let z : _≡_ {A = ℕ} 0 1 = cc in absurd (omega arith)
-  same-lines (good-more count fit good more) good-none e = let z : _≡_ {A = ℕ} 0 1 = cc in absurd (omega arith)
-  same-lines (good-more {i} {before} {ns} {ls} count fit good more) (good-more {before = after} {ns = ms} {ls = rest} n f g others) e =
-      let first : at ns 1 ≡ at ms 1 = cc in
-      let next : numbersIn ls ≡ numbersIn rest = cc in
-      let one : ns ≡ ms =
-      line-is i before ns count good ∙ ap {B = List ℕ} (λ x. i ∷ x ∷ []) first ∙ sym (line-is i after ms n g) in
-      let same = same-lines more others next in
-      rw (one, same)
+  same-lines {i} g h e = lines-placed g ∙ ap (placed i) e ∙ sym (lines-placed h)
 
-  -- good lines are written as their numbers are
+  -- and they are written as their numbers are
   lines-written
       : {i : ℕ} {before : List ℕ} {ls : List (List ℕ)} → GoodLines kind i before ls
       → writeLines letter ls ≡ writeColumn letter i (numbersIn ls)
-  unfolding writeLines writeColumn
-  lines-written good-none = refl
-  lines-written (good-more {i} {before} {ns} {ls} count fit good more) =
-      ap (λ (l : List ℕ). line letter ns ++ l) (lines-written more)
-      ∙ ap (λ (l : List ℕ). line letter l ++ writeColumn letter (suc i) (numbersIn ls)) (line-is i before ns count good)
+  lines-written {i} {ls = ls} g = ap (writeLines letter) (lines-placed g) ∙ sym (column-written letter i (numbersIn ls))
 
   module _ (c : ℕ) (numbers : List ℕ) where
     -- files of the same numbers are alike

@@ -82,12 +82,12 @@ column-says k c file numbers = (
 -- ---- writing
 
 -- the numbers of the lines, from place i on
-unfoldable placed : ℕ → List ℕ → List (List ℕ)
+unfoldable pub placed : ℕ → List ℕ → List (List ℕ)
 placed i [] = []
 placed i (n ∷ ns) = (i ∷ n ∷ []) ∷ placed (suc i) ns
 
 -- they are what is written
-column-written : (letter i : ℕ) (ns : List ℕ) → writeColumn letter i ns ≡ writeLines letter (placed i ns)
+pub column-written : (letter i : ℕ) (ns : List ℕ) → writeColumn letter i ns ≡ writeLines letter (placed i ns)
 unfolding writeColumn writeLines placed
 column-written letter i [] = refl
 column-written letter i (n ∷ ns) = ap (λ (l : List ℕ). line letter (i ∷ n ∷ []) ++ l) (column-written letter (suc i) ns)

@@ -12,12 +12,12 @@ use lib.ListN.{length, getD}
 use borrow.Author.Tests.{eqb-false}
 use Rattle.laws.proofs.Bounded.{sum-le}
 use Rattle.laws.proofs.Tests.{passes-or-fails}
-use Rattle.job.specs.Job.{Point, no-point, point, pointOf, Job, nodeAt}
+use Rattle.job.specs.Job.{Kind, isEvent, Point, no-point, point, pointOf, Job, nodeAt}
 use Rattle.job.specs.Plan.{enables}
 use Rattle.job.specs.Search.{faithful}
 use Rattle.planning.specs.Planning.{IsPlan, allEnabled}
 use Rattle.planning.specs.Listing.{planOf}
-use Rattle.planning.proofs.PlanBytes.{enabled-byte, lowered-watches, all-enabled-plan}
+use Rattle.planning.proofs.PlanBytes.{enabled-byte, enabled-within, lowered-watches, all-enabled-event, all-enabled-plan}
 use Rattle.planning.proofs.PlanningResult.{planned-lowered, planned-plan}
 use Rattle.jobfile.specs.File.{accepted, readJob}
 use Rattle.checking.specs.CheckingSays.{MarkFor, unwatched, watched}
@@ -119,6 +119,26 @@ planned prices file volumes counts j spells lines =
       cents-le (day-cost-le prices j (planOf j .plan) (allEnabled j) counts (planned-watched j)),
     )
 
+-- the points that a plan with a price watches are points
+marked-event : {k : Kind} {b : ℕ} → MarkFor k b → b ≡ 1 → isEvent k ≡ true
+marked-event unwatched e = absurd (omega arith)
+marked-event (watched is) e = is
+
+at-most-all
+    : (prices file plan volumes : List ℕ) (c : ℕ) → pricedAt prices file plan volumes ≡ Cents c
+    → (j : Job) × (d : ℕ) × (readJob file ≡ accepted j) × (pricedAt prices file (allEnabled j) volumes ≡ Cents d) × (c ≤ d)
+at-most-all prices file plan volumes c e =
+    let (j, counts, b, is) = price-sum prices file plan volumes e in
+    let all = plan-billable (allEnabled j) (b .spells) (b .lines) (all-enabled-plan j) in
+    let inside : WatchedIn plan (allEnabled j) = λ n w.
+    all-enabled-event j n (marked-event (b .marks n (omega (arith, enabled-within plan n w, b .bytes))) (enabled-byte plan n w)) in (
+      j,
+      centsOf (dayCost prices j (allEnabled j) counts),
+      b .spells,
+      price-of prices file (allEnabled j) volumes all,
+      omega (arith, is, cents-le (day-cost-le prices j plan (allEnabled j) counts inside)),
+    )
+
 -- what a plan saves
 pub saves : Saves
-saves = record { no-dearer = no-dearer; planned = planned }
+saves = record { no-dearer = no-dearer; at-most-all = at-most-all; planned = planned }

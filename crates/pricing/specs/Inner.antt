@@ -18,8 +18,8 @@ use Rattle.buffer.specs.Layout.{Lent}
 use Rattle.buffer.specs.Views.{nodeIn}
 use Rattle.pricing.specs.declared.price.Price.{Price}
 use Rattle.pricing.specs.declared.price.Price.the-variants.{Cents, Refused}
-use Rattle.pricing.specs.Numbered.{goodNumbered, Column, column, not-these-lines}
-use Rattle.pricing.specs.Pricing.{cost, pricedJob}
+use Rattle.pricing.specs.Numbered.{goodNumbered, Column, column, not-these-lines, columnIn}
+use Rattle.pricing.specs.Pricing.{volumeLine, cost, pricedJob}
 
 -- the number of the numbered line that is due, if it is there and passes
 abbrev pub numberDue : ℕ → ℕ → Due → Field
@@ -62,11 +62,17 @@ abbrev pub sumIn : List ℕ → List ℕ → List ℕ → ℕ → Column → Col
 sumIn prices work plan nodes (column volumes) = collected 0 (sumBelow nodes (λ n. costIn prices work plan n (getD volumes n 0)))
 sumIn prices work plan nodes not-these-lines = collected 16 0
 
--- what pricing needs of the buffer
-pub record NodesFit (work : List ℕ) (nodes : ℕ) : Type 0 where
+-- what is found of a volume file: the sum or 16, and that there is room for it
+pub record Summed (prices work plan volumes : List ℕ) (nodes : ℕ) (r : Collected) : Type 0 where
+  pub is : r ≡ sumIn prices work plan nodes (columnIn volumeLine nodes volumes)
+  pub small : r .number < 2 ^ 48
+
+-- what pricing needs of buffer and prices
+pub record BillFit (work prices : List ℕ) (nodes : ℕ) : Type 0 where
   pub long : Lent work
   pub few : nodes ≤ 512
   pub symbol : (n s : ℕ) → n < nodes → pointOf (nodeIn work n .kind) ≡ point s → s < 16
+  pub prices-fit : PricesFit prices
 
 -- the buffer holds the nodes of the job
 pub record NodesHeld (j : Job) (work : List ℕ) (nodes : ℕ) : Type 0 where

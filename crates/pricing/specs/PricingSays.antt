@@ -83,12 +83,15 @@ pub record HousePricesSay : Type 0 where
 abbrev pub WatchedIn : List ℕ → List ℕ → Type 0
 WatchedIn plan other = (n : ℕ) → enables plan n ≡ true → enables other n ≡ true
 
--- the statement, at any prices: a plan costs no more than one in which its watched points are watched; so planning's own plan has a price
--- that is no more than that of all points watched
+-- the statement, at any prices: a plan costs no more than one in which its watched points are watched; so no plan that has a price costs more
+-- than all points watched, and planning's own plan has a price
 pub record Saves : Type 0 where
   pub no-dearer
       : (prices file plan other volumes : List ℕ) (c d : ℕ) → WatchedIn plan other → pricedAt prices file plan volumes ≡ Cents c
       → pricedAt prices file other volumes ≡ Cents d → c ≤ d
+  pub at-most-all
+      : (prices file plan volumes : List ℕ) (c : ℕ) → pricedAt prices file plan volumes ≡ Cents c
+      → (j : Job) × (d : ℕ) × (readJob file ≡ accepted j) × (pricedAt prices file (allEnabled j) volumes ≡ Cents d) × (c ≤ d)
   pub planned
       : (prices file volumes counts : List ℕ) (j : Job) → readJob file ≡ accepted j → ColumnFile volumeLine (length (j .nodes)) volumes counts
       → (c : ℕ) × (d : ℕ) × (pricedAt prices file (planOf j .plan) volumes ≡ Cents c) × (pricedAt prices file (allEnabled j) volumes ≡ Cents d)

@@ -19,8 +19,8 @@ pub record PriceTrial : Type 0 where
   pub answer : Price
 
 -- a row of the table
-abbrev pub prices : List ℕ → List ℕ → List ℕ → Price → PriceTrial
-prices file plan volumes answer = record { file = file; plan = plan; volumes = volumes; answer = answer }
+abbrev pub costs : List ℕ → List ℕ → List ℕ → Price → PriceTrial
+costs file plan volumes answer = record { file = file; plan = plan; volumes = volumes; answer = answer }
 
 infixr 5 _and_
 -- every plan of a table is priced as it should be
@@ -124,44 +124,44 @@ unfoldable pub priceTrials : List PriceTrial
 unfolding thousands cut mixed fourThousands sixteen manyThousands linesIn bytesIn pairFile pairWithZeros
 priceTrials =
     -- whole cents: 20 + 20 + 30, 20 + 30, nothing; 50 events of symbol 0 are one cent
-    prices pairFile all thousands (Cents 70)
-    ∷ prices pairFile own thousands (Cents 50)
-    ∷ prices pairFile none thousands (Cents 0)
-    ∷ prices pairFile all (linesIn ("V     0    50" ∷ "V     1     0" ∷ "V     2     0" ∷ [])) (Cents 1)
+    costs pairFile all thousands (Cents 70)
+    ∷ costs pairFile own thousands (Cents 50)
+    ∷ costs pairFile none thousands (Cents 0)
+    ∷ costs pairFile all (linesIn ("V     0    50" ∷ "V     1     0" ∷ "V     2     0" ∷ [])) (Cents 1)
     -- 49 * 20 + 1 * 30 is 1,010 thousandths of a cent; 33 * 30 is 990
-    ∷ prices pairFile all (linesIn ("V     0    49" ∷ "V     1     0" ∷ "V     2     1" ∷ [])) (Cents 2)
-    ∷ prices pairFile all (linesIn ("V     0     0" ∷ "V     1     0" ∷ "V     2    33" ∷ [])) (Cents 1)
+    ∷ costs pairFile all (linesIn ("V     0    49" ∷ "V     1     0" ∷ "V     2     1" ∷ [])) (Cents 2)
+    ∷ costs pairFile all (linesIn ("V     0     0" ∷ "V     1     0" ∷ "V     2    33" ∷ [])) (Cents 1)
     -- one event at each point: 70 thousandths, rounded once
-    ∷ prices pairFile all (linesIn ("V     0     1" ∷ "V     1     1" ∷ "V     2     1" ∷ [])) (Cents 1)
+    ∷ costs pairFile all (linesIn ("V     0     1" ∷ "V     1     1" ∷ "V     2     1" ∷ [])) (Cents 1)
     -- no events; as many as can be, 69,999,930 thousandths
-    ∷ prices pairFile all (linesIn ("V     0     0" ∷ "V     1     0" ∷ "V     2     0" ∷ [])) (Cents 0)
-    ∷ prices pairFile all (linesIn ("V     0999999" ∷ "V     1999999" ∷ "V     2999999" ∷ [])) (Cents 70000)
+    ∷ costs pairFile all (linesIn ("V     0     0" ∷ "V     1     0" ∷ "V     2     0" ∷ [])) (Cents 0)
+    ∷ costs pairFile all (linesIn ("V     0999999" ∷ "V     1999999" ∷ "V     2999999" ∷ [])) (Cents 70000)
     -- an unwatched point is not counted
-    ∷ prices pairFile own (linesIn ("V     0999999" ∷ "V     1  1000" ∷ "V     2  1000" ∷ [])) (Cents 50)
+    ∷ costs pairFile own (linesIn ("V     0999999" ∷ "V     1  1000" ∷ "V     2  1000" ∷ [])) (Cents 50)
     -- neither are a plain node and a call: 20 + 25
-    ∷ prices mixed (1 ∷ 0 ∷ 0 ∷ 1 ∷ []) fourThousands (Cents 45)
+    ∷ costs mixed (1 ∷ 0 ∷ 0 ∷ 1 ∷ []) fourThousands (Cents 45)
     -- every symbol: 1 * 20 + 2 * 25 + .. + 16 * 95
-    ∷ prices sixteen (replicate 16 1) manyThousands (Cents 9520)
+    ∷ costs sixteen (replicate 16 1) manyThousands (Cents 9520)
     -- zeros before the digits, in the volume file and in the job file
-    ∷ prices pairFile all (linesIn ("V000000001000" ∷ "V  0001 01000" ∷ "V     2001000" ∷ [])) (Cents 70)
-    ∷ prices pairWithZeros all thousands (Cents 70)
+    ∷ costs pairFile all (linesIn ("V000000001000" ∷ "V  0001 01000" ∷ "V     2001000" ∷ [])) (Cents 70)
+    ∷ costs pairWithZeros all thousands (Cents 70)
     -- 16: a line missing; all missing; a line more; a byte more; the last byte missing
-    ∷ prices pairFile all cut (Refused 16)
-    ∷ prices pairFile all [] (Refused 16)
-    ∷ prices pairFile all (thousands ++ linesIn ("V     3  1000" ∷ [])) (Refused 16)
-    ∷ prices pairFile all (thousands ++ (10 ∷ [])) (Refused 16)
-    ∷ prices pairFile all (cut ++ bytesIn "V     2  1000") (Refused 16)
+    ∷ costs pairFile all cut (Refused 16)
+    ∷ costs pairFile all [] (Refused 16)
+    ∷ costs pairFile all (thousands ++ linesIn ("V     3  1000" ∷ [])) (Refused 16)
+    ∷ costs pairFile all (thousands ++ (10 ∷ [])) (Refused 16)
+    ∷ costs pairFile all (cut ++ bytesIn "V     2  1000") (Refused 16)
     -- 16: out of order; a place twice; another letter; a field that is none, a sign, a space after the digits
-    ∷ prices pairFile all (linesIn ("V     1  1000" ∷ "V     0  1000" ∷ "V     2  1000" ∷ [])) (Refused 16)
-    ∷ prices pairFile all (linesIn ("V     0  1000" ∷ "V     1  1000" ∷ "V     1  1000" ∷ [])) (Refused 16)
-    ∷ prices pairFile all (linesIn ("V     0  1000" ∷ "P     1  1000" ∷ "V     2  1000" ∷ [])) (Refused 16)
-    ∷ prices pairFile all (linesIn ("V     0  1000" ∷ "V     1      " ∷ "V     2  1000" ∷ [])) (Refused 16)
-    ∷ prices pairFile all (linesIn ("V     0  1000" ∷ "V     1  -100" ∷ "V     2  1000" ∷ [])) (Refused 16)
-    ∷ prices pairFile all (linesIn ("V     0  1000" ∷ "V     1 1000 " ∷ "V     2  1000" ∷ [])) (Refused 16)
+    ∷ costs pairFile all (linesIn ("V     1  1000" ∷ "V     0  1000" ∷ "V     2  1000" ∷ [])) (Refused 16)
+    ∷ costs pairFile all (linesIn ("V     0  1000" ∷ "V     1  1000" ∷ "V     1  1000" ∷ [])) (Refused 16)
+    ∷ costs pairFile all (linesIn ("V     0  1000" ∷ "P     1  1000" ∷ "V     2  1000" ∷ [])) (Refused 16)
+    ∷ costs pairFile all (linesIn ("V     0  1000" ∷ "V     1      " ∷ "V     2  1000" ∷ [])) (Refused 16)
+    ∷ costs pairFile all (linesIn ("V     0  1000" ∷ "V     1  -100" ∷ "V     2  1000" ∷ [])) (Refused 16)
+    ∷ costs pairFile all (linesIn ("V     0  1000" ∷ "V     1 1000 " ∷ "V     2  1000" ∷ [])) (Refused 16)
     -- the order: 12 before 16, 11 before 12, the job's before all
-    ∷ prices pairFile (1 ∷ 2 ∷ 1 ∷ []) cut (Refused 12)
-    ∷ prices mixed (1 ∷ 0 ∷ 1 ∷ 1 ∷ []) fourThousands (Refused 12)
-    ∷ prices pairFile (1 ∷ 2 ∷ []) cut (Refused 11)
-    ∷ prices pairFile (1 ∷ 1 ∷ 1 ∷ 0 ∷ []) thousands (Refused 11)
-    ∷ prices (linesIn pairLines) (1 ∷ 2 ∷ []) cut (Refused 3)
+    ∷ costs pairFile (1 ∷ 2 ∷ 1 ∷ []) cut (Refused 12)
+    ∷ costs mixed (1 ∷ 0 ∷ 1 ∷ 1 ∷ []) fourThousands (Refused 12)
+    ∷ costs pairFile (1 ∷ 2 ∷ []) cut (Refused 11)
+    ∷ costs pairFile (1 ∷ 1 ∷ 1 ∷ 0 ∷ []) thousands (Refused 11)
+    ∷ costs (linesIn pairLines) (1 ∷ 2 ∷ []) cut (Refused 3)
     ∷ []

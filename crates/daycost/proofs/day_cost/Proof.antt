@@ -4,7 +4,7 @@
 use Prim.Native.Nat.{_≤_, _-_}
 use native.Mathlib.Omega.{arith}
 use borrow.Author.Needs.{needs}
-use Rattle.daycost.proofs.DayCostLaws.{SumSoFar, refused-small, sum-start, sum-next, volume-few, sum-length, sum-stop, sum-end}
+use Rattle.daycost.proofs.DayCostLaws.{SumSoFar, sum-start, sum-next, volume-few, sum-length, sum-stop, sum-end}
 use Rattle.daycost.proofs.day_cost.Statement.{statement}
 use Rattle.daycost.proofs.day_cost.Tie as tie
 
@@ -23,8 +23,8 @@ refused-requires c κs = search needs
 returns : tie.Need-returns Inv-loop μ-loop
 returns c =
     let x = c .before .before .before .before .before .args in
-    refused-small (c .refused .ensures)
-    (sum-length (x .volumes .now) (x .prices .now) (x .work .now) (x .plan .now) (x .nodes) (c .before .if1 .taken))
+    sum-length (x .volumes .now) (x .prices .now) (x .work .now) (x .plan .now) (x .nodes) (c .refused .result) (c .refused .ensures)
+    (c .before .if1 .taken)
 
 loop-holds : tie.Need-loop-holds Inv-loop μ-loop
 loop-holds c =
@@ -51,9 +51,8 @@ returns-2 c =
     let x = c .before .before .before .before .before .before .before .before .before .before .args in
     let l = c .before .before .before .before .before .loop in
     let f = c .before .before .before .numbered-line in
-    refused-small (c .refused2 .ensures)
-    (sum-stop (x .volumes .now) (x .prices .now) (x .work .now) (x .plan .now) (l .sum) (x .nodes) (l .n) (f .result)
-    (c .before .before .before .before .loop-test .taken) (l .inv .1) (f .ensures) (c .before .enum-told .given .1))
+    sum-stop (x .volumes .now) (x .prices .now) (x .work .now) (x .plan .now) (l .sum) (x .nodes) (l .n) (f .result) (c .refused2 .result)
+    (c .refused2 .ensures) (c .before .before .before .before .loop-test .taken) (l .inv .1) (f .ensures) (c .before .enum-told .given .1)
 
 cost-at-requires : tie.Need-cost-at-requires Inv-loop μ-loop
 cost-at-requires c κs =
@@ -104,10 +103,8 @@ returns-3 : tie.Need-returns-3 Inv-loop μ-loop
 returns-3 c =
     let x = c .before .before .before .before .before .before .args in
     let l = c .before .loop in
-    let whole =
     sum-end (x .volumes .now) (x .prices .now) (x .work .now) (x .plan .now) (l .sum) (x .nodes) (l .n) (omega (arith, l .inv .0, c .loop-test .left))
-    (omega (arith, c .before .before .if1 .left)) (l .inv .1) in
-    (whole, omega (arith, l .inv .0, l .inv .1 .small, c .before .before .before .before .before .before .pre .few))
+    (c .before .before .before .before .before .before .pre .few) (omega (arith, c .before .before .if1 .left)) (l .inv .1)
 
 pub day-cost-spec : {M : Type 1} → statement M
 day-cost-spec =

@@ -3,7 +3,7 @@
 use borrow.Author.Needs.{needs}
 use lib.ListN.{replicate}
 use Rattle.buffer.specs.Buffer.{workSize}
-use Rattle.pricecall.proofs.PriceCallLaws.{enough, house-fit, price-refused, price-fit, price-billed}
+use Rattle.pricecall.proofs.PriceCallLaws.{enough, price-turned, price-fit, price-billed}
 use Rattle.pricecall.proofs.price_plan.Statement.{statement}
 use Rattle.pricecall.proofs.price_plan.Tie as tie
 
@@ -17,7 +17,7 @@ returns : tie.Need-returns
 returns c =
     let x = c .before .before .before .before .before .before .before .args in
     let r = c .before .before .admit in
-    price-refused (x .file .now) (x .plan .now) (x .volumes .now) (replicate workSize 0) (r .last .1 .0) (r .result) enough (r .ensures) (c .if1 .taken)
+    price-turned (x .file .now) (x .plan .now) (x .volumes .now) (replicate workSize 0) (r .last .1 .0) (r .result) enough (r .ensures) (c .if1 .taken)
 
 house-prices-requires : tie.Need-house-prices-requires
 house-prices-requires c κs = search needs
@@ -28,11 +28,9 @@ slice-aggregate-bill c = search needs
 bill-requires : tie.Need-bill-requires
 bill-requires c κs =
     let x = c .before .before .before .before .before .before .before .before .before .before .args in
-    let r = c .before .before .before .before .before .admit in (
-      price-fit (x .file .now) (x .plan .now) (x .volumes .now) (replicate workSize 0) (r .last .1 .0) (r .result) enough (r .ensures)
-          (c .before .before .before .if1 .left),
-      house-fit (c .before .before .house-prices .result) (c .before .before .house-prices .ensures),
-    )
+    let r = c .before .before .before .before .before .admit in
+    price-fit (x .file .now) (x .plan .now) (x .volumes .now) (replicate workSize 0) (r .last .1 .0) (r .result) enough (r .ensures)
+    (c .before .before .house-prices .result) (c .before .before .before .if1 .left) (c .before .before .house-prices .ensures)
 
 returns-2 : tie.Need-returns-2
 returns-2 c =

@@ -26,24 +26,24 @@ day-cost-requires c κs =
     let start = c .before .before .before .before .before .before in
     let x = start .args in
     bill-fit (x .prices .now) (x .work .now) (x .plan .now) (x .volumes .now) (x .nodes) (c .before .before .if1 .left)
-    (sym (c .before .is-plan .ensures) ∙ not-false _ (c .if2 .left)) (start .pre .0) (start .pre .1)
+    (sym (c .before .is-plan .ensures) ∙ not-false _ (c .if2 .left)) (start .pre)
 
 returns-3 : tie.Need-returns-3
 returns-3 c =
     let x = c .before .before .before .before .before .before .before .before .args in
     let sum = c .before .day-cost in
     bill-lines (x .prices .now) (x .work .now) (x .plan .now) (x .volumes .now) (x .nodes) (c .before .before .before .before .if1 .left)
-    (sym (c .before .before .before .is-plan .ensures) ∙ not-false _ (c .before .before .if2 .left)) (sum .result) (sum .ensures .0) (c .if3 .taken)
+    (sym (c .before .before .before .is-plan .ensures) ∙ not-false _ (c .before .before .if2 .left)) (sum .result) (sum .ensures .is) (c .if3 .taken)
 
 cents-requires : tie.Need-cents-requires
-cents-requires c κs = c .before .day-cost .ensures .1
+cents-requires c κs = c .before .day-cost .ensures .small
 
 returns-4 : tie.Need-returns-4
 returns-4 c =
     let x = c .before .before .before .before .before .before .before .before .before .args in
     let sum = c .before .before .day-cost in
     bill-price (x .prices .now) (x .work .now) (x .plan .now) (x .volumes .now) (x .nodes) (c .before .before .before .before .before .if1 .left)
-    (sym (c .before .before .before .before .is-plan .ensures) ∙ not-false _ (c .before .before .before .if2 .left)) (sum .result) (sum .ensures .0)
+    (sym (c .before .before .before .before .is-plan .ensures) ∙ not-false _ (c .before .before .before .if2 .left)) (sum .result) (sum .ensures .is)
     (c .before .if3 .left) (c .cents .result) (c .cents .ensures)
 
 pub bill-spec : {M : Type 1} → statement M
