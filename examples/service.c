@@ -1,8 +1,9 @@
 /*
- * A service in C: plans a job, then takes the events of one walk on two records, one with all points watched and
- * one under the plan.
+ * A service in C: plans a job, prices the plan, then takes the events of one walk on two records, one with all
+ * points watched and one under the plan.
  *
- *     cc -std=c99 -Iinclude examples/service.c target/staticlib/libdapohiru.a -o service && ./service examples/pair.job
+ *     cc -std=c99 -Iinclude examples/service.c target/staticlib/libdapohiru.a -o service
+ *     ./service examples/pair.job examples/pair.volumes
  */
 #include "dapohiru.h"
 
@@ -31,25 +32,40 @@ static uint64_t alarms(const uint8_t *rec)
     return total;
 }
 
+/* Reads a file, up to so many bytes; returns how many, or 0 where it cannot be read. */
+static size_t read_file(const char *name, uint8_t *bytes, size_t most)
+{
+    size_t len = 0;
+    FILE *file = fopen(name, "rb");
+    if (file != NULL) {
+        len = fread(bytes, 1, most, file);
+        if (ferror(file))
+            len = 0;
+        fclose(file);
+    }
+    if (len == 0)
+        fprintf(stderr, "service: %s cannot be read, or is empty\n", name);
+    return len;
+}
+
 int main(int argc, char **argv)
 {
-    static uint8_t job[DAPOHIRU_JOB_LEN + 1], work[DAPOHIRU_WORK_LEN], plan[DAPOHIRU_PLAN_LEN];
+    /* one byte more than the longest file, so that a longer one is refused and not cut */
+    static uint8_t job[DAPOHIRU_JOB_LEN + 1], volumes[DAPOHIRU_VOLUMES_LEN + 1];
+    static uint8_t work[DAPOHIRU_WORK_LEN], plan[DAPOHIRU_PLAN_LEN];
     static const struct { size_t node; uint64_t symbol; } walk[] = {{0, 0}, {1, 0}, {2, 2}};
     uint8_t full[DAPOHIRU_RECORD_LEN] = {0}, planned[DAPOHIRU_RECORD_LEN] = {0};
     uint64_t answer;
-    size_t job_len, k;
-    FILE *file = argc == 2 ? fopen(argv[1], "rb") : NULL;
+    size_t job_len, volumes_len, k;
 
-    if (file == NULL) {
-        fprintf(stderr, "usage: service JOB\n");
+    if (argc != 3) {
+        fprintf(stderr, "usage: service JOB VOLUMES\n");
         return 2;
     }
-    /* one byte more than the longest file, so that a longer one is refused and not cut */
-    job_len = fread(job, 1, sizeof job, file);
-    if (ferror(file) || fclose(file) != 0) {
-        fprintf(stderr, "service: %s cannot be read\n", argv[1]);
+    job_len = read_file(argv[1], job, sizeof job);
+    volumes_len = read_file(argv[2], volumes, sizeof volumes);
+    if (job_len == 0 || volumes_len == 0)
         return 2;
-    }
     answer = dapohiru_plan(job, job_len, work, sizeof work, plan, sizeof plan);
     if (DAPOHIRU_IS_REFUSAL(answer)) {
         fprintf(stderr, "service: refused %" PRIu64 "\n", answer);
@@ -57,6 +73,13 @@ int main(int argc, char **argv)
     }
     printf("points %" PRIu64 ", watched %" PRIu64 ", passes %" PRIu64 "\n", DAPOHIRU_POINTS(answer),
            DAPOHIRU_WATCHED(answer), DAPOHIRU_PASSES(answer));
+    /* the plan has a byte for each node, and the volume file a line of 14 bytes */
+    answer = dapohiru_price(job, job_len, plan, volumes_len / 14, volumes, volumes_len);
+    if (DAPOHIRU_IS_REFUSAL(answer)) {
+        fprintf(stderr, "service: refused %" PRIu64 "\n", answer);
+        return 2;
+    }
+    printf("%" PRIu64 " cents a day\n", DAPOHIRU_CENTS(answer));
     for (k = 0; k < sizeof walk / sizeof *walk; k++) {
         uint64_t report = take(walk[k].symbol, full), under_plan = DAPOHIRU_QUIET;
         if (plan[walk[k].node] == 1)

@@ -32,16 +32,6 @@ extern "C" {
         plan_len: usize,
     ) -> u64;
 
-    /// `#[no_mangle] pub extern "C" fn dapohiru_price(job: &[u8], plan: &[u8], volumes: &[u8]) -> u64`
-    pub fn dapohiru_price(
-        job: *const u8,
-        job_len: usize,
-        plan: *const u8,
-        plan_len: usize,
-        volumes: *const u8,
-        volumes_len: usize,
-    ) -> u64;
-
     /// `#[no_mangle] pub extern "C" fn dapohiru_list(job: &[u8], work: &mut [u8], listing: &mut [u8]) -> u64`
     pub fn dapohiru_list(
         job: *const u8,
@@ -50,5 +40,15 @@ extern "C" {
         work_len: usize,
         listing: *mut u8,
         listing_len: usize,
+    ) -> u64;
+
+    /// `#[no_mangle] pub extern "C" fn dapohiru_price(job: &[u8], plan: &[u8], volumes: &[u8]) -> u64`
+    pub fn dapohiru_price(
+        job: *const u8,
+        job_len: usize,
+        plan: *const u8,
+        plan_len: usize,
+        volumes: *const u8,
+        volumes_len: usize,
     ) -> u64;
 }

@@ -71,8 +71,8 @@ fn header_is_c_plus_plus_too() {
 
 #[test]
 fn service_of_the_examples_prints_what_the_docs_show() {
-    let job = [top("examples/pair.job")];
-    let said = run("examples/service.c", "cc", C99, &job).expect("cc is installed");
+    let files = ["examples/pair.job", "examples/pair.volumes"].map(top);
+    let said = run("examples/service.c", "cc", C99, &files).expect("cc is installed");
     let wanted = fs::read_to_string(top("rust/tests/expected/service.txt"));
     assert_eq!(said, wanted.expect("the stored output is there"));
     let docs = fs::read_to_string(top("docs/SERVICE.md")).expect("the docs are there");

@@ -1,5 +1,5 @@
-//! A fault of a job file, a volume file or a plan, with its place; the first fault in the form of a line.
-use dapohiru_second::reading::{self, Stop};
+//! A fault of a job file, a volume file or a plan, with its place; the first fault of a line.
+use dapohiru_second::reading;
 
 /// A fault of a file, or of a plan.
 #[derive(Debug, PartialEq, Eq)]
@@ -13,15 +13,26 @@ pub struct Fault {
     pub expected: String,
 }
 
-impl Fault {
+/// Where a file is looked at for a fault: a line that is due, or its end.
+#[derive(Clone, Copy)]
+pub struct Due<'a> {
+    /// The refusal that a fault there deserves.
+    pub number: u64,
+    /// The line, counted from 1.
+    pub line: usize,
+    /// The file from there on.
+    pub bytes: &'a [u8],
+}
+
+impl Due<'_> {
     /// The fault of a line that is missing or has the wrong form, if it has one: the line due has this letter
     /// and a field for each name.
-    pub fn of_form(stop: &Stop, letter: char, names: &[String]) -> Option<Self> {
-        let line = stop.line;
+    pub fn form_fault(self, letter: char, names: &[String]) -> Option<Fault> {
+        let line = self.bytes;
         let wrong = |first: usize, last: usize, expected| {
             Some(Fault {
-                number: stop.number,
-                place: Some((stop.due, first, last)),
+                number: self.number,
+                place: Some((self.line, first, last)),
                 found: shown(line.get(first - 1..).unwrap_or_default(), last + 1 - first),
                 expected,
             })
@@ -66,33 +77,35 @@ impl Fault {
         )
     }
 
-    /// The fault of the number in one field of a line.
-    pub fn of_field(stop: &Stop, field: usize, expected: String) -> Self {
+    /// The fault of the number in one field of the line.
+    pub fn field_fault(self, field: usize, number: u64, expected: String) -> Fault {
         Fault {
-            number: stop.number,
-            place: Some((stop.due, 6 * field + 2, 6 * field + 7)),
-            found: stop.numbers[field].to_string(),
+            number: self.number,
+            place: Some((self.line, 6 * field + 2, 6 * field + 7)),
+            found: number.to_string(),
             expected,
         }
     }
 
-    /// The fault of the first field of a line of which something else is expected.
-    pub fn of_first_field(
-        stop: &Stop,
+    /// The fault of the first of the line's numbers in whose place something else is expected.
+    pub fn first_field_fault(
+        self,
+        numbers: &[u64],
         wrong: impl Fn(usize, u64) -> Option<String>,
-    ) -> Option<Self> {
-        let numbers = stop.numbers.iter().enumerate();
-        let mut wrong = numbers.filter_map(|(field, &number)| Some((field, wrong(field, number)?)));
-        let (field, expected) = wrong.next()?;
-        Some(Fault::of_field(stop, field, expected))
+    ) -> Option<Fault> {
+        let mut numbers = numbers.iter().enumerate();
+        numbers.find_map(|(field, &number)| {
+            let expected = wrong(field, number)?;
+            Some(self.field_fault(field, number, expected))
+        })
     }
 
-    /// The fault of bytes that follow the last line.
-    pub fn of_rest(stop: &Stop) -> Option<Self> {
+    /// The fault of bytes where the file must end.
+    pub fn end_fault(self) -> Option<Fault> {
         Some(Fault {
-            number: stop.number,
-            place: Some((stop.due + 1, 1, 1)),
-            found: format!("`{}`", stop.rest.first()?.escape_ascii()),
+            number: self.number,
+            place: Some((self.line, 1, 1)),
+            found: format!("`{}`", self.bytes.first()?.escape_ascii()),
             expected: "the end of the file".to_string(),
         })
     }

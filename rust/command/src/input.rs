@@ -5,8 +5,8 @@ use std::io::{self, Read};
 
 /// The bytes of a plan file that are read; no plan is as long.
 const PLAN_FILE: usize = 4_096;
-/// The bytes of a volume file that are looked at; the longest that is accepted has far fewer.
-pub const VOLUME_FILE: usize = 65_536;
+/// The bytes of a volume file that are read; the longest that is accepted has far fewer.
+const VOLUME_FILE: usize = 65_536;
 
 /// A file that was read.
 pub struct Input {
@@ -46,9 +46,9 @@ pub fn plan(name: &OsStr) -> Result<Plan, String> {
     })
 }
 
-/// Reads a volume file; of one that is far too long one byte more than is looked at.
+/// Reads a volume file; of one that is far too long more than is accepted, so that it is refused.
 pub fn volumes(name: &OsStr) -> Result<Input, String> {
-    read(name, VOLUME_FILE + 1)
+    read(name, VOLUME_FILE)
 }
 
 /// Reads a file, or standard input for `-`, up to so many bytes.

@@ -1,6 +1,6 @@
 //! The place of a job file's first fault, and what is expected there, in words: the second reader says
 //! where it stops.
-use crate::fault::Fault;
+use crate::fault::{Due, Fault};
 use dapohiru_second::reading::{self, Stop};
 
 /// The fields of a J line, with their limits.
@@ -40,9 +40,27 @@ pub fn first_fault(file: &[u8]) -> Option<Fault> {
         6 => rule(&stop),
         7 => node(&stop),
         8 => edge(&stop),
-        9 => Fault::of_rest(&stop),
+        9 => end(&stop).end_fault(),
         10 => Some(no_entry(&stop)),
         _ => form(&stop),
+    }
+}
+
+/// The line due last.
+fn line<'a>(stop: &Stop<'a>) -> Due<'a> {
+    Due {
+        number: stop.number,
+        line: stop.due,
+        bytes: stop.line,
+    }
+}
+
+/// The end of the file, after the lines due.
+fn end<'a>(stop: &Stop<'a>) -> Due<'a> {
+    Due {
+        number: stop.number,
+        line: stop.due + 1,
+        bytes: stop.rest,
     }
 }
 
@@ -63,12 +81,12 @@ fn form(stop: &Stop) -> Option<Fault> {
         _ if due <= states + nodes => ('P', NODE.map(str::to_string).to_vec()),
         _ => ('F', EDGE.map(str::to_string).to_vec()),
     };
-    Fault::of_form(stop, letter, &names)
+    line(stop).form_fault(letter, &names)
 }
 
 /// A number of the J line is outside its limits.
 fn sizes(stop: &Stop) -> Option<Fault> {
-    Fault::of_first_field(stop, |field, number| {
+    line(stop).first_field_fault(&stop.numbers, |field, number| {
         let (name, low, high) = SIZES[field];
         let good = (low..=high).contains(&number);
         (!good).then(|| format!("{name}, {low} to {high}"))
@@ -81,7 +99,7 @@ fn rule(stop: &Stop) -> Option<Fault> {
     let (names, last) = (rule_names(symbols), states - 1);
     // the J line comes before the R lines
     let state = stop.due as u64 - 2;
-    Fault::of_first_field(stop, |field, number| {
+    line(stop).first_field_fault(&stop.numbers, |field, number| {
         let name = &names[field];
         let (good, expected) = match field {
             0 => (number == state, format!("{name}, {state} in this line")),
@@ -117,7 +135,7 @@ fn node(stop: &Stop) -> Option<Fault> {
     let [states, symbols, ..] = stop.sizes;
     let (kind, exit) = (stop.numbers[1], stop.numbers[4]);
     let node = stop.due as u64 - 2 - states;
-    Fault::of_first_field(stop, |field, number| {
+    line(stop).first_field_fault(&stop.numbers, |field, number| {
         let (highest, expected) = match field {
             0 => (node, format!("the node, {node} in this line")),
             1 => (3, KINDS.to_string()),
@@ -136,7 +154,7 @@ fn edge(stop: &Stop) -> Option<Fault> {
     let last = stop.sizes[2] - 1;
     let edge = (stop.numbers[0], stop.numbers[1]);
     if edge.0 > last || edge.1 > last {
-        return Fault::of_first_field(stop, |field, number| {
+        return line(stop).first_field_fault(&stop.numbers, |field, number| {
             (number > last).then(|| format!("{}, 0 to {last}", EDGE[field]))
         });
     }
@@ -145,7 +163,7 @@ fn edge(stop: &Stop) -> Option<Fault> {
         "an edge after {from} to {to}, since edges ascend by the first node and then by the second"
     );
     let field = usize::from(edge.0 == from);
-    Some(Fault::of_field(stop, field, expected))
+    Some(line(stop).field_fault(field, stop.numbers[field], expected))
 }
 
 /// No node is an entry.

@@ -51,7 +51,7 @@ fn run(given: &Given) -> Result<u8, String> {
             let job = job::accepted(&file)?;
             let names = Names::read(names, job.symbols as usize)?;
             let points = points(&file, &job, &plan.bytes, &volumes)?;
-            let full = priced(&file, &job.all_watched(), &volumes.bytes)?;
+            let full = cents(&file, &job.all_watched(), &volumes.bytes)?;
             let bill = Bill {
                 points,
                 price,
@@ -60,7 +60,7 @@ fn run(given: &Given) -> Result<u8, String> {
             bill.explained(&names)?
         }
     };
-    // a note says where it is different
+    // with a note where the plan is different
     job::given_plan(&file, plan)?;
     output::print(text.as_bytes()).map(|()| 0)
 }
@@ -79,7 +79,7 @@ fn points(file: &Input, job: &Job, plan: &[u8], volumes: &Input) -> Result<Vec<P
             node,
             symbol: job.nodes[node].value as usize,
             volume: events[node],
-            rate: priced(file, &job.plan_of(&[node]), &thousands)?,
+            rate: cents(file, &job.plan_of(&[node]), &thousands)?,
             watched: plan[node] == 1,
         })
     };
@@ -87,7 +87,7 @@ fn points(file: &Input, job: &Job, plan: &[u8], volumes: &Input) -> Result<Vec<P
 }
 
 /// The price by the proved call, for a job that it has accepted and a plan and volumes that fit it.
-fn priced(file: &Input, plan: &[u8], volumes: &[u8]) -> Result<u64, String> {
+fn cents(file: &Input, plan: &[u8], volumes: &[u8]) -> Result<u64, String> {
     dapohiru::price(&file.bytes, plan, volumes)
         .map_err(|refusal| format!("{}: {refusal}", file.shown))
 }

@@ -1,62 +1,51 @@
 //! Volume files, read a second time: the events a day of each node, or the place of the first fault and what
 //! is expected there.
-use crate::fault::Fault;
-use crate::input::VOLUME_FILE;
-use dapohiru_second::reading::{self, Stop};
+use crate::fault::{Due, Fault};
+use dapohiru_second::reading;
 
-/// The refusal of a volume file.
-const REFUSED: u64 = 16;
 /// The bytes of a V line.
 const LINE: usize = 14;
 
 /// The events a day of so many nodes, or the first fault of the file.
 pub fn read(file: &[u8], nodes: usize) -> Result<Vec<u64>, Fault> {
-    if file.len() > VOLUME_FILE {
-        return Err(Fault {
-            number: REFUSED,
-            place: None,
-            found: "a longer file".to_string(),
-            expected: format!("{} bytes, {LINE} for each node", LINE * nodes),
-        });
-    }
-    let mut stop = Stop {
-        number: REFUSED,
-        due: 0,
-        line: file,
-        rest: file,
-        numbers: Vec::new(),
-        sizes: [0; 4],
-        before: None,
+    let mut due = Due {
+        number: 16,
+        line: 1,
+        bytes: file,
     };
     let mut events = Vec::new();
-    for node in 0..nodes {
-        stop.due = node + 1;
-        stop.line = stop.rest;
-        events.push(volume(&mut stop, node as u64)?);
-        stop.rest = &stop.line[LINE..];
+    for node in 0..nodes as u64 {
+        events.push(volume(due, node)?);
+        due.line += 1;
+        due.bytes = &due.bytes[LINE..];
     }
-    match Fault::of_rest(&stop) {
+    match due.end_fault() {
         Some(fault) => Err(fault),
         None => Ok(events),
     }
 }
 
 /// The events a day of a node, in the line due, or the fault of the line.
-fn volume(stop: &mut Stop, node: u64) -> Result<u64, Fault> {
-    let names = ["the node", "the events a day"].map(str::to_string);
-    if let Some(mut fault) = Fault::of_form(stop, 'V', &names) {
-        if stop.line.is_empty() {
+fn volume(due: Due, node: u64) -> Result<u64, Fault> {
+    let names = ["the node", "the events a day, 0 to 999,999"].map(str::to_string);
+    if let Some(mut fault) = due.form_fault('V', &names) {
+        if due.bytes.is_empty() {
             fault.expected += &format!(", for node {node}");
+        }
+        // a digit where the line must end
+        let is_end = fault.place == Some((due.line, LINE, LINE));
+        if is_end && due.bytes.get(LINE - 1).is_some_and(u8::is_ascii_digit) {
+            fault.expected += "; the events a day are at most 999,999";
         }
         return Err(fault);
     }
-    let fields = stop.line[1..LINE - 1].chunks(6);
-    stop.numbers = fields.filter_map(reading::number).collect();
+    let fields = due.bytes[1..LINE - 1].chunks(6);
+    let numbers: Vec<_> = fields.filter_map(reading::number).collect();
     let wrong = |field, number| {
         (field == 0 && number != node).then(|| format!("the node, {node} in this line"))
     };
-    match Fault::of_first_field(stop, wrong) {
+    match due.first_field_fault(&numbers, wrong) {
         Some(fault) => Err(fault),
-        None => Ok(stop.numbers[1]),
+        None => Ok(numbers[1]),
     }
 }

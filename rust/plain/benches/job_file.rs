@@ -1,7 +1,7 @@
 //! Milliseconds to read 300 job files of full size, written with spaces before the numbers and filled with
 //! zeros: the library's check of a plan of no bytes, which reads the file and no more, beside a plain Rust
 //! reader that makes the same tests on the same bytes, decodes the job and clears as many bytes.
-//! `cargo bench --offline --bench job_file` runs it.
+//! `cargo bench --offline -p dapohiru-plain --bench job_file` runs it.
 use dapohiru::{check, Refusal};
 use dapohiru_generators::random::Random;
 use dapohiru_generators::sized::{self, FULL};

@@ -2,7 +2,7 @@
 //! makes the same tests on the same bytes. Files are written with spaces before the numbers and filled with
 //! zeros; jobs of full size, and jobs of 512 points without an edge, of which the volume file is a larger part.
 //! The library holds the job in a buffer on its stack, which it clears, and the plain program in one that it
-//! uses again and again. `cargo bench --offline --bench price` runs it.
+//! uses again and again. `cargo bench --offline -p dapohiru-plain --bench price` runs it.
 use dapohiru::Refusal;
 use dapohiru_generators::random::Random;
 use dapohiru_generators::sized::{self, Sizes, FULL};

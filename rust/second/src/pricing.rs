@@ -1,7 +1,7 @@
 //! The journal price of a plan as a call (document 02, "Journal price of a plan"): its refusals in order, the
 //! volume file, and the price.
 use crate::checking::file_and_plan;
-use crate::job::{Job, Node, CALL, EVENT, PLAIN, REENTRANT};
+use crate::job::{Job, Node, EVENT, PLAIN};
 use crate::reading::{self, Reader, LONGEST};
 use crate::slip::Slip;
 
@@ -27,7 +27,7 @@ pub enum Answer {
     Refused(u64),
 }
 
-/// Pricing, with one slip or with none.
+/// The answer to a call, with one slip or with none.
 pub fn price(call: &Call, slip: Option<Slip>) -> Answer {
     let pricing = Pricing { slip };
     match pricing.volumes_or_refusal(call) {
@@ -92,29 +92,32 @@ impl Pricing {
         }
     }
 
+    /// The refusal of a volume file, which a job file would get by this number.
+    fn refusal(self, number: u64) -> u64 {
+        match self.slip {
+            Some(Slip::VolumesAs3And4) => number,
+            _ => 16,
+        }
+    }
+
     /// The line due, without its end byte.
     fn next_line<'a>(self, rest: &mut &'a [u8]) -> Result<&'a [u8], u64> {
-        let by_itself = self.slips(Slip::VolumesAs3And4);
         if rest.is_empty() {
-            return Err(if by_itself { 3 } else { 16 });
+            return Err(self.refusal(3));
         }
         let mut parts = rest.splitn(2, |&byte| byte == b'\n');
         let line = parts.next().expect("there is a first part");
         *rest = match parts.next() {
             Some(after) => after,
             None if self.slips(Slip::VolumeEndByteMissingAccepted) => &[],
-            None => return Err(if by_itself { 4 } else { 16 }),
+            None => return Err(self.refusal(4)),
         };
         Ok(line)
     }
 
     /// The events a day of the line of this place, where this node stands.
     fn volume(self, line: &[u8], place: usize, node: &Node) -> Result<u64, u64> {
-        let malformed = if self.slips(Slip::VolumesAs3And4) {
-            4
-        } else {
-            16
-        };
+        let malformed = self.refusal(4);
         let Some((&letter, columns)) = line.split_first() else {
             return Err(malformed);
         };
@@ -167,8 +170,8 @@ impl Pricing {
         match node.kind {
             _ if place + 1 == job.nodes.len() && self.slips(Slip::LastNodeNotCounted) => false,
             EVENT => is_watched(plan, place) || self.slips(Slip::UnwatchedCounted),
-            CALL | REENTRANT => self.slips(Slip::CallsCounted),
-            _ => false,
+            PLAIN => self.slips(Slip::PlainNodesCounted),
+            _ => self.slips(Slip::CallsCounted),
         }
     }
 

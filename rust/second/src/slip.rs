@@ -213,6 +213,8 @@ slips! {
         UnwatchedCounted,
         /// Calls of either kind count, too, as symbol 0.
         CallsCounted,
+        /// Plain nodes count, too, as symbol 0.
+        PlainNodesCounted,
         /// The last node does not count.
         LastNodeNotCounted,
 

@@ -53,7 +53,7 @@ impl Calls {
         number
     }
 
-    /// Prices with buffers of these lengths; gives the number.
+    /// Prices a plan, each buffer an allocation of its own size; gives the number.
     pub fn price(&mut self, file: &[u8], plan: &[u8], volumes: &[u8]) -> u64 {
         let (file, plan, volumes) = (exact(file), exact(plan), exact(volumes));
         let number = (CALLS.price)(&file, &plan, &volumes);

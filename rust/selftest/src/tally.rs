@@ -46,7 +46,7 @@ const MEANINGS: [&str; 16] = [
     "a rule",
     "a symbol",
     "a record",
-    "a volume file is not exactly one V line for each node",
+    "a volume file is not exactly one V line for each node, in order",
 ];
 
 impl Tally {

@@ -25,7 +25,7 @@ fn what_was_expected_in_a_volume_file_is_told() {
     let line = "V and 2 fields of six columns, 13 columns in all";
     let due = "a line of the letter V and 2 fields of six columns";
     let field = "a number in six columns, right-justified, with spaces or zeros before it and no space after a digit";
-    let events = format!("the events a day: {field}");
+    let events = format!("the events a day, 0 to 999,999: {field}");
     let end = format!("the end of the line (byte 10) after {line}");
     for (volumes, place, expected) in [
         // the file ends where a line is due
@@ -146,7 +146,7 @@ fn what_was_expected_in_a_volume_file_is_told() {
         (
             with(one, "V     11000000\n"),
             "line 2, column 14: found `0`",
-            format!("{end}; this line has 14"),
+            format!("{end}; this line has 14; the events a day are at most 999,999"),
         ),
         (
             good.replace('\n', "\r\n"),
@@ -166,14 +166,14 @@ fn what_was_expected_in_a_volume_file_is_told() {
         ),
         // far too long
         (
-            " ".repeat(65_536),
+            " ".repeat(70_000),
             "line 1, column 1: found ` `",
             "the letter V".to_string(),
         ),
         (
-            " ".repeat(65_537),
-            "found a longer file",
-            "42 bytes, 14 for each node".to_string(),
+            good.repeat(2_000),
+            "line 4, column 1: found `V`",
+            "the end of the file".to_string(),
         ),
     ] {
         let done = run(&["price", &job, &plan, "-"], &volumes);
@@ -188,7 +188,8 @@ fn endless_volume_file_is_refused() {
     let script = "\"$1\" price \"$2\" \"$3\" /dev/zero";
     let (status, printed, wrong) = shell(script, &[&example("pair.job"), &plan]);
     assert_eq!((status, printed.as_str()), (2, ""));
-    assert!(wrong.starts_with("dapohiru: /dev/zero: refused 16: "));
+    let place = "line 1, column 1: found `\\x00`";
+    assert!(wrong.starts_with("dapohiru: /dev/zero: refused 16: ") && wrong.contains(place));
 }
 
 #[test]

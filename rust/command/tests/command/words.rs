@@ -91,11 +91,11 @@ fn words_that_do_not_go_together_are_told() {
         ),
         (
             &["check", "-", "-"],
-            "JOB and PLAN cannot both be standard input",
+            "check: JOB and PLAN cannot both be standard input",
         ),
         (
             &["graph", "-", "-"],
-            "JOB and PLAN cannot both be standard input",
+            "graph: JOB and PLAN cannot both be standard input",
         ),
         (
             &["price", &job, "b", "c", "--names", "x"],

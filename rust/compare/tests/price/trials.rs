@@ -112,10 +112,10 @@ fn every_symbol_has_its_price() {
     }
 }
 
-/// A job of so many points of one symbol, the first of them an entry.
+/// A job of so many points of one symbol, each of them an entry.
 fn points(symbol: u64, nodes: usize) -> Job {
     let mut nodes = vec![event(symbol); nodes];
-    nodes[0].entry = 1;
+    nodes.iter_mut().for_each(|node| node.entry = 1);
     Job {
         symbols: 16,
         finals: vec![0],
