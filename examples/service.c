@@ -9,6 +9,7 @@
 
 #include <inttypes.h>
 #include <stdio.h>
+#include <string.h>
 
 /* PAIR's rule: seal, reopen and write are 0, 1 and 2; state 2 is final. */
 static const uint8_t rule[DAPOHIRU_RULE_LEN] = {
@@ -32,7 +33,7 @@ static uint64_t alarms(const uint8_t *rec)
     return total;
 }
 
-/* Reads a file, up to so many bytes; returns how many, or 0 where it cannot be read. */
+/* Reads a file, up to so many bytes, and returns how many; an empty one, or one that cannot be read, is told and is 0. */
 static size_t read_file(const char *name, uint8_t *bytes, size_t most)
 {
     size_t len = 0;
@@ -56,7 +57,7 @@ int main(int argc, char **argv)
     static const struct { size_t node; uint64_t symbol; } walk[] = {{0, 0}, {1, 0}, {2, 2}};
     uint8_t full[DAPOHIRU_RECORD_LEN] = {0}, planned[DAPOHIRU_RECORD_LEN] = {0};
     uint64_t answer;
-    size_t job_len, volumes_len, k;
+    size_t job_len, volumes_len, nodes, k;
 
     if (argc != 3) {
         fprintf(stderr, "usage: service JOB VOLUMES\n");
@@ -66,6 +67,8 @@ int main(int argc, char **argv)
     volumes_len = read_file(argv[2], volumes, sizeof volumes);
     if (job_len == 0 || volumes_len == 0)
         return 2;
+    /* planning writes a byte for each node, 0 or 1, and no other: so the bytes that change are the nodes */
+    memset(plan, 255, sizeof plan);
     answer = dapohiru_plan(job, job_len, work, sizeof work, plan, sizeof plan);
     if (DAPOHIRU_IS_REFUSAL(answer)) {
         fprintf(stderr, "service: refused %" PRIu64 "\n", answer);
@@ -73,8 +76,9 @@ int main(int argc, char **argv)
     }
     printf("points %" PRIu64 ", watched %" PRIu64 ", passes %" PRIu64 "\n", DAPOHIRU_POINTS(answer),
            DAPOHIRU_WATCHED(answer), DAPOHIRU_PASSES(answer));
-    /* the plan has a byte for each node, and the volume file a line of 14 bytes */
-    answer = dapohiru_price(job, job_len, plan, volumes_len / 14, volumes, volumes_len);
+    for (nodes = 0; nodes < sizeof plan && plan[nodes] != 255; nodes++)
+        ;
+    answer = dapohiru_price(job, job_len, plan, nodes, volumes, volumes_len);
     if (DAPOHIRU_IS_REFUSAL(answer)) {
         fprintf(stderr, "service: refused %" PRIu64 "\n", answer);
         return 2;

@@ -5,7 +5,7 @@
 //! the graph must stay watched, [`list`] what was found at each, [`check`] whether somebody else's plan
 //! is faithful, [`price`] what the journal lines of a plan's watched points cost a day, and [`event`] (or
 //! [`Rule::event`]) takes one event on the record of a running monitor.
-//! A refusal carries its number, 1 to 16, as documents 01 and 02 list them. The functions of [`numbers`] are
+//! A refusal carries its number, 1 to 16, as documents 01 and 02 list it. The functions of [`numbers`] are
 //! the C calls as they are.
 //!
 //! The calls keep nothing between them and share nothing: any number of threads may be in them, each

@@ -1,14 +1,15 @@
 -- Files alike get the same answer of every call: they have one length and are read alike, and no call looks at more of its file. Volume files
 -- alike have the same volumes or none, and pricing looks at no more of them.
 -- Assumes nothing.
-use mathlib.Core.Path.{_≡_, sym, ap, _∙_}
+use mathlib.Core.Path.{_≡_, refl, sym, ap, _∙_}
+use mathlib.Core.Logic.{_≢_}
 use mathlib.Core.Bool.{Bool, false, _||_}
 use mathlib.Core.List.{List}
 use Prim.Native.Nat.{ℕ}
 use lib.Dec.{ltb}
 use lib.ListN.{length}
 use Rattle.job.specs.Job.{Job}
-use Rattle.jobfile.specs.File.{Answer, accepted, turned, readJob}
+use Rattle.jobfile.specs.File.{Answer, accepted, readJob}
 use Rattle.jobfile.proofs.AlikeLaws.{alike-says}
 use Rattle.buffer.specs.Buffer.{workSize}
 use Rattle.admission.specs.Admission.{admitted}
@@ -17,7 +18,9 @@ use Rattle.checking.specs.Checking.{answered, checked}
 use Rattle.pricing.specs.Numbered.{columnIn}
 use Rattle.pricing.specs.Pricing.{volumeLine, housePrices, pricedJob, answeredAt, pricedAt, priced}
 use Rattle.pricing.specs.NumberedAlike.{AlikeColumn}
-use Rattle.pricing.proofs.PricingLaws.{priced-turned, priced-job}
+use Rattle.pricing.specs.PricingSays.{PriceRefused, job-refused, other-length, other-mark, other-lines}
+use Rattle.pricing.proofs.PricingLaws.{priced-job}
+use Rattle.pricing.proofs.PricingSays.{price-refused}
 use Rattle.pricing.proofs.NumberedAlikeLaws.{numbered-say-alike}
 use Rattle.planoutcome.specs.PlanCall.{planSize, planAnswer}
 use Rattle.listoutcome.specs.ListCall.{listingSize, listAnswer}
@@ -71,9 +74,12 @@ one-price file f g j spells same plan =
     let one : pricedJob housePrices j plan f ≡ pricedJob housePrices j plan g = rw same in
     ap priceGives (priced-job housePrices file plan f j spells ∙ one ∙ sym (priced-job housePrices file plan g j spells))
 
--- beside a job file that is turned back no volume file is read
-none-read : (file f g : List ℕ) (r : ℕ) → readJob file ≡ turned r → OnePrice file f g
-none-read file f g r refused plan = ap priceGives (priced-turned housePrices file plan f r refused ∙ sym (priced-turned housePrices file plan g r refused))
+-- a refusal of a job file or a plan is that beside any volume file
+same-refusal : (file plan f g : List ℕ) {r : ℕ} → r ≢ 16 → PriceRefused file plan f r → PriceRefused file plan g r
+same-refusal file plan f g h (job-refused e) = job-refused e
+same-refusal file plan f g h (other-length e bytes) = other-length e bytes
+same-refusal file plan f g h (other-mark e bytes within bad) = other-mark e bytes within bad
+same-refusal file plan f g h (other-lines e bytes marks none) = absurd (h refl)
 
 -- volume files alike
 same-volumes
@@ -93,5 +99,6 @@ same-answers =
           one-price file f g j spells (numbered-say-alike .turned-back volumeLine (length (j .nodes)) f g r b a);
       volumes-no-further = λ file f g due j spells long d a.
           one-price file f g j spells (numbered-say-alike .no-further volumeLine (length (j .nodes)) f g due long d a);
-      volumes-not-read = none-read;
+      volumes-last = λ file plan f g r h e.
+          price-refused housePrices file plan g r .1 (same-refusal file plan f g h (price-refused housePrices file plan f r .0 e));
     }

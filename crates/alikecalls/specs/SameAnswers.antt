@@ -4,6 +4,7 @@
 -- alike is `pricing`'s `NumberedAlike.antt`: the one written without zeros is alike each file of its volumes (`written` there).
 -- Assumes nothing.
 use mathlib.Core.Path.{_≡_}
+use mathlib.Core.Logic.{_≢_}
 use mathlib.Core.Bool.{Bool, false}
 use mathlib.Core.List.{List, [], _∷_, _++_}
 use Prim.Native.Nat.{ℕ}
@@ -11,13 +12,14 @@ use lib.ListN.{length, replicate}
 use Rattle.job.specs.Job.{Job}
 use Rattle.lines.specs.Written.{FirstBad}
 use Rattle.lines.specs.Alike.{AlikeUpTo}
-use Rattle.jobfile.specs.File.{Answer, accepted, turned, readJob}
+use Rattle.jobfile.specs.File.{Answer, accepted, readJob}
 use Rattle.jobfile.specs.ListingLines.{printedFor}
 use Rattle.jobfile.specs.Alike.{TurnedDue, Alike}
 use Rattle.admission.specs.Admission.{admitted, workAfter}
 use Rattle.checking.specs.declared.check.Verdict.{Verdict}
 use Rattle.checking.specs.Checking.{checked, workLeft, verdictNumber}
 use Rattle.pricing.specs.declared.price.Price.{Price}
+use Rattle.pricing.specs.declared.price.Price.the-variants.{Refused}
 use Rattle.pricing.specs.Pricing.{volumeLine, priced, priceNumber}
 use Rattle.pricing.specs.NumberedAlike.{ColumnDue, AlikeColumn}
 use Rattle.planoutcome.specs.declared.plan.Outcome.{Outcome}
@@ -103,7 +105,7 @@ OnePrice file f g = (plan : List ℕ) → priceGives (priced file plan f) ≡ pr
 -- the statement: files alike, cut, damaged or sound, get the same of every call; so do files of one length that are too long, or alike in the
 -- lines up to one that is turned back, whatever follows it. So do volume files, by a V line for each node of the job: alike ones, beside job
 -- files alike too; those alike in the lines up to one that is turned back; those of one length that are alike in the lines due, whatever
--- follows these; and any beside a job file that is turned back
+-- follows these; and any beside a job file or a plan that is refused, for they are looked at last
 pub record SameAnswers : Type 0 where
   pub alike : (f g : List ℕ) → Alike f g → OneAnswer f g
   pub no-further : (f g due : List ℕ) → length f ≡ length g → TurnedDue f due → AlikeUpTo due f g → OneAnswer f g
@@ -118,4 +120,4 @@ pub record SameAnswers : Type 0 where
   pub volumes-no-further
       : (file f g due : List ℕ) (j : Job) → readJob file ≡ accepted j → length f ≡ length g
       → ColumnDue volumeLine (length (j .nodes)) f due → AlikeUpTo due f g → OnePrice file f g
-  pub volumes-not-read : (file f g : List ℕ) (r : ℕ) → readJob file ≡ turned r → OnePrice file f g
+  pub volumes-last : (file plan f g : List ℕ) (r : ℕ) → r ≢ 16 → priced file plan f ≡ Refused r → priced file plan g ≡ Refused r

@@ -5,10 +5,10 @@
 use mathlib.Core.Path.{_≡_, refl, sym, ap, _∙_}
 use mathlib.Core.Bool.{true}
 use mathlib.Core.List.{List, [], _∷_, _++_, append-nil}
-use Prim.Native.Nat.{ℕ, suc}
+use Prim.Native.Nat.{ℕ}
 use native.Mathlib.Omega.{arith}
 use lib.ListN.{length, replicate, length-map}
-use Rattle.lines.specs.Line.{line, at, writeLines}
+use Rattle.lines.specs.Line.{at, writeLines}
 use Rattle.lines.specs.Lines.{LineKind, Lines, lines, refused, linesOf}
 use Rattle.lines.specs.Alike.{Equal, AlikeOver, Anything, AlikeUpTo, NoZerosOver}
 use Rattle.lines.specs.Written.{Stand, GoodLines, good-none, good-more, FirstBad}

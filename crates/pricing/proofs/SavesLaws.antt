@@ -1,5 +1,5 @@
--- What a plan saves: a plan costs no more than one in which its watched points are watched, so planning's own plan costs no more than all
--- points watched. Each node costs no more, so the sum is no larger, and neither are its cents.
+-- What a plan saves: a plan costs no more than one in which its watched points are watched, so none costs more than all points watched. Each
+-- node costs no more, so the sum is no larger, and neither are its cents.
 -- Assumes nothing.
 use mathlib.Core.Path.{_≡_, refl, sym, subst}
 use mathlib.Core.Logic.{⊎-elim}
@@ -17,8 +17,8 @@ use Rattle.job.specs.Plan.{enables}
 use Rattle.job.specs.Search.{faithful}
 use Rattle.planning.specs.Planning.{IsPlan, allEnabled}
 use Rattle.planning.specs.Listing.{planOf}
-use Rattle.planning.proofs.PlanBytes.{enabled-byte, enabled-within, lowered-watches, all-enabled-event, all-enabled-plan}
-use Rattle.planning.proofs.PlanningResult.{planned-lowered, planned-plan}
+use Rattle.planning.proofs.PlanBytes.{enabled-byte, enabled-within, all-enabled-event, all-enabled-plan}
+use Rattle.planning.proofs.PlanningResult.{planned-plan}
 use Rattle.jobfile.specs.File.{accepted, readJob}
 use Rattle.checking.specs.CheckingSays.{MarkFor, unwatched, watched}
 use Rattle.pricing.specs.declared.price.Price.the-variants.{Cents}
@@ -81,7 +81,7 @@ no-dearer prices file plan other volumes c d h p q =
         rw (same, one) (day-cost-le prices j plan other n h) in
         rw (c-is, d-is) (cents-le sum)
 
--- ---- planning's own plan
+-- ---- plans of the job
 
 -- a plan of the job has a byte that each node may have
 plan-marked
@@ -94,49 +94,53 @@ plan-marked {j} {plan} v n h =
     rw none unwatched)
     (passes-or-fails (enables plan n))
 
--- it is billed
+-- such a plan is billed
 plan-billable
     : {file volumes counts : List ℕ} {j : Job} (plan : List ℕ) → readJob file ≡ accepted j
     → ColumnFile volumeLine (length (j .nodes)) volumes counts → IsPlan j plan → Billable file plan volumes j counts
 plan-billable plan spells lines v = record { spells = spells; bytes = v .long; marks = plan-marked v; lines = lines }
 
--- what it watches is watched there
-planned-watched : (j : Job) → WatchedIn (planOf j .plan) (allEnabled j)
-planned-watched j = lowered-watches (planned-lowered (faithful j) j)
+-- ---- all points watched
 
--- planning's own plan has a price that is no more than that of all points watched
-planned
-    : (prices file volumes counts : List ℕ) (j : Job) → readJob file ≡ accepted j → ColumnFile volumeLine (length (j .nodes)) volumes counts
-    → (c : ℕ) × (d : ℕ) × (pricedAt prices file (planOf j .plan) volumes ≡ Cents c) × (pricedAt prices file (allEnabled j) volumes ≡ Cents d)
-    × (c ≤ d)
-planned prices file volumes counts j spells lines =
-    let own = plan-billable (planOf j .plan) spells lines (planned-plan (faithful j) j) in
-    let all = plan-billable (allEnabled j) spells lines (all-enabled-plan j) in (
-      centsOf (dayCost prices j (planOf j .plan) counts),
-      centsOf (dayCost prices j (allEnabled j) counts),
-      price-of prices file (planOf j .plan) volumes own,
-      price-of prices file (allEnabled j) volumes all,
-      cents-le (day-cost-le prices j (planOf j .plan) (allEnabled j) counts (planned-watched j)),
-    )
-
--- the points that a plan with a price watches are points
+-- a node marked 1 is a point
 marked-event : {k : Kind} {b : ℕ} → MarkFor k b → b ≡ 1 → isEvent k ≡ true
 marked-event unwatched e = absurd (omega arith)
 marked-event (watched is) e = is
 
+module _ (prices : List ℕ) {file plan volumes counts : List ℕ} {j : Job} (b : Billable file plan volumes j counts) where
+  -- what a plan watches is watched there
+  billed-watched : WatchedIn plan (allEnabled j)
+  billed-watched n w =
+      all-enabled-event j n (marked-event (b .marks n (omega (arith, enabled-within plan n w, b .bytes))) (enabled-byte plan n w))
+
+  -- the price of all points watched, beside the same volumes
+  all-price : pricedAt prices file (allEnabled j) volumes ≡ Cents (centsOf (dayCost prices j (allEnabled j) counts))
+  all-price = price-of prices file (allEnabled j) volumes (plan-billable (allEnabled j) (b .spells) (b .lines) (all-enabled-plan j))
+
+  -- it is no less than the plan's
+  all-no-less : centsOf (dayCost prices j plan counts) ≤ centsOf (dayCost prices j (allEnabled j) counts)
+  all-no-less = cents-le (day-cost-le prices j plan (allEnabled j) counts billed-watched)
+
+-- no plan that has a price costs more than all points watched
 at-most-all
     : (prices file plan volumes : List ℕ) (c : ℕ) → pricedAt prices file plan volumes ≡ Cents c
     → (j : Job) × (d : ℕ) × (readJob file ≡ accepted j) × (pricedAt prices file (allEnabled j) volumes ≡ Cents d) × (c ≤ d)
 at-most-all prices file plan volumes c e =
     let (j, counts, b, is) = price-sum prices file plan volumes e in
-    let all = plan-billable (allEnabled j) (b .spells) (b .lines) (all-enabled-plan j) in
-    let inside : WatchedIn plan (allEnabled j) = λ n w.
-    all-enabled-event j n (marked-event (b .marks n (omega (arith, enabled-within plan n w, b .bytes))) (enabled-byte plan n w)) in (
-      j,
+    (j, centsOf (dayCost prices j (allEnabled j) counts), b .spells, all-price prices b, omega (arith, is, all-no-less prices b))
+
+-- planning's own plan has a price, beside a volume file of its lines
+planned
+    : (prices file volumes counts : List ℕ) (j : Job) → readJob file ≡ accepted j → ColumnFile volumeLine (length (j .nodes)) volumes counts
+    → (c : ℕ) × (d : ℕ) × (pricedAt prices file (planOf j .plan) volumes ≡ Cents c) × (pricedAt prices file (allEnabled j) volumes ≡ Cents d)
+    × (c ≤ d)
+planned prices file volumes counts j spells lines =
+    let own = plan-billable (planOf j .plan) spells lines (planned-plan (faithful j) j) in (
+      centsOf (dayCost prices j (planOf j .plan) counts),
       centsOf (dayCost prices j (allEnabled j) counts),
-      b .spells,
-      price-of prices file (allEnabled j) volumes all,
-      omega (arith, is, cents-le (day-cost-le prices j plan (allEnabled j) counts inside)),
+      price-of prices file (planOf j .plan) volumes own,
+      all-price prices own,
+      all-no-less prices own,
     )
 
 -- what a plan saves

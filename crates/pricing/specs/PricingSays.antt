@@ -84,7 +84,7 @@ abbrev pub WatchedIn : List ℕ → List ℕ → Type 0
 WatchedIn plan other = (n : ℕ) → enables plan n ≡ true → enables other n ≡ true
 
 -- the statement, at any prices: a plan costs no more than one in which its watched points are watched; so no plan that has a price costs more
--- than all points watched, and planning's own plan has a price
+-- than all points watched; and beside a volume file of its lines planning's own plan has a price
 pub record Saves : Type 0 where
   pub no-dearer
       : (prices file plan other volumes : List ℕ) (c d : ℕ) → WatchedIn plan other → pricedAt prices file plan volumes ≡ Cents c

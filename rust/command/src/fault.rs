@@ -13,6 +13,9 @@ pub struct Fault {
     pub expected: String,
 }
 
+/// The columns of a line that are counted; of a longer one more may stand in the file than was read.
+const MOST_COLUMNS: usize = 1_000;
+
 /// Where a file is looked at for a fault: a line that is due, or its end.
 #[derive(Clone, Copy)]
 pub struct Due<'a> {
@@ -28,33 +31,35 @@ impl Due<'_> {
     /// The fault of a line that is missing or has the wrong form, if it has one: the line due has this letter
     /// and a field for each name.
     pub fn form_fault(self, letter: char, names: &[String]) -> Option<Fault> {
-        let line = self.bytes;
+        let bytes = self.bytes;
         let wrong = |first: usize, last: usize, expected| {
             Some(Fault {
                 number: self.number,
                 place: Some((self.line, first, last)),
-                found: shown(line.get(first - 1..).unwrap_or_default(), last + 1 - first),
+                found: shown(bytes.get(first - 1..).unwrap_or_default(), last + 1 - first),
                 expected,
             })
         };
         let fields = names.len();
-        if line.is_empty() {
+        if bytes.is_empty() {
             let expected =
                 format!("a line of the letter {letter} and {fields} fields of six columns");
             return wrong(1, 1, expected);
         }
-        if line[0] != letter as u8 {
+        if bytes[0] != letter as u8 {
             return wrong(1, 1, format!("the letter {letter}"));
         }
-        let (columns_due, columns) = (1 + 6 * fields, line_len(line));
+        let (columns_due, columns) = (1 + 6 * fields, line_len(bytes));
         let mut form_due =
             format!("{letter} and {fields} fields of six columns, {columns_due} columns in all");
-        if columns != columns_due {
+        if columns > MOST_COLUMNS {
+            form_due += &format!("; this line has more than {MOST_COLUMNS}");
+        } else if columns != columns_due {
             form_due += &format!("; this line has {columns}");
         }
         for (field, name) in names.iter().enumerate() {
             let first = 1 + 6 * field;
-            let number = line.get(first..first + 6).and_then(reading::number);
+            let number = bytes.get(first..first + 6).and_then(reading::number);
             if number.is_none() {
                 let mut expected = format!(
                     "{name}: a number in six columns, right-justified, with spaces or zeros before it and no space after a digit"
@@ -66,7 +71,7 @@ impl Due<'_> {
                 return wrong(first + 1, first + 6, expected);
             }
         }
-        if line.get(columns_due) == Some(&b'\n') {
+        if bytes.get(columns_due) == Some(&b'\n') {
             return None;
         }
         let end = columns_due + 1;

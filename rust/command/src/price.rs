@@ -60,7 +60,7 @@ fn run(given: &Given) -> Result<u8, String> {
             bill.explained(&names)?
         }
     };
-    // with a note where the plan is different
+    // writes a note where the plan is different
     job::given_plan(&file, plan)?;
     output::print(text.as_bytes()).map(|()| 0)
 }

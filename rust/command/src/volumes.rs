@@ -27,15 +27,16 @@ pub fn read(file: &[u8], nodes: usize) -> Result<Vec<u64>, Fault> {
 
 /// The events a day of a node, in the line due, or the fault of the line.
 fn volume(due: Due, node: u64) -> Result<u64, Fault> {
-    let names = ["the node", "the events a day, 0 to 999,999"].map(str::to_string);
+    let names = ["the node", "the events a day, 0 to 999999"].map(str::to_string);
     if let Some(mut fault) = due.form_fault('V', &names) {
         if due.bytes.is_empty() {
             fault.expected += &format!(", for node {node}");
         }
-        // a digit where the line must end
+        // a number that its columns do not hold
         let is_end = fault.place == Some((due.line, LINE, LINE));
-        if is_end && due.bytes.get(LINE - 1).is_some_and(u8::is_ascii_digit) {
-            fault.expected += "; the events a day are at most 999,999";
+        let columns = due.bytes.get(7..LINE).filter(|columns| columns[0] != b'0');
+        if is_end && columns.is_some_and(|columns| columns.iter().all(u8::is_ascii_digit)) {
+            fault.expected += "; the events a day are at most 999999";
         }
         return Err(fault);
     }

@@ -92,7 +92,7 @@ impl Lent {
     }
 }
 
-/// What every call on a file is lent: the file and a work buffer.
+/// What every call with a work buffer is lent: the file and that buffer.
 pub struct Buffers {
     /// Places the next buffers.
     pub random: Random,

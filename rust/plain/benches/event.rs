@@ -1,5 +1,5 @@
 //! Nanoseconds for one event: the library's call beside a plain Rust step that makes the same tests
-//! on the same 256 bytes in place. `cargo bench --offline` runs it.
+//! on the same 256 bytes in place. `cargo bench --offline -p dapohiru-plain --bench event` runs it.
 use dapohiru::event;
 use std::hint::black_box;
 use std::time::Instant;

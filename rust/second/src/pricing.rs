@@ -92,7 +92,7 @@ impl Pricing {
         }
     }
 
-    /// The refusal of a volume file, which a job file would get by this number.
+    /// The refusal of a volume file, for a fault that in a job file has this number.
     fn refusal(self, number: u64) -> u64 {
         match self.slip {
             Some(Slip::VolumesAs3And4) => number,

@@ -25,7 +25,7 @@ fn what_was_expected_in_a_volume_file_is_told() {
     let line = "V and 2 fields of six columns, 13 columns in all";
     let due = "a line of the letter V and 2 fields of six columns";
     let field = "a number in six columns, right-justified, with spaces or zeros before it and no space after a digit";
-    let events = format!("the events a day, 0 to 999,999: {field}");
+    let events = format!("the events a day, 0 to 999999: {field}");
     let end = format!("the end of the line (byte 10) after {line}");
     for (volumes, place, expected) in [
         // the file ends where a line is due
@@ -146,7 +146,17 @@ fn what_was_expected_in_a_volume_file_is_told() {
         (
             with(one, "V     11000000\n"),
             "line 2, column 14: found `0`",
-            format!("{end}; this line has 14; the events a day are at most 999,999"),
+            format!("{end}; this line has 14; the events a day are at most 999999"),
+        ),
+        (
+            with(one, "V     1   1205\n"),
+            "line 2, column 14: found `5`",
+            format!("{end}; this line has 14"),
+        ),
+        (
+            with(one, "V     10001205\n"),
+            "line 2, column 14: found `5`",
+            format!("{end}; this line has 14"),
         ),
         (
             good.replace('\n', "\r\n"),
@@ -169,6 +179,11 @@ fn what_was_expected_in_a_volume_file_is_told() {
             " ".repeat(70_000),
             "line 1, column 1: found ` `",
             "the letter V".to_string(),
+        ),
+        (
+            format!("V     0  1205{}", "0".repeat(70_000)),
+            "line 1, column 14: found `0`",
+            format!("{end}; this line has more than 1000"),
         ),
         (
             good.repeat(2_000),

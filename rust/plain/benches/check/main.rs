@@ -1,6 +1,6 @@
 //! Milliseconds to check plans of 300 jobs of 512 nodes: the library's call beside a plain Rust check
 //! that sweeps all nodes until nothing changes. Both read the same file and clear the same bytes.
-//! `cargo bench --offline` runs it.
+//! `cargo bench --offline -p dapohiru-plain --bench check` runs it.
 mod jobs;
 
 use dapohiru::{check, Refusal, Verdict};

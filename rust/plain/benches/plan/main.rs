@@ -1,6 +1,6 @@
 //! Milliseconds to plan 300 jobs of 512 nodes, and 300 more with 1 to 8 calls that may come back in: the
 //! library's call beside a plain Rust planner whose checks sweep all nodes until nothing changes. Both read the
-//! same file, write the same plan bytes and clear the same bytes. `cargo bench --offline --bench plan` runs it.
+//! same file, write the same plan bytes and clear the same bytes. `cargo bench --offline -p dapohiru-plain --bench plan` runs it.
 #[path = "../check/jobs.rs"]
 mod jobs;
 
