@@ -6,7 +6,12 @@ fn main() {
     println!("cargo:rerun-if-env-changed=DAPOHIRU_LIB_DIR");
     let folder = match env::var_os("DAPOHIRU_LIB_DIR") {
         Some(folder) => PathBuf::from(folder),
-        None => PathBuf::from(env!("CARGO_MANIFEST_DIR")).join("../target/staticlib"),
+        // asked for when it runs, so that a checkout may be moved with what was built in it
+        None => {
+            let package =
+                env::var_os("CARGO_MANIFEST_DIR").expect("cargo says where the package is");
+            PathBuf::from(package).join("../target/staticlib")
+        }
     };
     let archive = folder.join("libdapohiru.a");
     println!("cargo:rerun-if-changed={}", archive.display());
