@@ -33,6 +33,15 @@ static uint64_t alarms(const uint8_t *rec)
     return total;
 }
 
+/* Whether an answer is a refusal, which is told. */
+static int is_refused(uint64_t answer)
+{
+    int refused = DAPOHIRU_IS_REFUSAL(answer);
+    if (refused)
+        fprintf(stderr, "service: refused %" PRIu64 "\n", answer);
+    return refused;
+}
+
 /* Reads a file, up to so many bytes, and returns how many; an empty one, or one that cannot be read, is told and is 0. */
 static size_t read_file(const char *name, uint8_t *bytes, size_t most)
 {
@@ -70,19 +79,15 @@ int main(int argc, char **argv)
     /* planning writes a byte for each node, 0 or 1, and no other: so the bytes that change are the nodes */
     memset(plan, 255, sizeof plan);
     answer = dapohiru_plan(job, job_len, work, sizeof work, plan, sizeof plan);
-    if (DAPOHIRU_IS_REFUSAL(answer)) {
-        fprintf(stderr, "service: refused %" PRIu64 "\n", answer);
+    if (is_refused(answer))
         return 2;
-    }
     printf("points %" PRIu64 ", watched %" PRIu64 ", passes %" PRIu64 "\n", DAPOHIRU_POINTS(answer),
            DAPOHIRU_WATCHED(answer), DAPOHIRU_PASSES(answer));
     for (nodes = 0; nodes < sizeof plan && plan[nodes] != 255; nodes++)
         ;
     answer = dapohiru_price(job, job_len, plan, nodes, volumes, volumes_len);
-    if (DAPOHIRU_IS_REFUSAL(answer)) {
-        fprintf(stderr, "service: refused %" PRIu64 "\n", answer);
+    if (is_refused(answer))
         return 2;
-    }
     printf("%" PRIu64 " cents a day\n", DAPOHIRU_CENTS(answer));
     for (k = 0; k < sizeof walk / sizeof *walk; k++) {
         uint64_t report = take(walk[k].symbol, full), under_plan = DAPOHIRU_QUIET;

@@ -25,8 +25,7 @@ Exit status: 0 faithful; 1 different; 2 a refused job or plan, or something else
 
 fn run(given: &Given) -> Result<u8, String> {
     let (file, plan) = (given.name(0), given.name(1));
-    input::at_most_one_is_input(&[("JOB", Some(file)), ("PLAN", Some(plan))])
-        .map_err(|why| format!("check: {why}"))?;
+    input::at_most_one_is_input("check", &[("JOB", Some(file)), ("PLAN", Some(plan))])?;
     match job::checked(&input::job(file)?, &input::plan(plan)?)? {
         Verdict::Faithful => output::print(b"faithful\n").map(|()| 0),
         Verdict::Different => output::print(b"different\n").map(|()| 1),

@@ -44,7 +44,7 @@ fn run(given: &Given) -> Result<u8, String> {
         return Err("graph: a PNG picture is not for a terminal, take -o FILE".to_string());
     }
     let files = [("JOB", given.further(0)), ("PLAN", given.further(1))];
-    input::at_most_one_is_input(&files).map_err(|why| format!("graph: {why}"))?;
+    input::at_most_one_is_input("graph", &files)?;
     let read: Vec<_> = files.iter().filter_map(|(_, file)| *file).collect();
     output::loses_nothing(to, &read)?;
     let file = input::job(given.name(0))?;

@@ -66,14 +66,14 @@ pub fn read(name: &OsStr, most: usize) -> Result<Input, String> {
     Ok(Input { shown, bytes })
 }
 
-/// Refuses two files that are both standard input; each file stands beside what it is.
-pub fn at_most_one_is_input(files: &[(&str, Option<&OsStr>)]) -> Result<(), String> {
+/// Refuses two files of a command that are both standard input; each file stands beside what it is.
+pub fn at_most_one_is_input(command: &str, files: &[(&str, Option<&OsStr>)]) -> Result<(), String> {
     let is_input = |(_, file): &&(_, Option<&OsStr>)| file.is_some_and(|file| file == "-");
     let inputs: Vec<_> = files.iter().filter(is_input).collect();
     match inputs[..] {
-        [(one, _), (other, _), ..] => {
-            Err(format!("{one} and {other} cannot both be standard input"))
-        }
+        [(one, _), (other, _), ..] => Err(format!(
+            "{command}: {one} and {other} cannot both be standard input"
+        )),
         _ => Ok(()),
     }
 }

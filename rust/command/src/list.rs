@@ -28,8 +28,7 @@ Exit status: 0 a listing; 2 a refused job or something else that is wrong.
 
 fn run(given: &Given) -> Result<u8, String> {
     let (name, names) = (given.name(0), names::asked(given, "list")?);
-    input::at_most_one_is_input(&[("JOB", Some(name)), ("the names", names)])
-        .map_err(|why| format!("list: {why}"))?;
+    input::at_most_one_is_input("list", &[("JOB", Some(name)), ("the names", names)])?;
     let file = input::job(name)?;
     let mut listing = vec![0; dapohiru::LISTING_LEN];
     match dapohiru::list(&file.bytes, &mut vec![0; dapohiru::WORK_LEN], &mut listing) {

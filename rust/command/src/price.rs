@@ -34,13 +34,13 @@ Exit status: 0 a price; 2 a refused job, plan or volume file, or something else 
 
 fn run(given: &Given) -> Result<u8, String> {
     let names = names::asked(given, "price")?;
-    input::at_most_one_is_input(&[
+    let files = [
         ("JOB", given.further(0)),
         ("PLAN", given.further(1)),
         ("VOLUMES", given.further(2)),
         ("the names", names),
-    ])
-    .map_err(|why| format!("price: {why}"))?;
+    ];
+    input::at_most_one_is_input("price", &files)?;
     let file = input::job(given.name(0))?;
     let plan = input::plan(given.name(1))?;
     let volumes = input::volumes(given.name(2))?;
