@@ -84,11 +84,11 @@ dear-spellable n some few =
       some-entry = (0, rw (getD-replicate n 0 dearNode noNode some) (omega arith));
     }
 
--- each volume is the same
-volumes-within : (n k : ℕ) → getD (replicate n 999999) k 0 ≤ 999999
-volumes-within zero k = omega arith
-volumes-within (suc n) zero = omega arith
-volumes-within (suc n) (suc k) = volumes-within n k
+-- of a number repeated, none is larger; past the last it is 0
+pub same-within : (b n k : ℕ) → getD (replicate n b) k 0 ≤ b
+same-within b zero k = omega arith
+same-within b (suc n) zero = omega arith
+same-within b (suc n) (suc k) = same-within b n k
 
 -- with n points watched, nothing is turned back
 dear-billable
@@ -107,7 +107,7 @@ dear-billable n some few =
       lines =
           rw nodes
           (column-says volumeLine n (writeColumn 86 0 (replicate n 999999)) (replicate n 999999) .0
-          (rw volumes at (written-column 86 999999 16 (replicate n 999999) (omega arith) (omega (arith, volumes)) (volumes-within n))));
+          (rw volumes at (written-column 86 999999 16 (replicate n 999999) (omega arith) (omega (arith, volumes)) (same-within 999999 n))));
     }
 
 -- n terms that are one number
@@ -116,32 +116,36 @@ unfolding sumBelow
 sum-same zero b f h = sym (zero-mul b)
 sum-same (suc n) b f h = omega (arith, suc-mul n b, sum-same n b f (λ i l. h i (omega arith)), h n (omega arith))
 
--- their sum
-dear-cost : (n : ℕ) → dayCost housePrices (dearJob n) (replicate n 1) (replicate n 999999) ≡ n * 94999905
+-- their sum, at this price of symbol 15
+dear-cost
+    : (prices : List ℕ) (p n : ℕ) → getD prices 15 0 ≡ p
+    → dayCost prices (dearJob n) (replicate n 1) (replicate n 999999) ≡ n * (999999 * p)
 unfolding dearJob
-dear-cost n =
+dear-cost prices p n is =
     ap
     (λ (k : ℕ).
     sumBelow k
-    (λ m. cost housePrices (pointOf (nodeAt (dearJob n) m .kind)) (enables (replicate n 1) m) (getD (replicate n 999999) m 0)))
+    (λ m. cost prices (pointOf (nodeAt (dearJob n) m .kind)) (enables (replicate n 1) m) (getD (replicate n 999999) m 0)))
     (length-replicate n dearNode)
-    ∙ sum-same n 94999905
-    (λ m. cost housePrices (pointOf (nodeAt (dearJob n) m .kind)) (enables (replicate n 1) m) (getD (replicate n 999999) m 0))
+    ∙ sum-same n (999999 * p)
+    (λ m. cost prices (pointOf (nodeAt (dearJob n) m .kind)) (enables (replicate n 1) m) (getD (replicate n 999999) m 0))
     (λ m h.
     rw (
       getD-replicate n m dearNode noNode h,
       getD-replicate {A = ℕ} n m 1 0 h,
       getD-replicate {A = ℕ} n m 999999 0 h,
-      house-prices-say .rule 15 (omega arith),
+      is,
     ))
 
--- 512 points have the largest price
-dearest-price : priced (writeJob dearest) (replicate 512 1) (writeColumn 86 0 (replicate 512 999999)) ≡ Cents maxPrice
+-- the price of 512 points
+pub dearest-price
+    : (prices : List ℕ) (p : ℕ) → getD prices 15 0 ≡ p
+    → pricedAt prices (writeJob dearest) (replicate 512 1) (writeColumn 86 0 (replicate 512 999999)) ≡ Cents (centsOf (512 * (999999 * p)))
 unfolding dearJob
-dearest-price =
-    price-of housePrices (writeJob dearest) (replicate 512 1) (writeColumn 86 0 (replicate 512 999999))
+dearest-price prices p is =
+    price-of prices (writeJob dearest) (replicate 512 1) (writeColumn 86 0 (replicate 512 999999))
     (dear-billable 512 (omega arith) (omega arith))
-    ∙ ap (λ (t : ℕ). Cents (centsOf t)) (dear-cost 512)
+    ∙ ap (λ (t : ℕ). Cents (centsOf t)) (dear-cost prices p 512 is)
 
 -- ---- no price is larger
 
@@ -161,7 +165,7 @@ day-cost-most prices top j plan counts most within =
     (λ n l. cost-most prices top (pointOf (nodeAt j n .kind)) (enables plan n) (getD counts n 0) most (within n))
 
 -- so no price is above that of 512 such points
-price-most
+pub price-most
     : (prices : List ℕ) (top : ℕ) (file plan volumes : List ℕ) (c : ℕ) → ((s : ℕ) → getD prices s 0 ≤ top)
     → pricedAt prices file plan volumes ≡ Cents c → c ≤ centsOf (512 * (999999 * top))
 price-most prices top file plan volumes c most e =
@@ -180,4 +184,4 @@ price-at-most file plan volumes c e = price-most housePrices 95 file plan volume
 
 -- the largest price
 pub largest-price : LargestPrice
-largest-price = record { at-most = price-at-most; reached = dearest-price }
+largest-price = record { at-most = price-at-most; reached = dearest-price housePrices 95 (house-prices-say .rule 15 (omega arith)) }

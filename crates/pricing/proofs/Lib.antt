@@ -2,6 +2,7 @@
 -- Assumes nothing.
 pub mod PricingTrialsPass
 pub mod NumberedLaws
+pub mod ColumnLines
 pub mod NumberedAlikeLaws
 pub mod PricingLaws
 pub mod PricingSays

@@ -79,6 +79,19 @@ column-says k c file numbers = (
   λ f. column-read k c file (f .lines) (f .stand) ∙ ap column (sym (f .are)),
 )
 
+-- there are no numbers if and only if the file is not exactly such lines
+pub no-column-says
+    : (k : LineKind) (c : ℕ) (file : List ℕ)
+    → (columnIn k c file ≡ not-these-lines) ↔ ((numbers : List ℕ) → ColumnFile k c file numbers → ⊥)
+no-column-says k c file = (
+  λ e numbers f. let z : _≡_ {A = ℕ} 0 1 = ap tag (sym e ∙ column-says k c file numbers .1 f) in omega arith,
+  λ none. go none (columnIn k c file) refl,
+)
+  where
+    go : ((numbers : List ℕ) → ColumnFile k c file numbers → ⊥) → (x : Column) → columnIn k c file ≡ x → columnIn k c file ≡ not-these-lines
+    go none (column numbers) e = absurd (none numbers (column-says k c file numbers .0 e))
+    go none not-these-lines e = e
+
 -- ---- writing
 
 -- the numbers of the lines, from place i on

@@ -22,10 +22,10 @@ use Rattle.checking.proofs.CheckLaws.{marks}
 use Rattle.checking.proofs.CheckingSays.{mark-good, marks-say}
 use Rattle.pricing.specs.declared.price.Price.{Price}
 use Rattle.pricing.specs.declared.price.Price.the-variants.{Cents, Refused}
-use Rattle.pricing.specs.Numbered.{Column, column, not-these-lines, columnIn, ColumnFile}
+use Rattle.pricing.specs.Numbered.{Column, column, not-these-lines, columnIn}
 use Rattle.pricing.specs.Pricing.{volumeLine, housePrices, dayCost, centsOf, pricedJob, pricedAt, priceNumber}
 use Rattle.pricing.specs.PricingSays.{Billable, SaysPrice, PriceRefused, job-refused, other-length, other-mark, other-lines, RefusesPrice, CostsSay, HousePricesSay, priceRead, PriceByNumber}
-use Rattle.pricing.proofs.NumberedLaws.{column-says}
+use Rattle.pricing.proofs.NumberedLaws.{column-says, no-column-says}
 use Rattle.pricing.proofs.PricingLaws.{priced-11, priced-12, priced-billed, priced-turned, priced-job, cents-covers, covers-cents}
 
 -- ---- plan bytes
@@ -62,17 +62,18 @@ module _ (prices file plan volumes : List ℕ) where
     said-volumes : length plan ≡ length (j .nodes) → goodMarks j plan ≡ true → Says (pricedAt prices file plan volumes)
     said-volumes bytes g = go (columnIn volumeLine (length (j .nodes)) volumes) refl
       where
-        lines-are : (counts : List ℕ) → (columnIn volumeLine (length (j .nodes)) volumes ≡ column counts) ↔ ColumnFile volumeLine (length (j .nodes)) volumes counts
-        lines-are = column-says volumeLine (length (j .nodes)) volumes
-
         go : (x : Column) → columnIn volumeLine (length (j .nodes)) volumes ≡ x → Says (pricedAt prices file plan volumes)
         go (column counts) e =
             of-job (priced-billed prices j plan volumes (column counts) bytes g e)
-            (has-price (record { spells = spells; bytes = bytes; marks = marks-say j plan .0 g; lines = lines-are counts .0 e }))
+            (has-price (record {
+              spells = spells;
+              bytes = bytes;
+              marks = marks-say j plan .0 g;
+              lines = column-says volumeLine (length (j .nodes)) volumes counts .0 e;
+            }))
         go not-these-lines e =
             of-job (priced-billed prices j plan volumes not-these-lines bytes g e)
-            (has-refusal (other-lines spells bytes (marks-say j plan .0 g)
-            (λ counts f. let z : _≡_ {A = ℕ} 0 1 = cc (e, lines-are counts .1 f) in omega arith)))
+            (has-refusal (other-lines spells bytes (marks-say j plan .0 g) (no-column-says volumeLine (length (j .nodes)) volumes .0 e)))
 
     -- the answer for a job
     said-job : Says (pricedAt prices file plan volumes)
@@ -131,11 +132,7 @@ module _ (prices file plan volumes : List ℕ) where
   refused-answer (other-lines {j} e bytes marks none) =
       priced-job prices file plan volumes j e
       ∙ priced-billed prices j plan volumes not-these-lines bytes (marks-say j plan .1 marks)
-      (go (columnIn volumeLine (length (j .nodes)) volumes) refl)
-    where
-      go : (x : Column) → columnIn volumeLine (length (j .nodes)) volumes ≡ x → x ≡ not-these-lines
-      go (column counts) is = absurd (none counts (column-says volumeLine (length (j .nodes)) volumes counts .0 is))
-      go not-these-lines is = refl
+      (no-column-says volumeLine (length (j .nodes)) volumes .1 none)
 
 -- a price is said of what is not turned back, and is the least that covers the sum
 pub price-says : SaysPrice
