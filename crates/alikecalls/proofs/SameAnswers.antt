@@ -1,5 +1,5 @@
 -- Files alike get the same answer of every call: they have one length and are read alike, and no call looks at more of its file. Volume files
--- alike have the same volumes or none, and pricing looks at no more of them.
+-- alike have the same volumes or none, price files alike the same prices or none, and pricing looks at no more of them.
 -- Assumes nothing.
 use mathlib.Core.Path.{_≡_, refl, sym, ap, _∙_}
 use mathlib.Core.Logic.{_≢_}
@@ -10,21 +10,39 @@ use lib.Dec.{ltb}
 use lib.ListN.{length}
 use Rattle.job.specs.Job.{Job}
 use Rattle.jobfile.specs.File.{Answer, accepted, readJob}
+use Rattle.jobfile.specs.Alike.{Alike}
 use Rattle.jobfile.proofs.AlikeLaws.{alike-says}
 use Rattle.buffer.specs.Buffer.{workSize}
 use Rattle.admission.specs.Admission.{admitted}
 use Rattle.checking.specs.declared.check.Verdict.{Verdict}
 use Rattle.checking.specs.Checking.{answered, checked}
-use Rattle.pricing.specs.Numbered.{columnIn}
-use Rattle.pricing.specs.Pricing.{volumeLine, housePrices, pricedJob, answeredAt, pricedAt, priced}
+use Rattle.pricing.specs.Numbered.{Column, column, not-these-lines, columnIn}
+use Rattle.pricing.specs.Pricing.{volumeLine, housePrices, pricedJob, answeredAt, pricedAt}
 use Rattle.pricing.specs.NumberedAlike.{AlikeColumn}
 use Rattle.pricing.specs.PricingSays.{PriceRefused, job-refused, other-length, other-mark, other-lines}
 use Rattle.pricing.proofs.PricingLaws.{priced-job}
 use Rattle.pricing.proofs.PricingSays.{price-refused}
 use Rattle.pricing.proofs.NumberedAlikeLaws.{numbered-say-alike}
+use Rattle.pricelist.specs.PriceList.{priceLine, pricesIn, unlisted, answeredBy, pricedBy}
+use Rattle.pricelist.specs.PriceListSays.{OwnPriceRefused, without-prices, other-prices}
+use Rattle.pricelist.proofs.PriceListSays.{own-price-refused}
 use Rattle.planoutcome.specs.PlanCall.{planSize, planAnswer}
 use Rattle.listoutcome.specs.ListCall.{listingSize, listAnswer}
-use Rattle.alikecalls.specs.SameAnswers.{planGives, listGives, checkGives, priceGives, printGives, OneAnswer, OnePrice, SameAnswers}
+use Rattle.alikecalls.specs.SameAnswers.{planGives, listGives, checkGives, priceGives, printGives, OneAnswer, OnePrice, OneOwnPrice, SameAnswers}
+
+-- the answer of pricing is one, whatever the prices
+abbrev SamePrice : List ℕ → List ℕ → List ℕ → List ℕ → List ℕ → Type 0
+SamePrice file other plan f g = (prices : List ℕ) → pricedAt prices file plan f ≡ pricedAt prices other plan g
+
+-- so it is by any price file
+same-own-price
+    : (file other plan f g prices : List ℕ) → SamePrice file other plan f g → pricedBy file plan f prices ≡ pricedBy other plan g prices
+unfolding pricedBy
+same-own-price file other plan f g prices same = go (pricesIn prices)
+  where
+    go : (x : Column) → answeredBy x file plan f ≡ answeredBy x other plan g
+    go (column list) = same list
+    go not-these-lines = ap unlisted (same housePrices)
 
 module _ (f g : List ℕ) (long : length f ≡ length g) (read : readJob f ≡ readJob g) where
   -- what a call begins with
@@ -45,10 +63,10 @@ module _ (f g : List ℕ) (long : length f ≡ length g) (read : readJob f ≡ r
   unfolding checked
   same-verdict plan work = ap (λ (x : Answer). answered x plan) (same-admission (ltb work workSize))
 
-  -- the price
-  same-price : (plan volumes : List ℕ) → priced f plan volumes ≡ priced g plan volumes
+  -- the price, at any prices
+  same-price : (plan volumes : List ℕ) → SamePrice f g plan volumes volumes
   unfolding pricedAt
-  same-price plan volumes = ap (λ (x : Answer). answeredAt housePrices x plan volumes) read
+  same-price plan volumes prices = ap (λ (x : Answer). answeredAt prices x plan volumes) read
 
   -- all that a call gives
   one-answer : OneAnswer f g
@@ -61,18 +79,31 @@ module _ (f g : List ℕ) (long : length f ≡ length g) (read : readJob f ≡ r
         listing = λ work listing. ap (λ (x : Answer). listGives x work listing) (same-list (length work) (length listing));
         verdict = same-verdict;
         checking = λ plan work. ap (λ (v : Verdict). checkGives v work) (same-verdict plan (length work));
-        pricing = λ plan volumes. ap priceGives (same-price plan volumes);
+        pricing = λ plan volumes. ap priceGives (same-price plan volumes housePrices);
+        own-pricing = λ plan volumes prices. ap priceGives (same-own-price f g plan volumes volumes prices (same-price plan volumes));
         printing = λ work. ap (λ (x : Answer). printGives x work) (same-admission false);
       }
 
--- volume files that are read alike get one price
+-- ---- volume files
+
+-- those that are read alike get one price, at any prices
+same-volumes
+    : (file f g : List ℕ) (j : Job) → readJob file ≡ accepted j
+    → columnIn volumeLine (length (j .nodes)) f ≡ columnIn volumeLine (length (j .nodes)) g → (plan : List ℕ) → SamePrice file file plan f g
+unfolding pricedJob
+same-volumes file f g j spells same plan prices =
+    let one : pricedJob prices j plan f ≡ pricedJob prices j plan g = rw same in
+    priced-job prices file plan f j spells ∙ one ∙ sym (priced-job prices file plan g j spells)
+
+-- so they do of both calls
 one-price
     : (file f g : List ℕ) (j : Job) → readJob file ≡ accepted j
     → columnIn volumeLine (length (j .nodes)) f ≡ columnIn volumeLine (length (j .nodes)) g → OnePrice file f g
-unfolding pricedJob
-one-price file f g j spells same plan =
-    let one : pricedJob housePrices j plan f ≡ pricedJob housePrices j plan g = rw same in
-    ap priceGives (priced-job housePrices file plan f j spells ∙ one ∙ sym (priced-job housePrices file plan g j spells))
+one-price file f g j spells same =
+    record {
+      house = λ plan. ap priceGives (same-volumes file f g j spells same plan housePrices);
+      own = λ plan prices. ap priceGives (same-own-price file file plan f g prices (same-volumes file f g j spells same plan));
+    }
 
 -- a refusal of a job file or a plan is that beside any volume file
 same-refusal : (file plan f g : List ℕ) {r : ℕ} → r ≢ 16 → PriceRefused file plan f r → PriceRefused file plan g r
@@ -81,10 +112,38 @@ same-refusal file plan f g h (other-length e bytes) = other-length e bytes
 same-refusal file plan f g h (other-mark e bytes within bad) = other-mark e bytes within bad
 same-refusal file plan f g h (other-lines e bytes marks none) = absurd (h refl)
 
--- volume files alike
-same-volumes
-    : (file f g : List ℕ) (j : Job) → readJob file ≡ accepted j → AlikeColumn volumeLine (length (j .nodes)) f g → OnePrice file f g
-same-volumes file f g j spells a = one-price file f g j spells (numbered-say-alike .read-alike volumeLine (length (j .nodes)) f g a)
+-- job files alike beside volume files alike, at any prices
+job-and-volumes
+    : (file other f g plan : List ℕ) (j : Job) → Alike file other → readJob file ≡ accepted j → AlikeColumn volumeLine (length (j .nodes)) f g
+    → SamePrice file other plan f g
+job-and-volumes file other f g plan j a spells v prices =
+    same-volumes file f g j spells (numbered-say-alike .read-alike volumeLine (length (j .nodes)) f g v) plan prices
+    ∙ same-price file other (a .long) (alike-says .read-alike file other a) plan g prices
+
+-- ---- price files
+
+-- those that are read alike get one price
+one-own-price : (f g : List ℕ) → pricesIn f ≡ pricesIn g → OneOwnPrice f g
+unfolding pricedBy
+one-own-price f g same file plan volumes = ap (λ (x : Column). priceGives (answeredBy x file plan volumes)) same
+
+-- alike ones are
+prices-alike : (f g : List ℕ) → AlikeColumn priceLine 16 f g → pricesIn f ≡ pricesIn g
+prices-alike f g a = numbered-say-alike .read-alike priceLine 16 f g a
+
+-- any refusal of the second call but 28 is that beside any price file
+prices-last
+    : (file plan volumes f g : List ℕ) {r : ℕ} → r ≢ 28 → OwnPriceRefused file plan volumes f r → OwnPriceRefused file plan volumes g r
+prices-last file plan volumes f g h (without-prices b) = without-prices b
+prices-last file plan volumes f g h (other-prices b none) = absurd (h refl)
+
+-- and any but 16 and 28 is that beside any volume file
+volumes-before-prices
+    : (file plan f g prices : List ℕ) {r : ℕ} → r ≢ 16 → r ≢ 28 → OwnPriceRefused file plan f prices r → OwnPriceRefused file plan g prices r
+volumes-before-prices file plan f g prices h k (without-prices b) = without-prices (same-refusal file plan f g h b)
+volumes-before-prices file plan f g prices h k (other-prices b none) = absurd (k refl)
+
+-- ---- the theorem
 
 -- files alike, or alike as far as they are looked at
 pub same-answers : SameAnswers
@@ -92,13 +151,26 @@ same-answers =
     record {
       alike = λ f g a. one-answer f g (a .long) (alike-says .read-alike f g a);
       no-further = λ f g due same d a. one-answer f g same (alike-says .no-further f g due same d a);
-      volumes = same-volumes;
+      volumes = λ file f g j spells a.
+          one-price file f g j spells (numbered-say-alike .read-alike volumeLine (length (j .nodes)) f g a);
       job-and-volumes = λ file other f g plan j a spells v.
-          same-volumes file f g j spells v plan ∙ ap priceGives (same-price file other (a .long) (alike-says .read-alike file other a) plan g);
+          ap priceGives (job-and-volumes file other f g plan j a spells v housePrices);
       volumes-turned-back = λ file f g j r spells b a.
           one-price file f g j spells (numbered-say-alike .turned-back volumeLine (length (j .nodes)) f g r b a);
       volumes-no-further = λ file f g due j spells long d a.
           one-price file f g j spells (numbered-say-alike .no-further volumeLine (length (j .nodes)) f g due long d a);
       volumes-last = λ file plan f g r h e.
           price-refused housePrices file plan g r .1 (same-refusal file plan f g h (price-refused housePrices file plan f r .0 e));
+      prices = λ f g a. one-own-price f g (prices-alike f g a);
+      job-volumes-and-prices = λ file other f g p q plan j a spells v b.
+          ap priceGives (same-own-price file other plan f g p (job-and-volumes file other f g plan j a spells v))
+          ∙ one-own-price p q (prices-alike p q b) other plan g;
+      prices-turned-back = λ f g r b a. one-own-price f g (numbered-say-alike .turned-back priceLine 16 f g r b a);
+      prices-no-further = λ f g due long d a. one-own-price f g (numbered-say-alike .no-further priceLine 16 f g due long d a);
+      prices-last = λ file plan volumes f g r h e.
+          own-price-refused file plan volumes g r .1
+          (prices-last file plan volumes f g h (own-price-refused file plan volumes f r .0 e));
+      volumes-before-prices = λ file plan f g prices r h k e.
+          own-price-refused file plan g prices r .1
+          (volumes-before-prices file plan f g prices h k (own-price-refused file plan f prices r .0 e));
     }

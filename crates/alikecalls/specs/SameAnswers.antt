@@ -1,7 +1,8 @@
 -- "A file with them", zeros before a number's digits, "must give the same answer as the file written without" (document 02, request 5): of
--- every call that is lent a job file or a volume file, the answer, its number and every lent byte. Which job files are alike is `jobfile`'s
--- `Alike.antt`: the one written without zeros is alike each file of its job (`ReadsWhatIsWritten` of `Spellable.antt`). Which volume files are
--- alike is `pricing`'s `NumberedAlike.antt`: the one written without zeros is alike each file of its volumes (`written` there).
+-- every call that is lent a job file, a volume file or a price file, the answer, its number and every lent byte. Which job files are alike is
+-- `jobfile`'s `Alike.antt`: the one written without zeros is alike each file of its job (`ReadsWhatIsWritten` of `Spellable.antt`). Which volume
+-- files are alike, and which price files, is `pricing`'s `NumberedAlike.antt`: the one written without zeros is alike each file of its numbers
+-- (`written` there).
 -- Assumes nothing.
 use mathlib.Core.Path.{_≡_}
 use mathlib.Core.Logic.{_≢_}
@@ -22,6 +23,7 @@ use Rattle.pricing.specs.declared.price.Price.{Price}
 use Rattle.pricing.specs.declared.price.Price.the-variants.{Refused}
 use Rattle.pricing.specs.Pricing.{volumeLine, priced, priceNumber}
 use Rattle.pricing.specs.NumberedAlike.{ColumnDue, AlikeColumn}
+use Rattle.pricelist.specs.PriceList.{priceLine, pricedBy}
 use Rattle.planoutcome.specs.declared.plan.Outcome.{Outcome}
 use Rattle.planoutcome.specs.PlanCall.{planAnswer, outcomeOf, planAfter, planNumber}
 use Rattle.listoutcome.specs.declared.list.Listed.{Listed}
@@ -79,8 +81,8 @@ pub record PrintResult : Type 0 where
 abbrev pub printGives : Answer → List ℕ → PrintResult
 printGives a work = record { text = printedFor a; work = workAfter a work }
 
--- two files get the same of every call. Each contract of a call names its file in `admitted`, `planAnswer`, `listAnswer`, `checked` or `priced` alone,
--- so what is said of these is said of all that a call gives
+-- two files get the same of every call. Each contract of a call names its file in `admitted`, `planAnswer`, `listAnswer`, `checked`, `priced` or
+-- `pricedBy` alone, so what is said of these is said of all that a call gives
 pub record OneAnswer (f g : List ℕ) : Type 0 where
   -- what every call begins with
   pub admission : (short : Bool) → admitted f short ≡ admitted g short
@@ -96,16 +98,24 @@ pub record OneAnswer (f g : List ℕ) : Type 0 where
   pub verdict : (plan : List ℕ) (work : ℕ) → checked f plan work ≡ checked g plan work
   pub checking : (plan work : List ℕ) → checkGives (checked f plan (length work)) work ≡ checkGives (checked g plan (length work)) work
   pub pricing : (plan volumes : List ℕ) → priceGives (priced f plan volumes) ≡ priceGives (priced g plan volumes)
+  pub own-pricing
+      : (plan volumes prices : List ℕ) → priceGives (pricedBy f plan volumes prices) ≡ priceGives (pricedBy g plan volumes prices)
   pub printing : (work : List ℕ) → printGives (admitted f false) work ≡ printGives (admitted g false) work
 
--- two volume files get the same of pricing, beside one job file
-abbrev pub OnePrice : List ℕ → List ℕ → List ℕ → Type 0
-OnePrice file f g = (plan : List ℕ) → priceGives (priced file plan f) ≡ priceGives (priced file plan g)
+-- two volume files get the same of both calls of pricing, beside one job file
+pub record OnePrice (file f g : List ℕ) : Type 0 where
+  pub house : (plan : List ℕ) → priceGives (priced file plan f) ≡ priceGives (priced file plan g)
+  pub own : (plan prices : List ℕ) → priceGives (pricedBy file plan f prices) ≡ priceGives (pricedBy file plan g prices)
+
+-- two price files get the same of the second, beside any other files
+abbrev pub OneOwnPrice : List ℕ → List ℕ → Type 0
+OneOwnPrice f g = (file plan volumes : List ℕ) → priceGives (pricedBy file plan volumes f) ≡ priceGives (pricedBy file plan volumes g)
 
 -- the statement: files alike, cut, damaged or sound, get the same of every call; so do files of one length that are too long, or alike in the
--- lines up to one that is turned back, whatever follows it. So do volume files, by a V line for each node of the job: alike ones, beside job
--- files alike too; those alike in the lines up to one that is turned back; those of one length that are alike in the lines due, whatever
--- follows these; and any beside a job file or a plan that is refused, for they are looked at last
+-- lines up to one that is turned back, whatever follows it. So do volume files, by a V line for each node of the job, and price files, by
+-- sixteen B lines: alike ones, beside other files alike too; those alike in the lines up to one that is turned back; those of one length that
+-- are alike in the lines due, whatever follows these; and any beside what is refused before them, for volume files are looked at after job and
+-- plan, and price files last
 pub record SameAnswers : Type 0 where
   pub alike : (f g : List ℕ) → Alike f g → OneAnswer f g
   pub no-further : (f g due : List ℕ) → length f ≡ length g → TurnedDue f due → AlikeUpTo due f g → OneAnswer f g
@@ -121,3 +131,18 @@ pub record SameAnswers : Type 0 where
       : (file f g due : List ℕ) (j : Job) → readJob file ≡ accepted j → length f ≡ length g
       → ColumnDue volumeLine (length (j .nodes)) f due → AlikeUpTo due f g → OnePrice file f g
   pub volumes-last : (file plan f g : List ℕ) (r : ℕ) → r ≢ 16 → priced file plan f ≡ Refused r → priced file plan g ≡ Refused r
+  pub prices : (f g : List ℕ) → AlikeColumn priceLine 16 f g → OneOwnPrice f g
+  pub job-volumes-and-prices
+      : (file other f g p q plan : List ℕ) (j : Job) → Alike file other → readJob file ≡ accepted j
+      → AlikeColumn volumeLine (length (j .nodes)) f g → AlikeColumn priceLine 16 p q
+      → priceGives (pricedBy file plan f p) ≡ priceGives (pricedBy other plan g q)
+  pub prices-turned-back
+      : (f g : List ℕ) (r : ℕ) (b : FirstBad priceLine 16 0 [] f r) → AlikeUpTo (replicate (length (b .passed)) 2 ++ (2 ∷ [])) f g
+      → OneOwnPrice f g
+  pub prices-no-further
+      : (f g due : List ℕ) → length f ≡ length g → ColumnDue priceLine 16 f due → AlikeUpTo due f g → OneOwnPrice f g
+  pub prices-last
+      : (file plan volumes f g : List ℕ) (r : ℕ) → r ≢ 28 → pricedBy file plan volumes f ≡ Refused r → pricedBy file plan volumes g ≡ Refused r
+  pub volumes-before-prices
+      : (file plan f g prices : List ℕ) (r : ℕ) → r ≢ 16 → r ≢ 28 → pricedBy file plan f prices ≡ Refused r
+      → pricedBy file plan g prices ≡ Refused r

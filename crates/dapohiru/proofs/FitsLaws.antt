@@ -20,6 +20,8 @@ use Rattle.pricing.specs.declared.price.Price.the-variants.{Cents, Refused as P
 use Rattle.pricing.specs.Pricing.{priced}
 use Rattle.pricing.specs.Inner.{CentsFit}
 use Rattle.pricing.proofs.LargestPrice.{price-at-most}
+use Rattle.pricelist.specs.PriceList.{pricedBy}
+use Rattle.pricelist.proofs.PriceListSays.{own-price-at-most}
 use Rattle.answernumbers.specs.Fits.{OutcomeFits, ListedFits}
 
 -- of planning
@@ -38,3 +40,8 @@ listed-fits file short (ListedRefused k) e = tt
 pub price-fits : (file plan volumes : List ℕ) (r : Price) → r ≡ priced file plan volumes → CentsFit r
 price-fits file plan volumes (Cents c) e = omega (arith, price-at-most file plan volumes c (sym e))
 price-fits file plan volumes (PriceRefused k) e = tt
+
+-- and of pricing by a price file
+pub own-price-fits : (file plan volumes prices : List ℕ) (r : Price) → r ≡ pricedBy file plan volumes prices → CentsFit r
+own-price-fits file plan volumes prices (Cents c) e = omega (arith, own-price-at-most file plan volumes prices c (sym e))
+own-price-fits file plan volumes prices (PriceRefused k) e = tt

@@ -1,53 +1,21 @@
--- `pricecall::price_plan` meets its contract: a refusal of the job file, or the answer for the job that was admitted.
+-- `pricecall::price_plan` meets its contract: the answer at the house prices.
 -- Assumes nothing.
 use borrow.Author.Needs.{needs}
-use lib.ListN.{replicate}
-use Rattle.buffer.specs.Buffer.{workSize}
-use Rattle.pricecall.proofs.PriceCallLaws.{enough, price-turned, price-fit, price-billed}
+use Rattle.pricecall.proofs.PriceCallLaws.{house-fit, at-house}
 use Rattle.pricecall.proofs.price_plan.Statement.{statement}
 use Rattle.pricecall.proofs.price_plan.Tie as tie
-
-slice-aggregate-admit : tie.Need-slice-aggregate-admit
-slice-aggregate-admit c = search needs
-
-admit-requires : tie.Need-admit-requires
-admit-requires c κs = search needs
-
-returns : tie.Need-returns
-returns c =
-    let x = c .before .before .before .before .before .before .before .args in
-    let r = c .before .before .admit in
-    price-turned (x .file .now) (x .plan .now) (x .volumes .now) (replicate workSize 0) (r .last .1 .0) (r .result) enough (r .ensures) (c .if1 .taken)
 
 house-prices-requires : tie.Need-house-prices-requires
 house-prices-requires c κs = search needs
 
-slice-aggregate-bill : tie.Need-slice-aggregate-bill
-slice-aggregate-bill c = search needs
+price-at-requires : tie.Need-price-at-requires
+price-at-requires c κs = house-fit (c .before .house-prices .result) (c .before .house-prices .ensures)
 
-bill-requires : tie.Need-bill-requires
-bill-requires c κs =
-    let x = c .before .before .before .before .before .before .before .before .before .before .args in
-    let r = c .before .before .before .before .before .admit in
-    price-fit (x .file .now) (x .plan .now) (x .volumes .now) (replicate workSize 0) (r .last .1 .0) (r .result) enough (r .ensures)
-    (c .before .before .house-prices .result) (c .before .before .before .if1 .left) (c .before .before .house-prices .ensures)
-
-returns-2 : tie.Need-returns-2
-returns-2 c =
-    let x = c .before .before .before .before .before .before .before .before .before .before .before .args in
-    let r = c .before .before .before .before .before .before .admit in
-    price-billed (x .file .now) (x .plan .now) (x .volumes .now) (replicate workSize 0) (r .last .1 .0) (r .result) enough (r .ensures)
-    (c .before .before .before .house-prices .result) (c .bill .result) (c .before .before .before .before .if1 .left)
-    (c .before .before .before .house-prices .ensures) (c .bill .ensures)
+returns : tie.Need-returns
+returns c =
+    let x = c .before .before .before .before .before .before .args in
+    let house = c .before .before .house-prices in
+    at-house (x .file .now) (x .plan .now) (x .volumes .now) (house .result) (c .price-at .result) (house .ensures) (c .price-at .ensures)
 
 pub price-plan-spec : {M : Type 1} → statement M
-price-plan-spec =
-    tie.close
-    (tie.spec
-    slice-aggregate-admit
-    admit-requires
-    returns
-    house-prices-requires
-    slice-aggregate-bill
-    bill-requires
-    returns-2)
+price-plan-spec = tie.close (tie.spec house-prices-requires price-at-requires returns)
