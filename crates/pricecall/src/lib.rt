@@ -2,11 +2,12 @@
 ghost use mathlib.Core.Path.{_≡_};
 ghost use Rattle.pricing.specs.Inner.{PricesFit};
 ghost use Rattle.pricing.specs.Pricing.{pricedAt, priced};
-ghost use Rattle.pricelist.specs.PriceList.{unlisted, pricedBy};
+ghost use Rattle.pricelist.specs.PriceList.{pricedBy};
 use buffer::WORK;
 use door::admit;
 use priceheld::bill;
 use pricereader::read_prices;
+use pricereader::without_prices;
 use pricing::price::Price;
 use tariff::house_prices;
 
@@ -30,16 +31,6 @@ pub fn price_plan(file: &[u8], plan: &[u8], volumes: &[u8]) -> Price
 {
     let prices = house_prices();
     price_at(file, plan, volumes, &prices)
-}
-
-// The answer where the price file is not its lines.
-fn without_prices(price: Price) -> Price
-    ensures { λ r. ⌜ r ≡ unlisted price ⌝ }
-{
-    match price {
-        Price::Cents(_) => Price::Refused(28),
-        Price::Refused(number) => Price::Refused(number),
-    }
 }
 
 // Prices a plan at the prices of a price file.

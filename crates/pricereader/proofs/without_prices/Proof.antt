@@ -1,10 +1,10 @@
--- `pricecall::without_prices` meets its contract, in either case of the answer.
+-- `pricereader::without_prices` meets its contract, in either case of the answer.
 -- Assumes nothing.
 use mathlib.Core.Path.{sym, ap}
 use borrow.Author.Needs.{needs}
 use Rattle.pricelist.specs.PriceList.{unlisted}
-use Rattle.pricecall.proofs.without_prices.Statement.{statement}
-use Rattle.pricecall.proofs.without_prices.Tie as tie
+use Rattle.pricereader.proofs.without_prices.Statement.{statement}
+use Rattle.pricereader.proofs.without_prices.Tie as tie
 
 enum-told : tie.Need-enum-told
 enum-told c = search needs
