@@ -3,4 +3,4 @@ mod cases;
 mod memory;
 
 pub use cases::{cases, refused, By, Case};
-pub use memory::{Memory, Split};
+pub use memory::Memory;
