@@ -1,9 +1,10 @@
 /*
- * A service in C: plans a job, prices the plan, then takes the events of one walk on two records, one with all
- * points watched and one under the plan.
+ * A service in C: plans a job, prices the plan, by a price file if it is given one, then takes the events of one walk
+ * on two records, one with all points watched and one under the plan.
  *
  *     cc -std=c99 -Iinclude examples/service.c target/staticlib/libdapohiru.a -o service
  *     ./service examples/pair.job examples/pair.volumes
+ *     ./service examples/pair.job examples/pair.volumes examples/association.prices
  */
 #include "dapohiru.h"
 
@@ -61,20 +62,23 @@ static size_t read_file(const char *name, uint8_t *bytes, size_t most)
 int main(int argc, char **argv)
 {
     /* one byte more than the longest file, so that a longer one is refused and not cut */
-    static uint8_t job[DAPOHIRU_JOB_LEN + 1], volumes[DAPOHIRU_VOLUMES_LEN + 1];
+    static uint8_t job[DAPOHIRU_JOB_LEN + 1], volumes[DAPOHIRU_VOLUMES_LEN + 1], prices[DAPOHIRU_PRICES_LEN + 1];
     static uint8_t work[DAPOHIRU_WORK_LEN], plan[DAPOHIRU_PLAN_LEN];
     static const struct { size_t node; uint64_t symbol; } walk[] = {{0, 0}, {1, 0}, {2, 2}};
     uint8_t full[DAPOHIRU_RECORD_LEN] = {0}, planned[DAPOHIRU_RECORD_LEN] = {0};
     uint64_t answer;
-    size_t job_len, volumes_len, nodes, k;
+    size_t job_len, volumes_len, prices_len = 0, nodes, k;
+    const int has_prices = argc == 4;
 
-    if (argc != 3) {
-        fprintf(stderr, "usage: service JOB VOLUMES\n");
+    if (argc != 3 && !has_prices) {
+        fprintf(stderr, "usage: service JOB VOLUMES [PRICES]\n");
         return 2;
     }
     job_len = read_file(argv[1], job, sizeof job);
     volumes_len = read_file(argv[2], volumes, sizeof volumes);
-    if (job_len == 0 || volumes_len == 0)
+    if (has_prices)
+        prices_len = read_file(argv[3], prices, sizeof prices);
+    if (job_len == 0 || volumes_len == 0 || (has_prices && prices_len == 0))
         return 2;
     /* planning writes a byte for each node, 0 or 1, and no other: so the bytes that change are the nodes */
     memset(plan, 255, sizeof plan);
@@ -85,7 +89,8 @@ int main(int argc, char **argv)
            DAPOHIRU_WATCHED(answer), DAPOHIRU_PASSES(answer));
     for (nodes = 0; nodes < sizeof plan && plan[nodes] != 255; nodes++)
         ;
-    answer = dapohiru_price(job, job_len, plan, nodes, volumes, volumes_len);
+    answer = has_prices ? dapohiru_price_by(job, job_len, plan, nodes, volumes, volumes_len, prices, prices_len)
+                        : dapohiru_price(job, job_len, plan, nodes, volumes, volumes_len);
     if (is_refused(answer))
         return 2;
     printf("%" PRIu64 " cents a day\n", DAPOHIRU_CENTS(answer));

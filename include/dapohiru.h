@@ -1,9 +1,9 @@
 /*
- * Planning, listing, the plan check, the journal price of a plan and the event step of the monitor: the five
- * calls of the static library libdapohiru.a, for C (from C99 on) and C++.
+ * Planning, listing, the plan check, the journal price of a plan by the house table and by a price file, and the
+ * event step of the monitor: the six calls of the static library libdapohiru.a, for C (from C99 on) and C++.
  *
  * Each call gets byte buffers, each as a pointer and a length, and returns one 64-bit number. A number
- * from 1 to 16 is a refusal. Every other answer has DAPOHIRU_ACCEPTED added.
+ * from 1 to 16, or 28, is a refusal. Every other answer has DAPOHIRU_ACCEPTED added.
  *
  * The caller owns every buffer, before and after. Buffers marked const are only read. A pointer is valid
  * for its length; where the length is 0 it is not looked at, and may be anything but NULL. Buffers that a
@@ -28,6 +28,7 @@ extern "C" {
 /* Lengths in bytes. A job file or volume file may be shorter, and the three buffers may be longer. */
 #define DAPOHIRU_JOB_LEN 49914     /* the longest job file */
 #define DAPOHIRU_VOLUMES_LEN 7168  /* the longest volume file: 14 bytes for each of 512 nodes */
+#define DAPOHIRU_PRICES_LEN 224    /* a price file: 14 bytes for each of 16 symbols */
 #define DAPOHIRU_WORK_LEN 65536    /* the shortest work buffer */
 #define DAPOHIRU_PLAN_LEN 512      /* the shortest plan buffer for planning */
 #define DAPOHIRU_LISTING_LEN 32768 /* the shortest listing buffer */
@@ -76,6 +77,7 @@ extern "C" {
 #define DAPOHIRU_BAD_SYMBOL 14       /* the event's symbol is A or more */
 #define DAPOHIRU_BAD_RECORD 15       /* the record's length is not 16, or its state is S or more */
 #define DAPOHIRU_BAD_VOLUMES 16      /* the volume file is not exactly one V line for each node, in order */
+#define DAPOHIRU_BAD_PRICES 28       /* the price file is not exactly one B line for each of 16 symbols, in order */
 
 /*
  * Plans: writes one byte for each node of the job, 1 at a watched point and 0 at all else, to the start of
@@ -105,6 +107,15 @@ uint64_t dapohiru_check(const uint8_t *job, size_t job_len, const uint8_t *plan,
  * its caller's stack.
  */
 uint64_t dapohiru_price(const uint8_t *job, size_t job_len, const uint8_t *plan, size_t plan_len, const uint8_t *volumes, size_t volumes_len);
+
+/*
+ * Prices a plan as dapohiru_price does, with the prices of a price file in place of 20 + 5 s cents. The file has a B
+ * line for each symbol from 0 to 15 in order, however many the job has, with the symbol and what a thousand events of
+ * it cost, 0 to 9,999 cents, in fields of six columns as those of the job file. Returns DAPOHIRU_ACCEPTED plus the
+ * cents, or a refusal of dapohiru_price, or 28, which comes last. The greatest price is 5,119,482,881 cents, which
+ * 32 bits do not hold. The call takes less than 73,728 bytes of its caller's stack.
+ */
+uint64_t dapohiru_price_by(const uint8_t *job, size_t job_len, const uint8_t *plan, size_t plan_len, const uint8_t *volumes, size_t volumes_len, const uint8_t *prices, size_t prices_len);
 
 /*
  * Takes one event: moves the record to the next state, and raises its alarm total by one at an alarm; the total

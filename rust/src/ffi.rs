@@ -51,4 +51,16 @@ extern "C" {
         volumes: *const u8,
         volumes_len: usize,
     ) -> u64;
+
+    /// `#[no_mangle] pub extern "C" fn dapohiru_price_by(job: &[u8], plan: &[u8], volumes: &[u8], prices: &[u8]) -> u64`
+    pub fn dapohiru_price_by(
+        job: *const u8,
+        job_len: usize,
+        plan: *const u8,
+        plan_len: usize,
+        volumes: *const u8,
+        volumes_len: usize,
+        prices: *const u8,
+        prices_len: usize,
+    ) -> u64;
 }

@@ -3,10 +3,11 @@
 //!
 //! A job file holds a rule over events and the flow graph of a procedure. [`plan`] says which points of
 //! the graph must stay watched, [`list`] what was found at each, [`check`] whether somebody else's plan
-//! is faithful, [`price`] what the journal lines of a plan's watched points cost a day, and [`event`] (or
-//! [`Rule::event`]) takes one event on the record of a running monitor.
-//! A refusal carries its number, 1 to 16, as documents 01 and 02 list it. The functions of [`numbers`] are
-//! the C calls as they are.
+//! is faithful, [`price`] what the journal lines of a plan's watched points cost a day, [`price_by`] what
+//! they cost by an association's own prices, and [`event`] (or [`Rule::event`]) takes one event on the
+//! record of a running monitor.
+//! A refusal carries its number, 1 to 16 or 28, as documents 01 and 02 list it. The functions of
+//! [`numbers`] are the C calls as they are.
 //!
 //! The calls keep nothing between them and share nothing: any number of threads may be in them, each
 //! with buffers and a record of its own. No function here panics or allocates.
@@ -103,6 +104,8 @@ struct Service;
 pub const JOB_LEN: usize = 49_914;
 /// The greatest length of a volume file: 14 bytes for each of 512 nodes.
 pub const VOLUMES_LEN: usize = 7_168;
+/// The length of a price file: 14 bytes for each of 16 symbols.
+pub const PRICES_LEN: usize = 224;
 /// The least length of a work buffer, and the bytes of it that an answer clears.
 pub const WORK_LEN: usize = 65_536;
 /// The least length of a plan buffer.
@@ -261,7 +264,56 @@ pub fn check(job: &[u8], plan: &[u8], work: &mut [u8]) -> Result<Verdict, Refusa
 /// ```
 #[inline]
 pub fn price(job: &[u8], plan: &[u8], volumes: &[u8]) -> Result<u64, Refusal> {
-    let number = numbers::price(job, plan, volumes);
+    cents(numbers::price(job, plan, volumes))
+}
+
+/// Prices a plan by a price file: as [`price`], with an association's own prices.
+///
+/// `prices` is a price file: a B line for each symbol from 0 to 15 in order, however many the job has,
+/// with the symbol and what a thousand events of it cost, 0 to 9,999 cents, in fields as those of a job
+/// file. With 20 + 5 s cents at symbol s the answer is that of [`price`].
+///
+/// Refused are those of [`price`], and after them 28. The call takes less than 73,728 bytes of the stack.
+///
+/// ```
+/// use dapohiru::{price_by, Refusal, PRICES_LEN};
+///
+/// // PAIR: two points of symbol 0 and one of symbol 2
+/// let job = b"\
+/// J     3     3     3     2
+/// R     0     0     1     0     0
+/// R     1     0     1     0     2
+/// R     2     1     1     0     2
+/// P     0     1     0     1     0     0
+/// P     1     1     0     0     0     0
+/// P     2     1     2     0     1     0
+/// F     0     1
+/// F     1     2
+/// ";
+/// let volumes = b"\
+/// V     0  1000
+/// V     1  1000
+/// V     2  1000
+/// ";
+/// // symbol 0 costs 12 cents, symbol 2 costs 150, all others are free
+/// let price = |symbol| [12, 0, 150].get(symbol).copied().unwrap_or(0);
+/// let lines = (0..16).map(|symbol| format!("B{symbol:6}{:6}\n", price(symbol)));
+/// let prices = lines.collect::<String>().into_bytes();
+/// assert_eq!(prices.len(), PRICES_LEN);
+/// assert_eq!(price_by(job, &[0, 1, 1], volumes, &prices), Ok(162));
+/// assert_eq!(price_by(job, &[1, 1, 1], volumes, &prices), Ok(174));
+///
+/// // the last line is missing
+/// assert_eq!(price_by(job, &[1, 1, 1], volumes, &prices[..210]), Err(Refusal(28)));
+/// ```
+#[inline]
+pub fn price_by(job: &[u8], plan: &[u8], volumes: &[u8], prices: &[u8]) -> Result<u64, Refusal> {
+    cents(numbers::price_by(job, plan, volumes, prices))
+}
+
+/// The answer of pricing that has this number.
+#[inline]
+fn cents(number: u64) -> Result<u64, Refusal> {
     number.checked_sub(numbers::ACCEPTED).ok_or(Refusal(number))
 }
 

@@ -1,8 +1,8 @@
 //! The C calls as they are, on byte slices, in the order of their C arguments: each returns one number.
 //!
-//! A refusal is its number, 1 to 16. Every other answer has 2^48 added: planning returns event nodes
-//! times 2^32, watched points times 2^16 and passes, listing the length of its lines, the check 0 for
-//! faithful and 1 for different, pricing the cents, the event step 0 for quiet and 1 for alarm.
+//! A refusal is its number, 1 to 16 or 28. Every other answer has 2^48 added: planning returns event
+//! nodes times 2^32, watched points times 2^16 and passes, listing the length of its lines, the check 0
+//! for faithful and 1 for different, pricing the cents, the event step 0 for quiet and 1 for alarm.
 //!
 //! ```
 //! use dapohiru::numbers::{event, ALARM};
@@ -82,6 +82,24 @@ pub fn price(job: &[u8], plan: &[u8], volumes: &[u8]) -> u64 {
             plan.len(),
             volumes.as_ptr(),
             volumes.len(),
+        )
+    }
+}
+
+/// The number of [`crate::price_by`].
+#[inline]
+pub fn price_by(job: &[u8], plan: &[u8], volumes: &[u8], prices: &[u8]) -> u64 {
+    // SAFETY: each pointer and length are of one slice, and all four are only read.
+    unsafe {
+        ffi::dapohiru_price_by(
+            job.as_ptr(),
+            job.len(),
+            plan.as_ptr(),
+            plan.len(),
+            volumes.as_ptr(),
+            volumes.len(),
+            prices.as_ptr(),
+            prices.len(),
         )
     }
 }

@@ -6,6 +6,8 @@ use std::process::Command;
 
 /// The program that calls every function.
 const CALLS: &str = "rust/tests/c/calls.c";
+/// What it prints.
+const ALL_HOLD: &str = "500 tests, 0 failed\n";
 /// What the C compiler is told.
 const C99: &[&str] = &["-std=c99", "-pedantic"];
 
@@ -30,7 +32,12 @@ fn library() -> PathBuf {
 /// Builds a C program with this compiler and runs it; says what it prints, or nothing without the
 /// compiler.
 fn run(source: &str, compiler: &str, options: &[&str], arguments: &[PathBuf]) -> Option<String> {
-    let name = format!("{}-{compiler}", source.replace('/', "-"));
+    // each test has a program of its own
+    let name = format!(
+        "{}-{compiler}-{}",
+        source.replace('/', "-"),
+        arguments.len()
+    );
     let program = Path::new(env!("CARGO_TARGET_TMPDIR")).join(name);
     let built = Command::new(compiler)
         .args(options)
@@ -58,13 +65,13 @@ fn run(source: &str, compiler: &str, options: &[&str], arguments: &[PathBuf]) ->
 fn every_call_from_c_answers_and_leaves_what_the_header_says() {
     let said = run(CALLS, "cc", C99, &[]).expect("cc is installed");
     println!("C99: {}", said.trim_end());
-    assert_eq!(said, "410 tests, 0 failed\n");
+    assert_eq!(said, ALL_HOLD);
 }
 
 #[test]
 fn header_is_c_plus_plus_too() {
     match run(CALLS, "c++", &["-x", "c++", "-std=c++11"], &[]) {
-        Some(said) => assert_eq!(said, "410 tests, 0 failed\n"),
+        Some(said) => assert_eq!(said, ALL_HOLD),
         None => println!("no C++ compiler is installed"),
     }
 }
@@ -77,6 +84,22 @@ fn service_of_the_examples_prints_what_the_docs_show() {
     assert_eq!(said, wanted.expect("the stored output is there"));
     let docs = fs::read_to_string(top("docs/SERVICE.md")).expect("the docs are there");
     assert!(docs.contains(&said), "docs/SERVICE.md shows another output");
+}
+
+#[test]
+fn service_of_the_examples_prices_by_a_price_file_that_is_given() {
+    let [job, volumes, prices] = [
+        "examples/pair.job",
+        "examples/pair.volumes",
+        "examples/association.prices",
+    ]
+    .map(top);
+    let bytes = |path: &Path| fs::read(path).expect("the file is there");
+    let cents = dapohiru::price_by(&bytes(&job), &[0, 1, 1], &bytes(&volumes), &bytes(&prices));
+    let wanted = format!("\n{} cents a day\n", cents.expect("it has a price"));
+    let files = [job, volumes, prices];
+    let said = run("examples/service.c", "cc", C99, &files).expect("cc is installed");
+    assert!(said.contains(&wanted), "{said}");
 }
 
 /// A call as a source declares it: its name, and its arguments with their C types.
@@ -140,7 +163,7 @@ fn header_and_wrapper_declare_the_same_calls() {
     wrapper.sort();
     header.sort();
     assert_eq!(header, wrapper);
-    assert_eq!(header.len(), 5);
+    assert_eq!(header.len(), 6);
 }
 
 #[test]
@@ -174,7 +197,7 @@ fn wrapper_names_the_signatures_of_the_rattle_source() {
         let of_call = declared.into_iter().find(|call| call.0 == name);
         assert_eq!(of_call.expect("it is declared").1, flat, "{name}");
     }
-    assert_eq!(signatures.len(), 5);
+    assert_eq!(signatures.len(), 6);
 }
 
 /// A Rattle argument as C has it.
@@ -208,6 +231,7 @@ fn lengths_and_answers_of_the_header_are_those_of_the_wrapper() {
     for (name, len) in [
         ("JOB_LEN", dapohiru::JOB_LEN),
         ("VOLUMES_LEN", dapohiru::VOLUMES_LEN),
+        ("PRICES_LEN", dapohiru::PRICES_LEN),
         ("WORK_LEN", dapohiru::WORK_LEN),
         ("PLAN_LEN", dapohiru::PLAN_LEN),
         ("LISTING_LEN", dapohiru::LISTING_LEN),
@@ -230,5 +254,5 @@ fn lengths_and_answers_of_the_header_are_those_of_the_wrapper() {
         .filter(|(name, _)| !name.ends_with("_LEN"))
         .filter_map(|(_, value)| value.parse::<u64>().ok())
         .collect();
-    assert_eq!(refusals, (1..=16).collect::<Vec<_>>());
+    assert_eq!(refusals, (1..=16).chain([28]).collect::<Vec<_>>());
 }

@@ -1,6 +1,7 @@
 //! What a plan costs, point by point, beside what all points watched would cost.
 use crate::names::Names;
 use crate::table::{table, Side};
+use crate::tariff::Tariff;
 
 /// A point, and what its events cost.
 pub struct Point {
@@ -14,12 +15,14 @@ pub struct Point {
 }
 
 /// The points of a job under a plan, with the prices of the proved call, in cents a day.
-pub struct Bill {
+pub struct Bill<'a> {
     pub points: Vec<Point>,
     /// Of the plan.
     pub price: u64,
     /// Of all points watched.
     pub full: u64,
+    /// The prices that both go by.
+    pub tariff: &'a Tariff,
 }
 
 /// Cents as what is paid a day, and as money with two decimals.
@@ -54,7 +57,7 @@ impl Point {
     }
 }
 
-impl Bill {
+impl Bill<'_> {
     /// A table of the points and their sums, and in words the prices and what the plan saves; or that the
     /// sums are not what the proved call says.
     pub fn explained(&self, names: &Names) -> Result<String, String> {
@@ -86,9 +89,10 @@ impl Bill {
         let sides = [right, left, right, right, left, right, right];
         let words = format!(
             "\nA part of a cent counts as a cent once, in the sum.\n\
-             The plan costs {}.\n\
+             {}The plan costs {}.\n\
              With all points watched it would be {}.\n\
              The plan saves {}.\n",
+            self.tariff.words(),
             a_day(self.price),
             a_day(self.full),
             a_day(self.full - self.price)
@@ -117,6 +121,7 @@ mod tests {
                 points,
                 price,
                 full,
+                tariff: &Tariff::House,
             }
         };
         assert!(bill(21, 41).explained(&names).is_ok());

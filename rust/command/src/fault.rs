@@ -1,4 +1,4 @@
-//! A fault of a job file, a volume file or a plan, with its place; the first fault of a line.
+//! A fault of a job file, a volume file, a price file or a plan, with its place; the first fault of a line.
 use dapohiru_second::reading;
 
 /// A fault of a file, or of a plan.

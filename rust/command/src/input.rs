@@ -1,12 +1,12 @@
-//! What is read: job files, plan files and volume files.
+//! What is read: job files, plan files, volume files and price files.
 use std::ffi::OsStr;
 use std::fs::File;
 use std::io::{self, Read};
 
 /// The bytes of a plan file that are read; no plan is as long.
 const PLAN_FILE: usize = 4_096;
-/// The bytes of a volume file that are read; the longest that is accepted has far fewer.
-const VOLUME_FILE: usize = 65_536;
+/// The bytes of a volume file or a price file that are read; the longest that is accepted has far fewer.
+const NUMBERED_FILE: usize = 65_536;
 
 /// A file that was read.
 pub struct Input {
@@ -46,9 +46,10 @@ pub fn plan(name: &OsStr) -> Result<Plan, String> {
     })
 }
 
-/// Reads a volume file; of one that is far too long more than is accepted, so that it is refused.
-pub fn volumes(name: &OsStr) -> Result<Input, String> {
-    read(name, VOLUME_FILE)
+/// Reads a volume file or a price file; of one that is far too long more than is accepted, so that it is
+/// refused.
+pub fn numbered(name: &OsStr) -> Result<Input, String> {
+    read(name, NUMBERED_FILE)
 }
 
 /// Reads a file, or standard input for `-`, up to so many bytes.

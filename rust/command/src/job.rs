@@ -1,5 +1,6 @@
 //! Jobs that the proved calls accept, as the second reader has them.
 use crate::input::{Input, Plan};
+use crate::tariff::Tariff;
 use crate::{output, refusal};
 use dapohiru::{Counts, Refusal, Rule, Verdict};
 use dapohiru_second::job::{members, Job};
@@ -24,9 +25,10 @@ pub fn checked(job: &Input, plan: &Plan) -> Result<Verdict, String> {
 }
 
 /// What a plan costs a day by the proved call, in cents, or what is said of its refusal.
-pub fn priced(job: &Input, plan: &Plan, volumes: &Input) -> Result<u64, String> {
-    dapohiru::price(&job.bytes, &plan.bytes, &volumes.bytes)
-        .map_err(|refusal| refusal::of_price(job, plan, volumes, refusal))
+pub fn priced(job: &Input, plan: &Plan, volumes: &Input, tariff: &Tariff) -> Result<u64, String> {
+    tariff
+        .price(&job.bytes, &plan.bytes, &volumes.bytes)
+        .map_err(|refusal| refusal::of_price(job, plan, volumes, tariff, refusal))
 }
 
 /// The bytes of a plan that the proved call accepts; of one that is different a note says so.

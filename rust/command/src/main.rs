@@ -13,17 +13,19 @@ mod job;
 mod list;
 mod monitor;
 mod names;
+mod numbered;
 mod output;
 mod place;
 mod plan;
 mod price;
+mod prices;
 mod progress;
 mod refusal;
 mod release;
 mod stop;
 mod summary;
 mod table;
-mod volumes;
+mod tariff;
 mod watch;
 
 use args::{Asked, Command};
@@ -31,11 +33,12 @@ use std::ffi::OsString;
 use std::process::ExitCode;
 
 /// The commands, in the order of the help.
-const COMMANDS: [&Command; 7] = [
+const COMMANDS: [&Command; 8] = [
     &plan::COMMAND,
     &list::COMMAND,
     &check::COMMAND,
     &price::COMMAND,
+    &prices::COMMAND,
     &watch::COMMAND,
     &release::COMMAND,
     &graph::COMMAND,

@@ -2,10 +2,12 @@
 //! meaning, the place and what was expected there.
 use crate::fault::Fault;
 use crate::input::{Input, Plan};
+use crate::numbered::{PRICES, VOLUMES};
 use crate::place::first_fault;
-use crate::volumes;
+use crate::tariff::Tariff;
 use dapohiru::Refusal;
 use dapohiru_second::job::{EVENT, REENTRANT};
+use dapohiru_second::pricing::SYMBOLS;
 use dapohiru_second::reading;
 
 /// What is said of a refused job file.
@@ -21,10 +23,20 @@ pub fn of_plan(job: &Input, plan: &Plan, refusal: Refusal) -> String {
     }
 }
 
-/// What is said of a refused job file, plan or volume file, whichever it is.
-pub fn of_price(job: &Input, plan: &Plan, volumes: &Input, refusal: Refusal) -> String {
-    match refusal.0 {
-        16 => told(&volumes.shown, refusal, volume_fault(job, &volumes.bytes)),
+/// What is said of a refused job file, plan, volume file or price file, whichever it is.
+pub fn of_price(
+    job: &Input,
+    plan: &Plan,
+    volumes: &Input,
+    tariff: &Tariff,
+    refusal: Refusal,
+) -> String {
+    match (refusal.0, tariff) {
+        (16, _) => told(&volumes.shown, refusal, volume_fault(job, &volumes.bytes)),
+        (28, Tariff::Own(prices)) => {
+            let fault = PRICES.read(&prices.bytes, SYMBOLS).err();
+            told(&prices.shown, refusal, fault)
+        }
         _ => of_plan(job, plan, refusal),
     }
 }
@@ -84,7 +96,7 @@ fn plan_fault(job: &Input, plan: &[u8]) -> Option<Fault> {
 /// The first fault of a volume file for a job that is accepted.
 fn volume_fault(job: &Input, volumes: &[u8]) -> Option<Fault> {
     let nodes = reading::job(&job.bytes).ok()?.nodes;
-    volumes::read(volumes, nodes.len()).err()
+    VOLUMES.read(volumes, nodes.len()).err()
 }
 
 /// What a refusal means (document 01, "Turned back, by number", and document 02).
@@ -103,7 +115,8 @@ fn meaning(number: u64) -> &'static str {
         11 => "the plan has not one digit for each node",
         12 => "the plan has a digit above 1, or a 1 at a node that is no event node",
         16 => "the volume file is not exactly one V line for each node, in order",
-        _ => "no refusal of a job, a plan or a volume file",
+        28 => "the price file is not exactly one B line for each of the symbols 0 to 15, in order",
+        _ => "no refusal of a job, a plan, a volume file or a price file",
     }
 }
 

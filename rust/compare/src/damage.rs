@@ -5,7 +5,7 @@ use std::ops::Range;
 use std::slice::from_ref;
 
 /// Bytes that stand next to those of a file, or are taken for them by mistake.
-pub const BYTES: &[u8] = b" 012349:/\t\r\n\0-+.,aJRPFVjrpfv\x0b\x7f\x80\xa0\xb0\xff";
+pub const BYTES: &[u8] = b" 012349:/\t\r\n\0-+.,aJRPFVBjrpfvb\x0b\x7f\x80\xa0\xb0\xff";
 
 /// The columns of a field in the line that starts at this byte.
 pub fn columns(start: usize, field: usize) -> Range<usize> {
@@ -15,8 +15,8 @@ pub fn columns(start: usize, field: usize) -> Range<usize> {
 /// Numbers at and past every limit of a file with these sizes, and those that lose high bits.
 pub fn numbers_near(number: u64, sizes: Sizes) -> Vec<u64> {
     let limits = [
-        0, 1, 2, 3, 4, 5, 15, 16, 17, 127, 128, 255, 256, 511, 512, 513, 2047, 2048, 2049, 32_767,
-        32_768, 65_535, 65_536, 99_999, 131_071, 131_072, 524_288, 999_999,
+        0, 1, 2, 3, 4, 5, 15, 16, 17, 127, 128, 255, 256, 511, 512, 513, 2047, 2048, 2049, 9_999,
+        10_000, 32_767, 32_768, 65_535, 65_536, 99_999, 131_071, 131_072, 524_288, 999_999,
     ];
     let mut near = vec![number.saturating_sub(1), number, number + 1];
     let Sizes {
@@ -60,17 +60,23 @@ pub fn sizes(lines: &[Line]) -> Sizes {
     }
 }
 
+/// The byte at this place replaced by each of these.
+pub fn byte_replaced(file: &[u8], place: usize, with: &[u8]) -> Vec<Vec<u8>> {
+    let others = with.iter().filter(|&&byte| byte != file[place]);
+    let files = others.map(|&byte| {
+        let mut damaged = file.to_vec();
+        damaged[place] = byte;
+        damaged
+    });
+    files.collect()
+}
+
 /// Each byte replaced by each of these.
 pub fn bytes_replaced(file: &[u8], with: &[u8]) -> Vec<Vec<u8>> {
-    let mut files = Vec::new();
-    for place in 0..file.len() {
-        for &byte in with.iter().filter(|&&byte| byte != file[place]) {
-            let mut damaged = file.to_vec();
-            damaged[place] = byte;
-            files.push(damaged);
-        }
-    }
-    files
+    let places = 0..file.len();
+    places
+        .flat_map(|place| byte_replaced(file, place, with))
+        .collect()
 }
 
 /// Each of these bytes put in at each place, the end too; and each byte taken out.
@@ -189,7 +195,8 @@ pub fn fields_misspelled(lines: &[Line]) -> Vec<Vec<u8>> {
     files
 }
 
-/// Other line ends, one field more or fewer, and more bytes at the end.
+/// Other line ends and letters, one field more or fewer, and more bytes at the end and at the start, a byte order
+/// mark among them.
 pub fn shape_changed(lines: &[Line]) -> Vec<Vec<u8>> {
     let whole = spell(lines);
     let mut files = Vec::new();
@@ -235,7 +242,8 @@ pub fn shape_changed(lines: &[Line]) -> Vec<Vec<u8>> {
     }
     let more = (0..=255).map(|byte| vec![byte]);
     let more = more.chain(lines.iter().map(|line| spell(from_ref(line))));
-    for bytes in more.chain([whole.clone(), b"\n\n".to_vec(), b"\r\n".to_vec()]) {
+    let marks = [&b"\n\n"[..], b"\r\n", b"\xef\xbb\xbf"].map(<[u8]>::to_vec);
+    for bytes in more.chain(marks).chain([whole.clone()]) {
         files.push([&whole[..], &bytes].concat());
         files.push([&bytes[..], &whole].concat());
     }

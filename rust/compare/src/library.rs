@@ -7,7 +7,10 @@ use dapohiru_second::serving::Service;
 /// The event step: rule, S, A, final set, symbol, record.
 pub type Event = fn(&[u8], u64, u64, u64, u64, &mut [u8]) -> u64;
 
-/// The five calls. Each returns the number of its answer.
+/// Pricing by a price file: job, plan, volume file, price file.
+pub type PriceBy = fn(&[u8], &[u8], &[u8], &[u8]) -> u64;
+
+/// The six calls. Each returns the number of its answer.
 #[derive(Clone, Copy)]
 pub struct Library {
     /// Job, work buffer, plan buffer.
@@ -18,6 +21,7 @@ pub struct Library {
     pub check: fn(&[u8], &[u8], &mut [u8]) -> u64,
     /// Job, plan, volume file.
     pub price: fn(&[u8], &[u8], &[u8]) -> u64,
+    pub price_by: PriceBy,
     pub event: Event,
 }
 
@@ -37,6 +41,7 @@ pub const CALLS: Library = Library {
     list: numbers::list,
     check: numbers::check,
     price: numbers::price,
+    price_by: numbers::price_by,
     event: numbers::event,
 };
 
@@ -60,6 +65,12 @@ pub const GUARDED: Library = Library {
     price: |job, plan, volumes| {
         lend([job, plan, volumes], [], |[job, plan, volumes], []| {
             numbers::price(job, plan, volumes)
+        })
+    },
+    price_by: |job, plan, volumes, prices| {
+        let read = [job, plan, volumes, prices];
+        lend(read, [], |[job, plan, volumes, prices], []| {
+            numbers::price_by(job, plan, volumes, prices)
         })
     },
     event: |rule, states, symbols, finals, symbol, record| {

@@ -33,6 +33,14 @@ pub fn price(job: &[u8], plan: &[u8], volumes: &[u8]) -> Result<u64, Refusal> {
     })
 }
 
+/// [`dapohiru::price_by`], on guarded buffers too.
+pub fn price_by(job: &[u8], plan: &[u8], volumes: &[u8], prices: &[u8]) -> Result<u64, Refusal> {
+    let read = [job, plan, volumes, prices];
+    lend(read, [], |[job, plan, volumes, prices], []| {
+        dapohiru::price_by(job, plan, volumes, prices)
+    })
+}
+
 /// [`dapohiru::event`], on guarded buffers too.
 pub fn event(
     rule: &[u8],
@@ -63,6 +71,7 @@ pub const WRAPPER: Library = Library {
         }))
     },
     price: |job, plan, volumes| number(price(job, plan, volumes)),
+    price_by: |job, plan, volumes, prices| number(price_by(job, plan, volumes, prices)),
     event: |rule, states, symbols, finals, symbol, record| {
         let report = event(rule, states, symbols, finals, symbol, record);
         number(report.map(|report| match report {

@@ -2,7 +2,7 @@
 //! library. Each test runs itself again as a child that must die.
 use dapohiru_compare::guarded::{lend, Flush, Room};
 use dapohiru_generators::samples::pair;
-use dapohiru_generators::volumes;
+use dapohiru_generators::{prices, volumes};
 use std::env;
 use std::hint::black_box;
 use std::os::unix::process::ExitStatusExt;
@@ -94,10 +94,10 @@ fn longer_than_it_is(room: &mut Room, len: usize, missing: usize, flush: Flush) 
     unsafe { slice::from_raw_parts_mut(first, len) }
 }
 
-/// Makes all five calls, with the named buffer shorter than it is said to be.
+/// Makes all six calls, with the named buffer shorter than it is said to be.
 fn call_with_short(name: &str, flush: Flush) {
-    let (file, thousands) = (pair().file(), volumes::file(&[1_000; 3]));
-    let mut rooms: Vec<_> = (0..10).map(|_| Room::new(1 << 17)).collect();
+    let (file, thousands, house) = (pair().file(), volumes::file(&[1_000; 3]), prices::house());
+    let mut rooms: Vec<_> = (0..11).map(|_| Room::new(1 << 17)).collect();
     let mut rooms = rooms.iter_mut();
     let mut lent = |of: &str, len: usize, missing: usize| {
         let missing = if of == name { missing } else { 0 };
@@ -115,9 +115,14 @@ fn call_with_short(name: &str, flush: Flush) {
     let checked = lent("checked", 3, 1);
     let priced = lent("priced", 3, 1);
     let volumes = lent("volumes", thousands.len(), 1);
+    let prices = lent("prices", house.len(), 1);
     let rule = lent("rule", 256, 1);
     let record = lent("record", 16, 1);
-    for (of, lent, bytes) in [("job", &mut *job, file), ("volumes", volumes, thousands)] {
+    for (of, lent, bytes) in [
+        ("job", &mut *job, file),
+        ("volumes", volumes, thousands),
+        ("prices", prices, house),
+    ] {
         let there = match flush {
             _ if of != name => 0..bytes.len(),
             Flush::End => 0..bytes.len() - 1,
@@ -130,6 +135,7 @@ fn call_with_short(name: &str, flush: Flush) {
         dapohiru::numbers::list(job, work, listing),
         dapohiru::numbers::check(job, checked, work),
         dapohiru::numbers::price(job, priced, volumes),
+        dapohiru::numbers::price_by(job, priced, volumes, prices),
         dapohiru::numbers::event(rule, 16, 16, 0, 15, record),
     ];
     black_box(numbers);
@@ -137,9 +143,9 @@ fn call_with_short(name: &str, flush: Flush) {
 
 #[test]
 fn library_that_is_told_a_longer_buffer_dies_where_its_bytes_end() {
-    const NAMES: [&str; 10] = [
-        "nothing", "job", "work", "plan", "listing", "checked", "priced", "volumes", "rule",
-        "record",
+    const NAMES: [&str; 11] = [
+        "nothing", "job", "work", "plan", "listing", "checked", "priced", "volumes", "prices",
+        "rule", "record",
     ];
     if let Ok(task) = env::var(TASK) {
         let (name, flush) = task.split_once(' ').expect("a name and a place");

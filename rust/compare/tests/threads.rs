@@ -3,27 +3,34 @@
 use dapohiru_compare::wrapper::WRAPPER;
 use dapohiru_generators::random::Random;
 use dapohiru_generators::zeros::filled;
-use dapohiru_generators::{small, volumes};
+use dapohiru_generators::{prices, small, volumes};
 use dapohiru_second::job::Job;
 use dapohiru_second::reading::WORK;
 use std::thread;
 
-/// A job with its file and a volume file.
+/// A job with its file, a volume file and a price file.
 struct Files {
     job: Job,
     file: Vec<u8>,
     volumes: Vec<u8>,
+    prices: Vec<u8>,
 }
 
 /// The answers of all calls for one job, with what they write.
 fn answers(files: &Files, work: &mut [u8]) -> (Vec<u64>, Vec<u8>) {
-    let Files { job, file, volumes } = files;
+    let Files {
+        job,
+        file,
+        volumes,
+        prices,
+    } = files;
     let (mut plan, mut listing) = (vec![7; 512], vec![7; 32_768]);
     let mut numbers = vec![
         (WRAPPER.plan)(file, work, &mut plan),
         (WRAPPER.list)(file, work, &mut listing),
         (WRAPPER.check)(file, &job.plan_of(&[]), work),
         (WRAPPER.price)(file, &job.all_watched(), volumes),
+        (WRAPPER.price_by)(file, &job.all_watched(), volumes, prices),
     ];
     let (rule, mut record) = (job.table(), [0; 16]);
     let (states, symbols, finals) = (job.states() as u64, job.symbols, job.final_set());
@@ -50,6 +57,7 @@ fn many_threads_get_the_answers_that_one_gets() {
             Files {
                 file: filled(&mut random, job.file()),
                 volumes: volumes::any(&mut random, job.nodes.len()),
+                prices: prices::any(&mut random),
                 job,
             }
         })

@@ -1,12 +1,14 @@
-//! What tests and benchmarks are made of, from a printed seed: random jobs, small and large, volume files,
-//! damaged files, zeros before the numbers of files, random walks and random calls of the event step; and
-//! jobs written by hand.
+//! What tests and benchmarks are made of, from a printed seed: random jobs, small and large, volume files and
+//! price files, damaged files, zeros before the numbers of files, random walks and random calls of the event
+//! step; and jobs written by hand.
 pub mod damage;
 pub mod events;
 pub mod faults;
 pub mod features;
 pub mod large;
 pub mod mixed;
+pub mod numbered;
+pub mod prices;
 pub mod random;
 pub mod reentry;
 pub mod rings;

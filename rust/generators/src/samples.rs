@@ -1,4 +1,4 @@
-//! The trial jobs of document 01, written by hand.
+//! The trial jobs of document 01 and others, written by hand.
 use dapohiru_second::job::{Job, Node, CALL, EVENT, PLAIN, REENTRANT};
 
 /// A rule as document 01 writes it: the next states of each state, and the final states.
@@ -119,4 +119,17 @@ pub fn one_seal(after: u64) -> Job {
 pub fn two_writes() -> Job {
     let nodes = vec![event(SEAL), event(WRITE), event(WRITE)];
     PAIR.job(1, nodes, &[(0, 1), (1, 2)])
+}
+
+/// Points of one symbol out of sixteen, so many of them, each an entry. No edge joins them.
+pub fn points(symbol: u64, nodes: usize) -> Job {
+    let mut nodes = vec![event(symbol); nodes];
+    nodes.iter_mut().for_each(|node| node.entry = 1);
+    Job {
+        symbols: 16,
+        finals: vec![0],
+        next: vec![vec![0; 16]],
+        nodes,
+        edges: vec![],
+    }
 }

@@ -1,12 +1,31 @@
-//! The journal price of a plan as a call (document 02, "Journal price of a plan"): its refusals in order, the
-//! volume file, and the price.
+//! The journal price of a plan as two calls (document 02, "Journal price of a plan" and "An association's own
+//! journal prices"): their refusals in order, the volume file, the price file, and the price.
 use crate::checking::file_and_plan;
 use crate::job::{Job, Node, EVENT, PLAIN};
-use crate::reading::{self, Reader, LONGEST};
+use crate::numbered::{self, Lines};
+use crate::reading::LONGEST;
 use crate::slip::Slip;
+use std::array;
 
 /// The greatest number of events a day.
 pub const MOST_EVENTS: u64 = 999_999;
+/// The greatest price of a thousand events, in cents.
+pub const MOST_PRICE: u64 = 9_999;
+/// How many symbols have a price, however many a job has.
+pub const SYMBOLS: usize = 16;
+
+/// Cents per thousand events of each symbol.
+pub type Prices = [u64; SYMBOLS];
+
+/// The house table: "symbol s costs 20 + 5 times s cents per thousand events".
+pub fn house() -> Prices {
+    rising_from(20)
+}
+
+/// Prices from this one on, each five cents above the one before.
+fn rising_from(first: u64) -> Prices {
+    array::from_fn(|symbol| first + 5 * symbol as u64)
+}
 
 /// One call of pricing.
 #[derive(Clone, Copy)]
@@ -17,6 +36,8 @@ pub struct Call<'a> {
     pub plan: &'a [u8],
     /// The volume file.
     pub volumes: &'a [u8],
+    /// The price file, in the call that gets one; the other goes by the house table.
+    pub prices: Option<&'a [u8]>,
 }
 
 /// The answer to a call.
@@ -30,10 +51,17 @@ pub enum Answer {
 /// The answer to a call, with one slip or with none.
 pub fn price(call: &Call, slip: Option<Slip>) -> Answer {
     let pricing = Pricing { slip };
-    match pricing.volumes_or_refusal(call) {
-        Ok((job, volumes)) => Answer::Cents(pricing.cents(job, call.plan, &volumes)),
+    match pricing.accepted(call) {
+        Ok(accepted) => Answer::Cents(pricing.cents(call.plan, &accepted)),
         Err(number) => Answer::Refused(number),
     }
+}
+
+/// What an accepted call has: the job, the volumes of its nodes, and the prices.
+struct Accepted<'a> {
+    job: &'a Job,
+    volumes: Vec<u64>,
+    prices: Prices,
 }
 
 /// Pricing, with one slip or with none.
@@ -47,112 +75,137 @@ impl Pricing {
         self.slip == Some(slip)
     }
 
-    /// The job and the volumes of its nodes, or the first refusal that applies.
-    fn volumes_or_refusal<'a>(self, call: &Call<'a>) -> Result<(&'a Job, Vec<u64>), u64> {
+    /// What the call has, or the first refusal that applies.
+    fn accepted<'a>(self, call: &Call<'a>) -> Result<Accepted<'a>, u64> {
         let volumes = call.held.and_then(|job| self.volumes(call, job));
-        let is_long = call.volumes.len() > LONGEST && self.slips(Slip::LongVolumesAs1);
-        let too_long = (call.file_len > LONGEST || is_long).then_some(1);
+        let prices = self.prices(call);
+        let too_long = self.is_too_long(call).then_some(1);
         let [unread, length, bytes] = file_and_plan(call.held, call.plan, self.slip);
-        let lines = volumes.as_ref().err().copied();
-        let tests = match self.slip {
-            Some(Slip::VolumesBeforePlanBytes) => [too_long, unread, length, lines, bytes],
-            Some(Slip::VolumesBeforePlan) => [too_long, unread, lines, length, bytes],
-            _ => [too_long, unread, length, bytes, lines],
+        let (of_volumes, of_prices) = (volumes.as_ref().err().copied(), prices.err());
+        let mut tests = vec![too_long, unread, length, bytes, of_volumes, of_prices];
+        // a slip tests one of the two files before another test
+        let moved = match self.slip {
+            Some(Slip::VolumesBeforePlanBytes) => Some((4, 3)),
+            Some(Slip::VolumesBeforePlan) => Some((4, 2)),
+            Some(Slip::PricesBeforeVolumes) => Some((5, 4)),
+            Some(Slip::PricesBeforePlanBytes) => Some((5, 3)),
+            Some(Slip::PricesBeforeJob) => Some((5, 0)),
+            _ => None,
         };
+        if let Some((from, to)) = moved {
+            let test = tests.remove(from);
+            tests.insert(to, test);
+        }
         match tests.into_iter().flatten().next() {
             Some(number) => Err(number),
-            None => Ok((call.held?, volumes?)),
+            None => Ok(Accepted {
+                job: call.held?,
+                volumes: volumes?,
+                prices: prices?,
+            }),
         }
+    }
+
+    /// Whether a file is longer than the job file may be; only a slip asks it of another file.
+    fn is_too_long(self, call: &Call) -> bool {
+        let len = match self.slip {
+            Some(Slip::LongVolumesAs1) => call.file_len.max(call.volumes.len()),
+            Some(Slip::LongPricesAs1) => call.file_len.max(call.prices.map_or(0, <[u8]>::len)),
+            _ => call.file_len,
+        };
+        len > LONGEST
     }
 
     /// "One V line per node in order: node, and events a day"; or 16, "the volume file is not exactly these
     /// lines".
     fn volumes(self, call: &Call, job: &Job) -> Result<Vec<u64>, u64> {
-        let mut rest = call.volumes;
+        let mut lines = Lines {
+            letter: b'V',
+            most: MOST_EVENTS,
+            refusal: 16,
+            slip: self.slip.and_then(in_volumes),
+            count: job.nodes.len(),
+            rest: call.volumes,
+        };
         let mut volumes = Vec::new();
         for (place, node) in job.nodes.iter().enumerate() {
-            let is_last = place + 1 == job.nodes.len();
-            let is_missing =
-                is_last && rest.is_empty() && self.slips(Slip::LastVolumeMissingAccepted);
-            let is_other = node.kind != EVENT && self.slips(Slip::VolumesOfPointsOnly);
-            if is_missing || is_other {
-                volumes.push(0);
-                continue;
-            }
-            let line = self.next_line(&mut rest)?;
+            let volume = match self.slip {
+                Some(Slip::VolumesOfPointsOnly) if node.kind != EVENT => 0,
+                Some(Slip::UnwatchedVolumeNotTested) if !is_watched(call.plan, place) => {
+                    lines.take().map(|_| 0)?
+                }
+                _ => lines.number(place)?,
+            };
             volumes.push(match self.slip {
-                Some(Slip::UnwatchedVolumeNotTested) if !is_watched(call.plan, place) => 0,
-                _ => self.volume(line, place, node)?,
+                Some(Slip::VolumeAtPlainRefused) if node.kind == PLAIN && volume != 0 => {
+                    return Err(16)
+                }
+                Some(Slip::VolumeCutTo16Bits) => volume % 65_536,
+                _ => volume,
             });
         }
-        if rest.is_empty() || self.slips(Slip::BytesAfterVolumesAccepted) {
-            Ok(volumes)
-        } else {
-            Err(16)
-        }
+        lines.end()?;
+        Ok(volumes)
     }
 
-    /// The refusal of a volume file, for a fault that in a job file has this number.
-    fn refusal(self, number: u64) -> u64 {
-        match self.slip {
-            Some(Slip::VolumesAs3And4) => number,
-            _ => 16,
-        }
+    /// The prices of the call's file, or of the house table where it has none.
+    fn prices(self, call: &Call) -> Result<Prices, u64> {
+        let house = match self.slip {
+            Some(Slip::HouseFrom25) => rising_from(25),
+            _ => house(),
+        };
+        let Some(file) = call.prices else {
+            return Ok(house);
+        };
+        let prices = match self.prices_in(file, call.held) {
+            Err(_) if self.slips(Slip::HouseWherePricesAreWrong) => house,
+            read => read?,
+        };
+        Ok(array::from_fn(|symbol| match self.slip {
+            Some(Slip::HouseCounted) => house[symbol],
+            Some(Slip::FirstPriceOfHouse) if symbol == 0 => house[symbol],
+            Some(Slip::LastPriceOfHouse) if symbol == SYMBOLS - 1 => house[symbol],
+            Some(Slip::PriceCutTo8Bits) => prices[symbol] % 256,
+            Some(Slip::PriceCutTo3Digits) => prices[symbol] % 1_000,
+            _ => prices[symbol],
+        }))
     }
 
-    /// The line due, without its end byte.
-    fn next_line<'a>(self, rest: &mut &'a [u8]) -> Result<&'a [u8], u64> {
-        if rest.is_empty() {
-            return Err(self.refusal(3));
-        }
-        let mut parts = rest.splitn(2, |&byte| byte == b'\n');
-        let line = parts.next().expect("there is a first part");
-        *rest = match parts.next() {
-            Some(after) => after,
-            None if self.slips(Slip::VolumeEndByteMissingAccepted) => &[],
-            None => return Err(self.refusal(4)),
+    /// "16 B lines in symbol order: symbol, and cents per thousand, 0 to 9,999"; or 28, "the file is not exactly
+    /// these lines".
+    fn prices_in(self, file: &[u8], held: Result<&Job, u64>) -> Result<Prices, u64> {
+        let count = match held {
+            Ok(job) if self.slips(Slip::PricesOfJobSymbolsOnly) => job.symbols as usize,
+            _ => SYMBOLS,
         };
-        Ok(line)
-    }
-
-    /// The events a day of the line of this place, where this node stands.
-    fn volume(self, line: &[u8], place: usize, node: &Node) -> Result<u64, u64> {
-        let malformed = self.refusal(4);
-        let Some((&letter, columns)) = line.split_first() else {
-            return Err(malformed);
+        let mut lines = Lines {
+            letter: b'B',
+            most: MOST_PRICE,
+            refusal: 28,
+            slip: self.slip.and_then(in_prices),
+            count,
+            rest: file,
         };
-        if columns.len() != 12 || (letter != b'V' && !self.slips(Slip::VolumeLetterNotTested)) {
-            return Err(malformed);
+        let mut prices = [0; SYMBOLS];
+        for (symbol, price) in prices.iter_mut().enumerate().take(count) {
+            *price = lines.number(symbol)?;
         }
-        let slip = self
-            .slips(Slip::VolumeZerosRefused)
-            .then_some(reading::Slip::LeadingZeroRefused);
-        let number = |columns: &[u8]| Reader { slip }.number(columns).ok_or(malformed);
-        let (named, volume) = columns.split_at(6);
-        let (named, volume) = (number(named)?, number(volume)?);
-        let is_refused = match self.slip {
-            Some(Slip::VolumePlacesNotTested) => false,
-            Some(Slip::MostVolumeRefused) if volume == MOST_EVENTS => true,
-            Some(Slip::NoVolumeRefused) if volume == 0 => true,
-            Some(Slip::VolumeAtPlainRefused) if node.kind == PLAIN && volume != 0 => true,
-            _ => named != place as u64 || volume > MOST_EVENTS,
-        };
-        if is_refused {
-            return Err(16);
-        }
-        Ok(match self.slip {
-            Some(Slip::VolumeCutTo16Bits) => volume % 65_536,
-            _ => volume,
-        })
+        lines.end()?;
+        Ok(prices)
     }
 
     /// "The sum over watched points of volume times price, divided by 1,000 once, and a part of a cent counts
     /// as a cent."
-    fn cents(self, job: &Job, plan: &[u8], volumes: &[u64]) -> u64 {
+    fn cents(self, plan: &[u8], accepted: &Accepted) -> u64 {
+        let Accepted {
+            job,
+            volumes,
+            prices,
+        } = accepted;
         let nodes = job.nodes.iter().enumerate();
         let costs: Vec<u64> = nodes
             .filter(|&(place, node)| self.counts(place, node, job, plan))
-            .map(|(place, node)| volumes[place] * self.price(place, node))
+            .map(|(place, node)| volumes[place] * self.price(place, node, prices))
             .collect();
         let sum: u64 = costs.iter().sum();
         match self.slip {
@@ -161,6 +214,7 @@ impl Pricing {
             Some(Slip::WholeCentsRaised) => sum / 1_000 + 1,
             Some(Slip::RoundedPerPoint) => costs.iter().map(|cost| cost.div_ceil(1_000)).sum(),
             Some(Slip::SumCutTo32Bits) => u64::from(sum as u32).div_ceil(1_000),
+            Some(Slip::CentsCutTo32Bits) => u64::from(sum.div_ceil(1_000) as u32),
             _ => sum.div_ceil(1_000),
         }
     }
@@ -175,19 +229,48 @@ impl Pricing {
         }
     }
 
-    /// "Symbol s costs 20 + 5 times s cents per thousand events."
-    fn price(self, place: usize, node: &Node) -> u64 {
-        let symbol = match node.kind {
-            EVENT => node.value,
-            _ => 0,
-        };
-        match self.slip {
-            Some(Slip::PriceFrom25) => 25 + 5 * symbol,
-            Some(Slip::OnePrice) => 20,
-            Some(Slip::PriceByNode) => 20 + 5 * place as u64,
-            _ => 20 + 5 * symbol,
+    /// What a thousand events at a node cost: the price of its symbol.
+    fn price(self, place: usize, node: &Node, prices: &Prices) -> u64 {
+        match (self.slip, node.kind) {
+            (Some(Slip::OnePrice), _) => prices[0],
+            (Some(Slip::PriceByNode), _) => prices[place % SYMBOLS],
+            (_, EVENT) => prices[node.value as usize],
+            _ => prices[0],
         }
     }
+}
+
+/// The slip that this one is in the lines of a volume file.
+fn in_volumes(slip: Slip) -> Option<numbered::Slip> {
+    Some(match slip {
+        Slip::VolumesAs3And4 => numbered::Slip::FormAs3And4,
+        Slip::LastVolumeMissingAccepted => numbered::Slip::LastLineMissingAccepted,
+        Slip::VolumeEndByteMissingAccepted => numbered::Slip::EndByteMissingAccepted,
+        Slip::BytesAfterVolumesAccepted => numbered::Slip::BytesAfterAccepted,
+        Slip::VolumeLetterNotTested => numbered::Slip::LetterNotTested,
+        Slip::VolumePlacesNotTested => numbered::Slip::PlacesNotTested,
+        Slip::VolumeZerosRefused => numbered::Slip::ZerosRefused,
+        Slip::MostVolumeRefused => numbered::Slip::MostRefused,
+        Slip::NoVolumeRefused => numbered::Slip::ZeroRefused,
+        _ => return None,
+    })
+}
+
+/// The slip that this one is in the lines of a price file.
+fn in_prices(slip: Slip) -> Option<numbered::Slip> {
+    Some(match slip {
+        Slip::PricesAs3And4 => numbered::Slip::FormAs3And4,
+        Slip::LastPriceMissingAccepted => numbered::Slip::LastLineMissingAccepted,
+        Slip::PriceEndByteMissingAccepted => numbered::Slip::EndByteMissingAccepted,
+        Slip::BytesAfterPricesAccepted => numbered::Slip::BytesAfterAccepted,
+        Slip::PriceLetterNotTested => numbered::Slip::LetterNotTested,
+        Slip::PricePlacesNotTested => numbered::Slip::PlacesNotTested,
+        Slip::PriceZerosRefused => numbered::Slip::ZerosRefused,
+        Slip::PriceOf10000Accepted => numbered::Slip::MostByOneMore,
+        Slip::MostPriceRefused => numbered::Slip::MostRefused,
+        Slip::FreeSymbolRefused => numbered::Slip::ZeroRefused,
+        _ => return None,
+    })
 }
 
 /// Whether a plan has a point watched; only a slip gives it another length than there are nodes.

@@ -28,9 +28,14 @@ impl Slip {
         [Slip::WALKS, Slip::BUFFERS, Slip::PLANS, Slip::CHECK].concat()
     }
 
-    /// The slips that pricing can make.
+    /// The slips that pricing by the house table can make.
     pub fn of_pricing() -> Vec<Slip> {
-        [Slip::PLANS, Slip::PRICES, Slip::VOLUMES].concat()
+        [Slip::PLANS, Slip::PRICES, Slip::VOLUMES, Slip::HOUSE].concat()
+    }
+
+    /// The slips that pricing by a price file can make.
+    pub fn of_pricing_by() -> Vec<Slip> {
+        [Slip::PLANS, Slip::PRICES, Slip::VOLUMES, Slip::PRICE_FILE].concat()
     }
 
     /// The slips that planning and listing can make.
@@ -219,12 +224,16 @@ slips! {
         LastNodeNotCounted,
 
         // prices
-        /// Symbol s costs 25 + 5 s.
-        PriceFrom25,
         /// Every symbol costs what symbol 0 does.
         OnePrice,
-        /// The price goes by the node's number, and not by its symbol.
+        /// The price goes by the node's number, and not by its symbol; after sixteen nodes it begins again.
         PriceByNode,
+    }
+
+    /// Slips of the house table.
+    HOUSE {
+        /// Symbol s costs 25 + 5 s.
+        HouseFrom25,
     }
 
     /// Slips of the volume file and of the place of its refusal.
@@ -261,6 +270,59 @@ slips! {
         VolumesOfPointsOnly,
         /// V lines of nodes that are not watched are not looked at.
         UnwatchedVolumeNotTested,
+    }
+
+    /// Slips of the price file, of the place of its refusal, and of its prices.
+    PRICE_FILE {
+        // its refusal
+        /// 28 is tested before 16.
+        PricesBeforeVolumes,
+        /// 28 is tested before 12.
+        PricesBeforePlanBytes,
+        /// 28 is tested before the job file is looked at.
+        PricesBeforeJob,
+        /// A price file of more than 49,914 bytes is 1.
+        LongPricesAs1,
+        /// Where a B line is due and the file ends it is 3, and where the line has not its form 4.
+        PricesAs3And4,
+        /// The house table counts where the price file is to be refused.
+        HouseWherePricesAreWrong,
+
+        // its lines
+        /// The last B line may be missing; its price is 0.
+        LastPriceMissingAccepted,
+        /// The last end byte may be missing.
+        PriceEndByteMissingAccepted,
+        /// Bytes after the last B line are accepted.
+        BytesAfterPricesAccepted,
+        /// Any letter is accepted.
+        PriceLetterNotTested,
+        /// B lines may stand in any order.
+        PricePlacesNotTested,
+        /// Zeros before a number are refused.
+        PriceZerosRefused,
+        /// A price of 10,000 is accepted.
+        PriceOf10000Accepted,
+        /// A price of 9,999 is refused.
+        MostPriceRefused,
+        /// A price of 0 is refused.
+        FreeSymbolRefused,
+        /// B lines stand for the symbols of the job only.
+        PricesOfJobSymbolsOnly,
+
+        // its prices
+        /// The price file is tested, and the house table counts.
+        HouseCounted,
+        /// Symbol 0 costs what it does by the house table.
+        FirstPriceOfHouse,
+        /// Symbol 15 costs what it does by the house table.
+        LastPriceOfHouse,
+        /// Of a price the lowest 8 bits count.
+        PriceCutTo8Bits,
+        /// Of a price the last three digits count.
+        PriceCutTo3Digits,
+        /// The cents are cut to 32 bits.
+        CentsCutTo32Bits,
     }
 
     /// Slips of passes, tries and counts.

@@ -2,10 +2,11 @@
 use crate::tally::Tally;
 use dapohiru::numbers::ACCEPTED;
 use dapohiru_compare::library::CALLS;
-use dapohiru_compare::{checking, pricing, serving};
+use dapohiru_compare::pricing::{By, Case};
+use dapohiru_compare::{checking, serving};
 use dapohiru_generators::random::Random;
 use dapohiru_generators::samples::pair;
-use dapohiru_generators::volumes;
+use dapohiru_generators::{prices, volumes};
 use dapohiru_second::job::Job;
 use dapohiru_second::pricing::Answer;
 use dapohiru_second::reading::{self, WORK};
@@ -23,16 +24,16 @@ pub fn filled(len: usize, byte: u8) -> Box<[u8]> {
 
 /// Calls, with the answers counted.
 pub struct Calls {
-    /// Makes the volume files; all else is made without it.
-    volumes: Random,
+    /// Makes the volume files and price files; all else is made without it.
+    pricing: Random,
     pub tally: Tally,
 }
 
 impl Calls {
-    /// No call so far, and volume files from this seed on.
+    /// No call so far, and volume files and price files from this seed on.
     pub fn new(seed: u64) -> Self {
         Calls {
-            volumes: Random(seed),
+            pricing: Random(seed),
             tally: Tally::default(),
         }
     }
@@ -53,17 +54,29 @@ impl Calls {
         number
     }
 
-    /// Prices a plan, each buffer an allocation of its own size; gives the number.
-    pub fn price(&mut self, file: &[u8], plan: &[u8], volumes: &[u8]) -> u64 {
+    /// Prices a plan, by a price file if there is one, each buffer an allocation of its own size; gives the number.
+    pub fn price(
+        &mut self,
+        file: &[u8],
+        plan: &[u8],
+        volumes: &[u8],
+        prices: Option<&[u8]>,
+    ) -> u64 {
         let (file, plan, volumes) = (exact(file), exact(plan), exact(volumes));
-        let number = (CALLS.price)(&file, &plan, &volumes);
+        let (by, number) = match prices.map(exact) {
+            None => (By::House, (CALLS.price)(&file, &plan, &volumes)),
+            Some(prices) => {
+                let number = (CALLS.price_by)(&file, &plan, &volumes, &prices);
+                (By::File, number)
+            }
+        };
         let cents = number.checked_sub(ACCEPTED).map(Answer::Cents);
-        self.tally
-            .add_priced(cents.unwrap_or(Answer::Refused(number)));
+        let answer = cents.unwrap_or(Answer::Refused(number));
+        self.tally.add_priced(by, answer);
         number
     }
 
-    /// A file in all four calls, of which each is refused as it should be, or accepted; a price is the one of
+    /// A file in all five calls on one, of which each is refused as it should be, or accepted; a price is the one of
     /// the second implementation.
     pub fn file(&mut self, random: &mut Random, file: &[u8]) -> Result<(), String> {
         let read = reading::job(file);
@@ -88,25 +101,37 @@ impl Calls {
         ))
     }
 
-    /// The price of a plan, with a volume file that is sound, damaged or has a fault, beside the second
-    /// implementation. The file holds this job, or deserves this refusal.
+    /// The price of a plan by the house table, and by a price file, with files of numbered lines that are sound,
+    /// damaged or have a fault. The file holds this job, or deserves this refusal.
     fn priced(&mut self, file: &[u8], read: Result<Job, u64>, plan: Vec<u8>) -> Result<(), String> {
         let unread = read.as_ref().err().copied();
         let job = read.unwrap_or_else(|_| pair());
-        let random = &mut self.volumes;
+        let random = &mut self.pricing;
         let nodes = job.nodes.len();
         let volumes = match random.below(4) {
             0 => volumes::refused(random, nodes),
             1 => volumes::damaged(random, nodes),
             _ => volumes::any(random, nodes),
         };
-        let mut case = pricing::Case::of(&job, plan, volumes);
+        let prices = match random.below(4) {
+            0 => prices::refused(random),
+            1 => prices::damaged(random),
+            _ => prices::any(random),
+        };
+        let mut case = Case::of(&job, plan, volumes);
         (case.checking.file, case.checking.unread) = (file.to_vec(), unread);
+        self.same_price(&case)?;
+        self.same_price(&case.by(prices))
+    }
+
+    /// Prices as the second implementation does.
+    fn same_price(&mut self, case: &Case) -> Result<(), String> {
         let wanted = match case.wanted(None) {
             Answer::Cents(cents) => ACCEPTED + cents,
             Answer::Refused(number) => number,
         };
-        let number = self.price(file, &case.checking.plan, &case.volumes);
+        let checking::Case { file, plan, .. } = &case.checking;
+        let number = self.price(file, plan, &case.volumes, case.prices.as_deref());
         if number == wanted {
             return Ok(());
         }

@@ -5,8 +5,8 @@ use dapohiru_compare::library::CALLS;
 use dapohiru_generators::events::Call;
 use dapohiru_generators::random::Random;
 use dapohiru_generators::samples::pair;
-use dapohiru_generators::volumes;
 use dapohiru_generators::zeros::zero_filled;
+use dapohiru_generators::{prices, volumes};
 use dapohiru_second::reading::{LONGEST, WORK};
 use dapohiru_second::serving::Service;
 use dapohiru_second::step::{Answer, Second};
@@ -29,6 +29,7 @@ pub fn run(calls: &mut Calls, random: &mut Random) -> Result<(), String> {
     plan_and_listing_buffers(calls)?;
     plans(calls)?;
     volume_files(calls)?;
+    price_files(calls)?;
     files(calls, &pair().file())?;
     files(calls, &zero_filled(pair().file()))?;
     rules_and_records(calls)?;
@@ -78,13 +79,38 @@ fn volume_files(calls: &mut Calls) -> Result<(), String> {
     for plan in LENGTHS.into_iter().chain([2, 3, 4]) {
         for len in LENGTHS.into_iter().chain(0..=4 * 14) {
             for volumes in &both {
-                let number = calls.price(&file, &vec![0; plan], &volumes[..len]);
+                let number = calls.price(&file, &vec![0; plan], &volumes[..len], None);
                 let wanted = match (plan, len) {
                     (3, 42) => ACCEPTED,
                     (3, _) => 16,
                     _ => 11,
                 };
                 let what = format!("plan of {plan}, volume file of {len} bytes");
+                same(number, wanted, &what)?;
+            }
+        }
+    }
+    Ok(())
+}
+
+/// Plans to be priced by price files that are cut short or have lines past the last, with volume files that are sound,
+/// cut short or have a byte past the last line.
+fn price_files(calls: &mut Calls) -> Result<(), String> {
+    let file = pair().file();
+    let spaced = prices::KIND.file(&[1_000; 5_000]);
+    let both = [spaced.clone(), zero_filled(spaced)];
+    let thousands = [&volumes::file(&[1_000; 3])[..], b"\n"].concat();
+    for of_volumes in [41, 42, 43] {
+        for len in LENGTHS.into_iter().chain(0..=18 * 14) {
+            for prices in &both {
+                let volumes = &thousands[..of_volumes];
+                let number = calls.price(&file, &[0; 3], volumes, Some(&prices[..len]));
+                let wanted = match (of_volumes, len) {
+                    (42, 224) => ACCEPTED,
+                    (42, _) => 28,
+                    _ => 16,
+                };
+                let what = format!("volume file of {of_volumes}, price file of {len} bytes");
                 same(number, wanted, &what)?;
             }
         }
@@ -112,8 +138,10 @@ fn files(calls: &mut Calls, whole: &[u8]) -> Result<(), String> {
         }
         let number = calls.check(&file, &[1, 1, 1], WORK);
         same(number, wanted, &format!("check of {len} bytes"))?;
-        let number = calls.price(&file, &[0, 0, 0], &volumes::file(&[1_000; 3]));
-        same(number, wanted, &format!("price of {len} bytes"))?;
+        for prices in [None, Some(&prices::house()[..])] {
+            let number = calls.price(&file, &[0, 0, 0], &volumes::file(&[1_000; 3]), prices);
+            same(number, wanted, &format!("price of {len} bytes"))?;
+        }
     }
     Ok(())
 }

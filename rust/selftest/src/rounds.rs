@@ -17,8 +17,8 @@ use dapohiru_generators::random::Random;
 use dapohiru_generators::sized::{self, FULL};
 use dapohiru_generators::small;
 use dapohiru_generators::spread::Spread;
-use dapohiru_generators::volumes;
 use dapohiru_generators::zeros::filled;
+use dapohiru_generators::{prices, volumes};
 use dapohiru_second::job::Job;
 use dapohiru_second::pricing::MOST_EVENTS;
 use dapohiru_second::serving::{Given, Service};
@@ -32,8 +32,9 @@ pub struct Rounds {
     serving: serving::Memory,
     checking: checking::Memory,
     pricing: pricing::Memory,
-    /// Makes the volume files of a round and what is priced with them; the other calls are made without it.
-    volumes: Random,
+    /// Makes the volume files and price files of a round and what is priced with them; the other calls are made
+    /// without it.
+    lines: Random,
     pub tally: Tally,
 }
 
@@ -46,7 +47,7 @@ impl Rounds {
             serving: serving::Memory::new(GUARDED),
             checking: checking::Memory::new(GUARDED),
             pricing: pricing::Memory::new(GUARDED),
-            volumes: Random(0),
+            lines: Random(0),
             tally: Tally::default(),
         }
     }
@@ -54,7 +55,7 @@ impl Rounds {
     /// Makes one round; says in words how the library differs.
     pub fn make(&mut self, number: u64) -> Result<(), String> {
         let mut random = Random(self.seed ^ Random(number).number());
-        self.volumes = Random(!random.0);
+        self.lines = Random(!random.0);
         self.serving.begin(random.number());
         self.checking.begin(random.number());
         let random = &mut random;
@@ -112,18 +113,29 @@ impl Rounds {
     fn price_cases(&mut self, cases: &[pricing::Case]) -> Result<(), String> {
         for case in cases {
             let answer = case.compare(&mut self.pricing, self.slips.walks)?;
-            self.tally.add_priced(answer);
+            self.tally.add_priced(case.goes_by(), answer);
         }
         Ok(())
     }
 
-    /// Plans of a job with volume files, some of them damaged or with faults.
+    /// Plans of a job with volume files and price files, some of them damaged or with faults.
     fn price(&mut self, job: &Job) -> Result<(), String> {
-        let cases = pricing::cases(&mut self.volumes, job);
+        let cases = pricing::cases(&mut self.lines, job);
         self.price_cases(&cases)
     }
 
-    /// A damaged file in all four calls; the second reader says what it deserves.
+    /// Compares the prices of a plan under a volume file, by the house table and by any price file.
+    fn price_both(&mut self, checking: &checking::Case, volumes: Vec<u8>) -> Result<(), String> {
+        let by_house = pricing::Case {
+            checking: checking.clone(),
+            volumes,
+            prices: None,
+        };
+        let by_file = by_house.clone().by(prices::any(&mut self.lines));
+        self.price_cases(&[by_house, by_file])
+    }
+
+    /// A damaged file in all five calls on one; the second reader says what it deserves.
     fn damaged(&mut self, random: &mut Random) -> Result<(), String> {
         for _ in 0..8 {
             let damaged = Damaged::random(random);
@@ -140,11 +152,8 @@ impl Rounds {
                 ..checking::Case::of(&job, plan)
             };
             self.check_cases(&job, std::slice::from_ref(&case))?;
-            let volumes = volumes::any(&mut self.volumes, job.nodes.len());
-            self.price_cases(&[pricing::Case {
-                checking: case,
-                volumes,
-            }])?;
+            let volumes = volumes::any(&mut self.lines, job.nodes.len());
+            self.price_both(&case, volumes)?;
         }
         Ok(())
     }
@@ -186,7 +195,7 @@ impl Rounds {
         Ok(())
     }
 
-    /// A small job spread over up to 512 nodes, in all four calls.
+    /// A small job spread over up to 512 nodes, in all five calls on a file.
     fn spread(&mut self, random: &mut Random) -> Result<(), String> {
         let small = small::job(random);
         let nodes = random.pick(&[16, 17, 64, 65, 255, 256, 257, 511, 512]);
@@ -194,14 +203,15 @@ impl Rounds {
         self.whole(random, &job)
     }
 
-    /// A job of 512 nodes with long loops, or of the longest file, in all four calls.
+    /// A job of 512 nodes with long loops, or of the longest file, in all five calls on a file; and the greatest price.
     fn large(&mut self, random: &mut Random) -> Result<(), String> {
         let job = match random.below(4) {
             0 => sized::job(random, FULL),
             1 => large::job(random, Order::Flow),
             _ => large::job(random, Order::Parts),
         };
-        self.whole(random, &job)
+        self.whole(random, &job)?;
+        self.price_cases(&[pricing::Case::greatest()])
     }
 
     /// Planning, listing, the check of the plan and of two others, and their prices.
@@ -213,13 +223,10 @@ impl Rounds {
         self.check_cases(job, &cases)?;
         let nodes = job.nodes.len();
         let most = volumes::file(&vec![MOST_EVENTS; nodes]);
-        for checking in cases {
-            let any = volumes::any(&mut self.volumes, nodes);
-            let with = |volumes: Vec<u8>| pricing::Case {
-                checking: checking.clone(),
-                volumes,
-            };
-            self.price_cases(&[with(any), with(most.clone())])?;
+        for checking in &cases {
+            let any = volumes::any(&mut self.lines, nodes);
+            self.price_both(checking, any)?;
+            self.price_both(checking, most.clone())?;
         }
         Ok(())
     }

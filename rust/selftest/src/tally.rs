@@ -1,5 +1,6 @@
 //! What the rounds came to.
 use dapohiru_compare::checking;
+use dapohiru_compare::pricing::By;
 use dapohiru_compare::promise::{Needed, Walked};
 use dapohiru_compare::records;
 use dapohiru_compare::serving;
@@ -15,10 +16,11 @@ pub struct Tally {
     pub faithful: u64,
     pub different: u64,
     pub priced: u64,
+    pub priced_by: u64,
     pub quiet: u64,
     pub alarm: u64,
-    /// By number, 1 to 16.
-    pub refused: [u64; 17],
+    /// By number, up to 28.
+    pub refused: [u64; 29],
     walks: u64,
     /// Walks that came in again, and walks that returned.
     came_in: u64,
@@ -30,23 +32,33 @@ pub struct Tally {
 }
 
 /// What each refusal means.
-const MEANINGS: [&str; 16] = [
-    "the file is longer than 49,914 bytes",
-    "a lent buffer is too short",
-    "the file ends where a line is due",
-    "a line has not its letter, its fields or its end byte",
-    "a J number is outside its limits",
-    "an R line",
-    "a P line",
-    "an F line",
-    "bytes follow the last line",
-    "no node is an entry",
-    "a plan is not exactly N bytes",
-    "a plan byte is above 1, or is 1 at a node that is no event",
-    "a rule",
-    "a symbol",
-    "a record",
-    "a volume file is not exactly one V line for each node, in order",
+const MEANINGS: [(usize, &str); 17] = [
+    (1, "the file is longer than 49,914 bytes"),
+    (2, "a lent buffer is too short"),
+    (3, "the file ends where a line is due"),
+    (4, "a line has not its letter, its fields or its end byte"),
+    (5, "a J number is outside its limits"),
+    (6, "an R line"),
+    (7, "a P line"),
+    (8, "an F line"),
+    (9, "bytes follow the last line"),
+    (10, "no node is an entry"),
+    (11, "a plan is not exactly N bytes"),
+    (
+        12,
+        "a plan byte is above 1, or is 1 at a node that is no event",
+    ),
+    (13, "a rule"),
+    (14, "a symbol"),
+    (15, "a record"),
+    (
+        16,
+        "a volume file is not exactly one V line for each node, in order",
+    ),
+    (
+        28,
+        "a price file is not exactly one B line for each of 16 symbols, in order",
+    ),
 ];
 
 impl Tally {
@@ -75,11 +87,12 @@ impl Tally {
         }
     }
 
-    /// Counts an answer of pricing.
-    pub fn add_priced(&mut self, answer: pricing::Answer) {
-        match answer {
-            pricing::Answer::Cents(_) => self.priced += 1,
-            pricing::Answer::Refused(number) => self.add_refused(number, 1),
+    /// Counts an answer of pricing by the house table or by a price file.
+    pub fn add_priced(&mut self, by: By, answer: pricing::Answer) {
+        match (answer, by) {
+            (pricing::Answer::Cents(_), By::House) => self.priced += 1,
+            (pricing::Answer::Cents(_), By::File) => self.priced_by += 1,
+            (pricing::Answer::Refused(number), _) => self.add_refused(number, 1),
         }
     }
 
@@ -119,7 +132,8 @@ impl Tally {
     /// All calls.
     pub fn calls(&self) -> u64 {
         let checked = self.faithful + self.different;
-        let accepted = self.planned + self.listed + checked + self.priced;
+        let priced = self.priced + self.priced_by;
+        let accepted = self.planned + self.listed + checked + priced;
         let on_walks = 2 * self.told.events - self.told.skipped;
         let refused: u64 = self.refused.iter().sum();
         accepted + self.quiet + self.alarm + on_walks + refused
@@ -134,7 +148,8 @@ impl fmt::Display for Tally {
             (self.listed, "jobs listed"),
             (self.faithful, "plans faithful"),
             (self.different, "plans different"),
-            (self.priced, "plans priced"),
+            (self.priced, "plans priced by the house table"),
+            (self.priced_by, "plans priced by a price file"),
             (self.quiet, "events quiet"),
             (self.alarm, "events with an alarm"),
             (self.walks, "walks with two monitors"),
@@ -152,7 +167,7 @@ impl fmt::Display for Tally {
                 writeln!(f, "{count:>12}  {what}")?;
             }
         }
-        for (number, meaning) in (1..).zip(MEANINGS) {
+        for (number, meaning) in MEANINGS {
             let count = self.refused[number];
             writeln!(f, "{count:>12}  refused {number:>2}: {meaning}")?;
         }

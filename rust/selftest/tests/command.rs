@@ -32,7 +32,7 @@ fn count(text: &str, words: &str) -> u64 {
 
 /// Asks that every refusal came.
 fn every_refusal_comes(text: &str) {
-    for number in 1..=16 {
+    for number in (1..=16).chain([28]) {
         let refused = format!("refused {number:>2}:");
         assert!(count(text, &refused) > 0, "{number}");
     }
@@ -48,7 +48,8 @@ fn rounds_find_no_difference_and_every_answer_comes() {
         "jobs listed",
         "plans faithful",
         "plans different",
-        "plans priced",
+        "plans priced by the house table",
+        "plans priced by a price file",
         "events quiet",
         "events with an alarm",
         "walks that came in again",
@@ -75,6 +76,8 @@ fn every_slip_of_the_second_implementation_is_a_difference_that_can_be_seen_agai
         slip::Slip::of_check(),
         slip::Slip::of_planning(),
         slip::Slip::of_pricing(),
+        // those of plans and volume files are among the ones above
+        slip::Slip::PRICE_FILE.to_vec(),
     ];
     let of_walks = of_walks.concat();
     let of_walks = of_walks.iter().map(|slip| format!("{slip:?}"));

@@ -30,6 +30,7 @@ static uint8_t work[DAPOHIRU_WORK_LEN + PAST];
 static uint8_t plan[DAPOHIRU_PLAN_LEN + PAST];
 static uint8_t listing[DAPOHIRU_LISTING_LEN + PAST];
 static uint8_t volumes[DAPOHIRU_VOLUMES_LEN + PAST];
+static uint8_t prices[DAPOHIRU_PRICES_LEN + PAST];
 
 static int all(const uint8_t *bytes, size_t len, uint8_t value)
 {
@@ -52,12 +53,14 @@ static void spell(uint8_t *to, const char *from, size_t len)
         to[k] = (uint8_t)(from[k] == ' ' ? lead : from[k]);
 }
 
-/* PAIR as the file, its volume file, and buffers that hold other bytes. */
+/* PAIR as the file, its volume file and price file, and buffers that hold other bytes. */
 static void fresh(void)
 {
     spell(file, PAIR, PAIR_LEN);
     memset(volumes, FILL, sizeof volumes);
     spell(volumes, VOLUMES, VOLUMES_LEN);
+    memset(prices, FILL, sizeof prices);
+    spell(prices, PRICES, PRICES_LEN);
     memset(work, FILL, sizeof work);
     memset(plan, FILL, sizeof plan);
     memset(listing, FILL, sizeof listing);
@@ -135,8 +138,10 @@ static void refused(uint64_t number, size_t file_len, size_t work_len)
     HOLD(work_after(number));
     HOLD(all(plan, sizeof plan, FILL) && all(listing, sizeof listing, FILL));
     /* pricing gets no work buffer, and no 2 */
-    if (number != DAPOHIRU_BUFFER_TOO_SHORT)
+    if (number != DAPOHIRU_BUFFER_TOO_SHORT) {
         HOLD(dapohiru_price(file, file_len, own, 3, volumes, VOLUMES_LEN) == number);
+        HOLD(dapohiru_price_by(file, file_len, own, 3, volumes, VOLUMES_LEN, prices, 0) == number);
+    }
 }
 
 /* Puts one byte into PAIR and asks for the refusal. */
@@ -199,15 +204,36 @@ static void plans_are_refused_by_number(void)
     HOLD(memcmp(file, PAIR, PAIR_LEN) == 0);
 }
 
+/* The files as they were. */
+static uint8_t kept_file[sizeof file], kept_volumes[sizeof volumes], kept_prices[sizeof prices];
+
+static void keep(void)
+{
+    memcpy(kept_file, file, sizeof file);
+    memcpy(kept_volumes, volumes, sizeof volumes);
+    memcpy(kept_prices, prices, sizeof prices);
+}
+
+static int is_kept(void)
+{
+    return memcmp(kept_file, file, sizeof file) == 0 && memcmp(kept_volumes, volumes, sizeof volumes) == 0 &&
+           memcmp(kept_prices, prices, sizeof prices) == 0;
+}
+
 /* Asks that a plan for PAIR gets this answer with the first bytes of the volume file, and that no file is changed. */
 static void priced(uint64_t answer, const uint8_t *own, size_t own_len, size_t volumes_len)
 {
-    static uint8_t kept[sizeof file + sizeof volumes];
-
-    memcpy(kept, file, sizeof file);
-    memcpy(kept + sizeof file, volumes, sizeof volumes);
+    keep();
     HOLD(dapohiru_price(file, PAIR_LEN, own, own_len, volumes, volumes_len) == answer);
-    HOLD(memcmp(kept, file, sizeof file) == 0 && memcmp(kept + sizeof file, volumes, sizeof volumes) == 0);
+    HOLD(is_kept());
+}
+
+/* The same of the price by the first bytes of the price file. */
+static void priced_by(uint64_t answer, const uint8_t *own, size_t own_len, size_t volumes_len, size_t prices_len)
+{
+    keep();
+    HOLD(dapohiru_price_by(file, PAIR_LEN, own, own_len, volumes, volumes_len, prices, prices_len) == answer);
+    HOLD(is_kept());
 }
 
 static void plans_are_priced_or_refused_by_number(void)
@@ -237,6 +263,42 @@ static void plans_are_priced_or_refused_by_number(void)
     priced(DAPOHIRU_BAD_PLAN_BYTE, above, 3, VOLUMES_LEN);
     priced(DAPOHIRU_BAD_PLAN_LENGTH, above, 2, VOLUMES_LEN);
     priced(DAPOHIRU_BAD_PLAN_LENGTH, above, 4, VOLUMES_LEN);
+}
+
+static void plans_are_priced_by_a_file_or_refused_by_number(void)
+{
+    static const uint8_t every[] = {1, 1, 1}, planned[] = {0, 1, 1}, none[] = {0, 0, 0}, above[] = {1, 2, 1, 0};
+    /* the length of a B line, and the places of the first symbol and of the digits of its price */
+    const size_t b_len = 14, symbol = 6, digits = 9;
+
+    HOLD(PRICES_LEN == DAPOHIRU_PRICES_LEN);
+    fresh();
+    priced_by(DAPOHIRU_ACCEPTED + 174, every, 3, VOLUMES_LEN, PRICES_LEN);
+    priced_by(DAPOHIRU_ACCEPTED + 162, planned, 3, VOLUMES_LEN, PRICES_LEN);
+    priced_by(DAPOHIRU_ACCEPTED, none, 3, VOLUMES_LEN, PRICES_LEN);
+    memcpy(prices + digits, "9999", 4);
+    priced_by(DAPOHIRU_ACCEPTED + 20148, every, 3, VOLUMES_LEN, PRICES_LEN);
+    memcpy(prices + digits, "0000", 4);
+    priced_by(DAPOHIRU_ACCEPTED + 150, every, 3, VOLUMES_LEN, PRICES_LEN);
+
+    memcpy(prices + digits - 1, "10000", 5);
+    priced_by(DAPOHIRU_BAD_PRICES, every, 3, VOLUMES_LEN, PRICES_LEN);
+    fresh();
+    prices[symbol] = '1';
+    priced_by(DAPOHIRU_BAD_PRICES, every, 3, VOLUMES_LEN, PRICES_LEN);
+    fresh();
+    prices[0] = 'V';
+    priced_by(DAPOHIRU_BAD_PRICES, every, 3, VOLUMES_LEN, PRICES_LEN);
+    fresh();
+    priced_by(DAPOHIRU_BAD_PRICES, every, 3, VOLUMES_LEN, 0);
+    priced_by(DAPOHIRU_BAD_PRICES, every, 3, VOLUMES_LEN, PRICES_LEN - b_len);
+    priced_by(DAPOHIRU_BAD_PRICES, every, 3, VOLUMES_LEN, PRICES_LEN - 1);
+    prices[PRICES_LEN] = '\n';
+    priced_by(DAPOHIRU_BAD_PRICES, every, 3, VOLUMES_LEN, PRICES_LEN + 1);
+    /* the price file is looked at last */
+    priced_by(DAPOHIRU_BAD_VOLUMES, every, 3, VOLUMES_LEN - 1, PRICES_LEN + 1);
+    priced_by(DAPOHIRU_BAD_PLAN_BYTE, above, 3, VOLUMES_LEN - 1, PRICES_LEN + 1);
+    priced_by(DAPOHIRU_BAD_PLAN_LENGTH, above, 2, VOLUMES_LEN - 1, PRICES_LEN + 1);
 }
 
 /* A record with the given state and alarm total, and bytes past it. */
@@ -297,12 +359,14 @@ int main(void)
     calls_that_may_come_back_in_are_planned_and_checked();
     files_and_buffers_are_refused_by_number();
     plans_are_priced_or_refused_by_number();
+    plans_are_priced_by_a_file_or_refused_by_number();
     lead = ' ';
     pair_is_planned_listed_and_checked();
     calls_that_may_come_back_in_are_planned_and_checked();
     files_and_buffers_are_refused_by_number();
     plans_are_refused_by_number();
     plans_are_priced_or_refused_by_number();
+    plans_are_priced_by_a_file_or_refused_by_number();
     events_move_the_record_and_count_alarms();
     printf("%d tests, %d failed\n", tests, failures);
     return failures == 0 && tests > 0 ? EXIT_SUCCESS : EXIT_FAILURE;

@@ -1,6 +1,6 @@
 /*
  * Lends one buffer that is a byte or more shorter than the call is told, so that valgrind must see the library
- * reach past it: past job | work | plan | listing | checked | priced | volumes | rule | record.
+ * reach past it: past job | work | plan | listing | checked | priced | volumes | prices | rule | record.
  */
 #include "dapohiru.h"
 #include "pair.h"
@@ -22,6 +22,7 @@ int main(int argc, char **argv)
     const char *name = argc == 2 ? argv[1] : "";
     const size_t job_len = PAIR_LEN - (strcmp(name, "job") == 0);
     const size_t volumes_len = VOLUMES_LEN - (strcmp(name, "volumes") == 0);
+    const size_t prices_len = PRICES_LEN - (strcmp(name, "prices") == 0);
     uint8_t *job = lent(name, "job", PAIR_LEN, PAIR_LEN - 1);
     uint8_t *work = lent(name, "work", DAPOHIRU_WORK_LEN, DAPOHIRU_WORK_LEN - 1);
     uint8_t *plan = lent(name, "plan", DAPOHIRU_PLAN_LEN, 2);
@@ -29,15 +30,18 @@ int main(int argc, char **argv)
     uint8_t *checked = lent(name, "checked", 3, 2);
     uint8_t *priced = lent(name, "priced", 3, 2);
     uint8_t *volumes = lent(name, "volumes", VOLUMES_LEN, VOLUMES_LEN - 1);
+    uint8_t *prices = lent(name, "prices", PRICES_LEN, PRICES_LEN - 1);
     uint8_t *rule = lent(name, "rule", DAPOHIRU_RULE_LEN, DAPOHIRU_RULE_LEN - 1);
     uint8_t *rec = lent(name, "record", DAPOHIRU_RECORD_LEN, DAPOHIRU_RECORD_LEN - 1);
 
     memcpy(job, PAIR, job_len);
     memcpy(volumes, VOLUMES, volumes_len);
+    memcpy(prices, PRICES, prices_len);
     dapohiru_plan(job, PAIR_LEN, work, DAPOHIRU_WORK_LEN, plan, DAPOHIRU_PLAN_LEN);
     dapohiru_list(job, PAIR_LEN, work, DAPOHIRU_WORK_LEN, listing, DAPOHIRU_LISTING_LEN);
     dapohiru_check(job, PAIR_LEN, checked, 3, work, DAPOHIRU_WORK_LEN);
     dapohiru_price(job, PAIR_LEN, priced, 3, volumes, VOLUMES_LEN);
+    dapohiru_price_by(job, PAIR_LEN, priced, 3, volumes, VOLUMES_LEN, prices, PRICES_LEN);
     dapohiru_event(rule, DAPOHIRU_RULE_LEN, 16, 16, 0, 15, rec, DAPOHIRU_RECORD_LEN);
     free(job);
     free(work);
@@ -46,6 +50,7 @@ int main(int argc, char **argv)
     free(checked);
     free(priced);
     free(volumes);
+    free(prices);
     free(rule);
     free(rec);
     return 0;

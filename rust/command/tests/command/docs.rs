@@ -1,6 +1,7 @@
 //! The examples of docs/USERS.md: every command of a `console` block that runs `./dapohiru` is run on a
 //! terminal, in a folder with the program and `examples/`, and prints what stands there.
 use crate::program::{folder, PROGRAM};
+use crate::words::COMMANDS;
 use std::os::unix::fs::symlink;
 use std::path::Path;
 use std::process::{Command, Stdio};
@@ -75,9 +76,7 @@ fn examples_of_the_users_page_print_what_stands_there() {
         assert_eq!(without_times(&printed), without_times(wanted), "{command}");
     }
     println!("{} examples", examples.len());
-    for name in [
-        "plan", "list", "check", "price", "watch", "release", "graph",
-    ] {
+    for name in COMMANDS {
         let word = format!("./dapohiru {name} ");
         assert!(
             examples.iter().any(|(command, _)| command.contains(&word)),

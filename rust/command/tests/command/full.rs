@@ -7,6 +7,7 @@ use std::process::Stdio;
 /// The commands that print, each with its standard input.
 fn printing() -> Vec<(Vec<String>, &'static str)> {
     let (job, volumes) = (example("pair.job"), example("pair.volumes"));
+    let prices = example("association.prices");
     let folder = folder("full-release");
     file(&folder, "pair.job", PAIR.as_bytes());
     let release = folder.display().to_string();
@@ -21,6 +22,11 @@ fn printing() -> Vec<(Vec<String>, &'static str)> {
         (vec!["check", &job, "-"], "001\n"),
         (vec!["price", &job, "-", &volumes], "011\n"),
         (vec!["price", &job, "-", &volumes, "--explain"], "011\n"),
+        (
+            vec!["price", &job, "-", &volumes, "--prices", &prices],
+            "011\n",
+        ),
+        (vec!["prices"], ""),
         (vec!["watch", &job], ""),
         (vec!["watch", &job], "0\n2\n2\n2\n"),
         (vec!["release", &release], ""),

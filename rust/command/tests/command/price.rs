@@ -1,14 +1,16 @@
 //! The command `price`.
-use crate::program::{example, file, folder, pair_with, run, PAIR};
+use crate::program::{example, file, folder, pair_with, run, shell, PAIR};
 use dapohiru_generators::random::Random;
 use dapohiru_generators::samples::{self, call, event, exit, reentrant, PLAIN_NODE};
 use dapohiru_generators::samples::{REOPEN, SEAL, WRITE};
 use dapohiru_generators::zeros::filled;
-use dapohiru_generators::{small, volumes};
+use dapohiru_generators::{prices, small, volumes};
 use dapohiru_second::pricing::{self, Answer, Call};
 
 /// The volume file in `examples/`.
 const VOLUMES: &str = include_str!("../../../../examples/pair.volumes");
+/// An association's price file there.
+const OWN: &str = include_str!("../../../../examples/association.prices");
 /// What is said of a plan that is different.
 const DIFFERENT: &str = "is different: on some walk it has other alarms than all points watched\n";
 
@@ -56,6 +58,9 @@ fn any_one_of_the_files_is_standard_input() {
     assert_eq!(run(&["price", "-", &plan, &volumes], PAIR), wanted);
     assert_eq!(run(&["price", &job, "-", &volumes], "011\n"), wanted);
     assert_eq!(run(&["price", &job, &plan, "-"], VOLUMES), wanted);
+    let words = ["price", &job, &plan, &volumes, "--prices", "-"];
+    let wanted = (0, "15 cents a day, 0.15\n".to_string(), String::new());
+    assert_eq!(run(&words, OWN), wanted);
     let words = ["price", &job, &plan, &volumes, "--explain", "--names", "-"];
     let (status, printed, _) = run(&words, "0 seal\n");
     assert_eq!(status, 0);
@@ -64,7 +69,6 @@ fn any_one_of_the_files_is_standard_input() {
 
 #[test]
 fn explained_price_shows_each_point_unrounded_and_what_the_plan_saves() {
-    let printed = include_str!("../expected/price.txt").to_string();
     let words = [
         "price",
         &example("pair.job"),
@@ -74,7 +78,99 @@ fn explained_price_shows_each_point_unrounded_and_what_the_plan_saves() {
         "--names",
         &example("pair.names"),
     ];
+    let printed = include_str!("../expected/price.txt").to_string();
     assert_eq!(run(&words, "011\n"), (0, printed, String::new()));
+    let prices = format!("--prices={}", example("association.prices"));
+    let (status, printed, wrong) = run(&[&words[..], &[&prices]].concat(), "011\n");
+    // the file is named as it was given
+    let printed = printed.replace(&example(""), "examples/");
+    let wanted = include_str!("../expected/price-own.txt");
+    assert_eq!((status, printed.as_str(), wrong.as_str()), (0, wanted, ""));
+}
+
+#[test]
+fn own_prices_take_the_place_of_those_of_the_house() {
+    let folder = folder("price-own");
+    let job = example("pair.job");
+    // of seal, reopen and write; every other symbol costs the most
+    for (own, plan, events, printed) in [
+        ([0, 0, 0], "111\n", [999_999; 3], "0 cents a day, 0.00\n"),
+        (
+            [0, 9_999, 0],
+            "111\n",
+            [999_999; 3],
+            "0 cents a day, 0.00\n",
+        ),
+        (
+            [0, 0, 1],
+            "111\n",
+            [999_999, 999_999, 1],
+            "1 cent a day, 0.01\n",
+        ),
+        ([0, 0, 1], "111\n", [0, 0, 1_001], "2 cents a day, 0.02\n"),
+        (
+            [1, 0, 1],
+            "101\n",
+            [500, 999_999, 500],
+            "1 cent a day, 0.01\n",
+        ),
+        (
+            [20, 25, 30],
+            "011\n",
+            [1_205, 1_205, 1_180],
+            "60 cents a day, 0.60\n",
+        ),
+        (
+            [20, 25, 12],
+            "011\n",
+            [1_205, 1_205, 1_180],
+            "39 cents a day, 0.39\n",
+        ),
+        ([9_999; 3], "011\n", [0, 0, 1], "10 cents a day, 0.10\n"),
+        (
+            [9_999; 3],
+            "111\n",
+            [1_000; 3],
+            "29997 cents a day, 299.97\n",
+        ),
+        (
+            [9_999; 3],
+            "111\n",
+            [999_999; 3],
+            "29996971 cents a day, 299969.71\n",
+        ),
+    ] {
+        let mut cents = [9_999; 16];
+        cents[..3].copy_from_slice(&own);
+        let prices = file(&folder, "a.prices", &prices::file(&cents));
+        let volumes = file(&folder, "a.volumes", spelled(&events).as_bytes());
+        let words = ["price", &job, "-", &volumes, "--prices", &prices];
+        let done = run(&words, plan);
+        assert_eq!(done, (0, printed.to_string(), String::new()), "{own:?}");
+    }
+}
+
+#[test]
+fn house_prices_from_a_file_give_what_no_file_gives() {
+    let folder = folder("price-house");
+    let prices = example("house.prices");
+    for name in ["pair", "regroup", "seal", "once", "again-edge"] {
+        let job = example(&format!("{name}.job"));
+        let (_, plan, _) = run(&["plan", &job], "");
+        let nodes = 1..plan.len() as u64;
+        let events: Vec<_> = nodes.map(|node| 1_001 * node).collect();
+        let volumes = file(&folder, "a.volumes", spelled(&events).as_bytes());
+        let house = ["price", &job, "-", &volumes];
+        let own = [&house[..], &["--prices", &prices]].concat();
+        assert_eq!(run(&own, &plan), run(&house, &plan), "{name}");
+        // explained, a line more says whose prices they are
+        let explained = |words: &[&str]| run(&[words, &["--explain"]].concat(), &plan);
+        let (status, printed, wrong) = explained(&own);
+        let line = format!("The cents per thousand are the association's own, from {prices}.\n");
+        assert!(printed.contains(&line), "{printed}");
+        let printed = printed.replace(&line, "");
+        assert_eq!((status, printed, wrong), explained(&house), "{name}");
+    }
 }
 
 #[test]
@@ -135,12 +231,15 @@ fn prices_are_those_of_the_second_implementation() {
         let name = file(&folder, "a.job", &filled(&mut random, job.file()));
         let events = volumes::any(&mut random, job.nodes.len());
         let volumes = file(&folder, "a.volumes", &events);
+        let own = random.once_in(2).then(|| prices::any(&mut random));
+        let prices = own.as_ref().map(|own| file(&folder, "a.prices", own));
         let price = |plan: &[u8]| {
             let call = Call {
                 file_len: job.file().len(),
                 held: Ok(&job),
                 plan,
                 volumes: &events,
+                prices: own.as_deref(),
             };
             match pricing::price(&call, None) {
                 Answer::Cents(cents) => cents,
@@ -150,10 +249,14 @@ fn prices_are_those_of_the_second_implementation() {
         let plans = small::plans(&mut random, &job);
         let plan = &plans[random.place(plans.len())];
         let (cents, full) = (price(plan), price(&job.all_watched()));
-        let words = ["price", &name, "-", &volumes, "--explain"];
-        let (status, printed, _) = run(&words[..4], &line(plan));
+        let mut words = vec!["price", &name, "-", &volumes];
+        if let Some(prices) = &prices {
+            words.extend(["--prices", prices]);
+        }
+        let (status, printed, _) = run(&words, &line(plan));
         let begins = format!("{cents} cent");
         assert!(status == 0 && printed.starts_with(&begins), "{printed}");
+        words.push("--explain");
         let (status, explained, _) = run(&words, &line(plan));
         assert_eq!(status, 0);
         let said = [
@@ -168,7 +271,8 @@ fn prices_are_those_of_the_second_implementation() {
             let (_, rest) = rest.split_once(" a day, ").unwrap();
             assert!(rest.starts_with(&money), "{explained}");
         }
-        assert_eq!(explained.lines().count(), job.points().len() + 7);
+        let words = 7 + usize::from(own.is_some());
+        assert_eq!(explained.lines().count(), job.points().len() + words);
     }
 }
 
@@ -190,7 +294,7 @@ fn different_plan_is_noted_and_priced() {
 }
 
 #[test]
-fn refused_job_comes_before_the_plan_and_the_plan_before_the_volumes() {
+fn refusals_come_in_the_order_of_job_plan_volumes_and_prices() {
     let folder = folder("price-refused");
     let job = pair_with(&[("P     1     1     0", "P     1     0     0")]);
     let job = file(&folder, "other.job", job.as_bytes());
@@ -210,17 +314,28 @@ fn refused_job_comes_before_the_plan_and_the_plan_before_the_volumes() {
     let lines = "refused 16: the volume file is not exactly one V line for each node, in order\n  \
                  line 1, column 1: found the end of the file\n  \
                  expected: a line of the letter V and 2 fields of six columns, for node 0";
+    let prices = "refused 28: the price file is not exactly one B line for each of the symbols 0 to 15, in order\n  \
+                  line 1, column 1: found the end of the file\n  \
+                  expected: a line of the letter B and 2 fields of six columns, for symbol 0";
+    let empty = file(&folder, "empty.prices", b"");
+    let by_own = ["--prices", &empty, "--explain"];
     for (job, plan, told, refused) in [
         (&cut, &short, cut.as_str(), end),
         (&job, &short, &short, length),
         (&job, &plain, &plain, digit),
         (&job, &good, "standard input", lines),
     ] {
-        for explain in [&[][..], &["--explain"]] {
-            let words = [&["price", job, plan, "-"], explain].concat();
+        for more in [&[][..], &["--explain"], &by_own[..2], &by_own] {
+            let words = [&["price", job, plan, "-"], more].concat();
             let wrong = format!("dapohiru: {told}: {refused}\n");
             assert_eq!(run(&words, ""), (2, String::new(), wrong));
         }
+    }
+    for more in [&by_own[..2], &by_own] {
+        let volumes = example("pair.volumes");
+        let words = [&["price", &job, &good, &volumes], more].concat();
+        let wrong = format!("dapohiru: {empty}: {prices}\n");
+        assert_eq!(run(&words, ""), (2, String::new(), wrong));
     }
     let wrong = "dapohiru: standard input: line 1, column 2: found `,`\n  \
                  expected: one line of 0 and 1, a digit for each node\n";
@@ -235,6 +350,7 @@ fn file_that_cannot_be_read_is_named() {
         &["price", "/", "-", &volumes][..],
         &["price", &job, "/", &volumes],
         &["price", &job, "-", "/"],
+        &["price", &job, "-", &volumes, "--prices", "/"],
         &["price", &job, "-", &volumes, "--explain", "--names", "/"],
     ] {
         let wrong = "dapohiru: /: Is a directory (os error 21)\n".to_string();
@@ -243,7 +359,7 @@ fn file_that_cannot_be_read_is_named() {
 }
 
 #[test]
-fn largest_price_is_that_of_512_points_of_symbol_15() {
+fn largest_prices_are_those_of_512_points_of_symbol_15_and_of_the_highest_price_of_a_file() {
     let folder = folder("price-largest");
     let mut job = format!(
         "J     1    16   512     0\nR     0     0{}\n",
@@ -254,20 +370,51 @@ fn largest_price_is_that_of_512_points_of_symbol_15() {
     }
     let job = file(&folder, "a.job", job.as_bytes());
     let volumes = file(&folder, "a.volumes", spelled(&[999_999; 512]).as_bytes());
-    let words = ["price", &job, "-", &volumes, "--explain"];
+    let prices = file(&folder, "a.prices", &prices::file(&[9_999; 16]));
     let plan = "1".repeat(512) + "\n";
-    let printed = "48639952 cents a day, 486399.52\n".to_string();
-    assert_eq!(run(&words[..4], &plan), (0, printed, String::new()));
-    let (status, printed, wrong) = run(&words, &plan);
-    assert_eq!((status, wrong.as_str()), (0, ""));
-    let rows: Vec<Vec<_>> = printed
-        .lines()
-        .map(|row| row.split_whitespace().collect())
-        .collect();
-    let cost = "94999.905";
-    assert_eq!(
-        rows[512],
-        ["511", "15", "999999", "95", "watched", cost, cost]
-    );
-    assert_eq!(rows[513], ["sum", "48639951.360", "48639951.360"]);
+    let house = ["price", &job, "-", &volumes];
+    let own = [&house[..], &["--prices", &prices]].concat();
+    for (words, rate, printed, cost, sum) in [
+        (
+            &house[..],
+            "95",
+            "48639952 cents a day, 486399.52\n",
+            "94999.905",
+            "48639951.360",
+        ),
+        (
+            &own,
+            "9999",
+            "5119482881 cents a day, 51194828.81\n",
+            "9998990.001",
+            "5119482880.512",
+        ),
+    ] {
+        assert_eq!(run(words, &plan), (0, printed.to_string(), String::new()));
+        let (status, printed, wrong) = run(&[words, &["--explain"]].concat(), &plan);
+        assert_eq!((status, wrong.as_str()), (0, ""));
+        let rows: Vec<Vec<_>> = printed
+            .lines()
+            .map(|row| row.split_whitespace().collect())
+            .collect();
+        assert_eq!(
+            rows[512],
+            ["511", "15", "999999", rate, "watched", cost, cost]
+        );
+        assert_eq!(rows[513], ["sum", sum, sum]);
+    }
+}
+
+#[test]
+fn house_prices_are_printed_as_a_price_file_that_price_reads() {
+    let printed = include_str!("../../../../examples/house.prices").to_string();
+    assert_eq!(printed.as_bytes(), prices::house());
+    let done = run(&["prices"], "");
+    assert_eq!(done, (0, printed, String::new()));
+    let folder = folder("price-prices");
+    let plan = file(&folder, "pair.plan", b"011\n");
+    let (job, volumes) = (example("pair.job"), example("pair.volumes"));
+    let script = "\"$1\" prices | \"$@\" --prices -";
+    let wanted = (0, "60 cents a day, 0.60\n".to_string(), String::new());
+    assert_eq!(shell(script, &["price", &job, &plan, &volumes]), wanted);
 }

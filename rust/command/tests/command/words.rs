@@ -1,13 +1,21 @@
 //! The words of the command line: wrong ones, missing files, and the help.
 use crate::program::{example, run};
 
-const COMMANDS: [&str; 7] = [
-    "plan", "list", "check", "price", "watch", "release", "graph",
+/// The commands, in the order of the help.
+pub const COMMANDS: [&str; 8] = [
+    "plan", "list", "check", "price", "prices", "watch", "release", "graph",
 ];
+
+/// A command's name, and what follows it in its usage: words, or for `prices`, which takes none, the line's end.
+fn named(name: &str) -> String {
+    let end = if name == "prices" { '\n' } else { ' ' };
+    format!("{name}{end}")
+}
 
 #[test]
 fn unknown_command_is_told_with_the_known_ones() {
-    let known = "the commands are plan, list, check, price, watch, release, graph; `dapohiru --help` tells of each\n";
+    let names = COMMANDS.join(", ");
+    let known = format!("the commands are {names}; `dapohiru --help` tells of each\n");
     for (words, why) in [
         (&[][..], "no command is given"),
         (&["monitor"], "monitor is no command"),
@@ -30,6 +38,7 @@ fn wrong_words_are_told_with_the_usage() {
         (&["price", "--explain"], "JOB is missing"),
         (&["price", &job], "PLAN is missing"),
         (&["price", &job, "b"], "VOLUMES is missing"),
+        (&["price", &job, "b", "--prices=c"], "VOLUMES is missing"),
         (&["watch"], "JOB is missing"),
         (&["release"], "DIR is missing"),
         (&["graph", "--svg"], "JOB is missing"),
@@ -37,6 +46,8 @@ fn wrong_words_are_told_with_the_usage() {
         (&["list", &job, "b"], "b is one name too many"),
         (&["check", &job, "b", "c"], "c is one name too many"),
         (&["price", &job, "b", "c", "d"], "d is one name too many"),
+        (&["prices", "a"], "a is one name too many"),
+        (&["prices", "-"], "- is one name too many"),
         (&["watch", &job, "b", "c"], "c is one name too many"),
         (&["release", "a", "b"], "b is one name too many"),
         (&["graph", &job, "b", "c"], "c is one name too many"),
@@ -45,6 +56,8 @@ fn wrong_words_are_told_with_the_usage() {
         (&["plan", &job, "--state=1"], "--state=1 is no option"),
         (&["list", &job, "-o", "x"], "-o is no option"),
         (&["price", &job, "b", "c", "--json"], "--json is no option"),
+        (&["prices", "-o", "x"], "-o is no option"),
+        (&["prices", "--explain"], "--explain is no option"),
         (
             &["list", &job, "--explain=yes"],
             "--explain=yes is no option",
@@ -62,16 +75,28 @@ fn wrong_words_are_told_with_the_usage() {
             &["price", &job, "b", "c", "--names"],
             "--names is not followed by FILE",
         ),
+        (
+            &["price", &job, "b", "c", "--prices"],
+            "--prices is not followed by FILE",
+        ),
+        (
+            &["price", &job, "b", "c", "--prices="],
+            "--prices is not followed by FILE",
+        ),
         (&["plan", &job, "-o", "a", "-o", "b"], "-o is given twice"),
         (
             &["watch", &job, "--state=0", "--state", "1"],
             "--state is given twice",
         ),
+        (
+            &["price", &job, "b", "c", "--prices=d", "--prices=e"],
+            "--prices is given twice",
+        ),
     ] {
         let (status, printed, wrong) = run(words, "");
         assert_eq!((status, printed.as_str()), (2, ""));
         let name = words[0];
-        let begins = format!("dapohiru: {name}: {why}\nusage: dapohiru {name} ");
+        let begins = format!("dapohiru: {name}: {why}\nusage: dapohiru {}", named(name));
         assert!(wrong.starts_with(&begins), "{wrong}");
         assert!(wrong.ends_with(&format!("`dapohiru {name} --help` tells more\n")));
     }
@@ -118,6 +143,30 @@ fn words_that_do_not_go_together_are_told() {
             "price: VOLUMES and the names cannot both be standard input",
         ),
         (
+            &["price", "-", "b", "c", "--prices", "-"],
+            "price: JOB and the prices cannot both be standard input",
+        ),
+        (
+            &["price", &job, "-", "c", "--prices=-"],
+            "price: PLAN and the prices cannot both be standard input",
+        ),
+        (
+            &["price", &job, "b", "-", "--prices=-"],
+            "price: VOLUMES and the prices cannot both be standard input",
+        ),
+        (
+            &[
+                "price",
+                &job,
+                "b",
+                "c",
+                "--prices=-",
+                "--explain",
+                "--names=-",
+            ],
+            "price: the prices and the names cannot both be standard input",
+        ),
+        (
             &["watch", "-"],
             "watch: standard input holds the events, so JOB and PLAN are files",
         ),
@@ -155,6 +204,8 @@ fn missing_file_is_named() {
         &["price", &job, missing, &volumes],
         &["price", missing, "-", &volumes],
         &["price", &job, "-", missing],
+        &["price", &job, "-", &volumes, "--prices", missing],
+        &["price", missing, "-", &volumes, "--prices", "/"],
         &["watch", missing],
         &["watch", &job, missing],
         &["release", missing],
@@ -178,7 +229,8 @@ fn help_is_printed_for_all_and_for_each() {
         assert_eq!((status, wrong.as_str()), (0, ""));
         assert!(printed.starts_with("usage: dapohiru COMMAND"));
         for name in COMMANDS {
-            assert!(printed.contains(&format!("\n  {name} ")), "{printed}");
+            let line = format!("\n  {}", named(name));
+            assert!(printed.contains(&line), "{printed}");
         }
     }
     for name in COMMANDS {
@@ -189,8 +241,8 @@ fn help_is_printed_for_all_and_for_each() {
         ] {
             let (status, printed, wrong) = run(words, "");
             assert_eq!((status, wrong.as_str()), (0, ""));
-            assert!(printed.starts_with(&format!("usage: dapohiru {name} ")));
-            let first = ["\n\n  JOB ", "\n\n  DIR "];
+            assert!(printed.starts_with(&format!("usage: dapohiru {}", named(name))));
+            let first = ["\n\n  JOB ", "\n\n  DIR ", "\n\n  dapohiru prices > "];
             assert!(
                 first.iter().any(|first| printed.contains(first)),
                 "{printed}"

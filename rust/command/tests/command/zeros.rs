@@ -1,5 +1,8 @@
-//! Job files with zeros before their numbers, as spreadsheets write them, in every command.
-use crate::program::{example, file, folder, names, run, PAIR};
+//! Job files, volume files and price files with zeros before their numbers, as spreadsheets write them, in every
+//! command.
+use crate::program::{example, file, folder, names, run, run_bytes, PAIR};
+use dapohiru_generators::random::Random;
+use dapohiru_generators::zeros::{filled, zero_filled};
 use std::fs;
 use std::path::Path;
 
@@ -66,6 +69,39 @@ fn every_command_prints_for_a_file_with_zeros_what_it_prints_without() {
         assert_eq!(wanted.0, status, "{words:?}");
         assert_eq!(done(&sheet), wanted, "{words:?}");
         assert_eq!(done(&mixed), wanted, "{words:?}");
+    }
+}
+
+#[test]
+fn volume_files_and_price_files_with_zeros_give_the_prices_of_those_without() {
+    let mut random = Random::of_this_run();
+    let folder = folder("zeros-prices");
+    let plan = file(&folder, "a.plan", b"011\n");
+    let [job, volumes, own, house] = [
+        "pair.job",
+        "pair.volumes",
+        "association.prices",
+        "house.prices",
+    ]
+    .map(example);
+    for (words, name) in [
+        (&["price", &job, &plan, "-"][..], &volumes),
+        (&["price", &job, &plan, "-", "--prices", &own], &volumes),
+        (&["price", &job, &plan, &volumes, "--prices", "-"], &own),
+        (&["price", &job, &plan, &volumes, "--prices", "-"], &house),
+    ] {
+        let text = fs::read(name).unwrap();
+        let sheet = zero_filled(text.clone());
+        assert!(!sheet.contains(&b' '));
+        for explain in [&[][..], &["--explain"]] {
+            let words = [words, explain].concat();
+            let wanted = run_bytes(&words, &text);
+            assert_eq!((wanted.0, wanted.2.as_str()), (0, ""), "{words:?}");
+            for text in [sheet.clone(), filled(&mut random, text.clone())] {
+                let shown = text.escape_ascii().to_string();
+                assert_eq!(run_bytes(&words, &text), wanted, "{shown}");
+            }
+        }
     }
 }
 

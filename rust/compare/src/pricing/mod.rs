@@ -2,5 +2,5 @@
 mod cases;
 mod memory;
 
-pub use cases::{cases, refused, Case};
+pub use cases::{cases, refused, By, Case};
 pub use memory::Memory;

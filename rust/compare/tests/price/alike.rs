@@ -1,14 +1,15 @@
 //! Files with zeros before their numbers and the same files without get the same number.
 use crate::agreement::{all_answers, Calls};
 use dapohiru_compare::memory::{start_of, Counts};
-use dapohiru_compare::pricing::{cases, refused, Case, Memory};
+use dapohiru_compare::pricing::{cases, refused, By, Case, Memory};
 use dapohiru_compare::wrapper::WRAPPER;
 use dapohiru_generators::mixed;
 use dapohiru_generators::random::Random;
 use dapohiru_generators::samples::pair;
 use dapohiru_generators::sized::{self, FULL};
 use dapohiru_generators::zeros::{filled, spaced, zero_filled};
-use dapohiru_generators::{small, volumes};
+use dapohiru_generators::{prices, small, volumes};
+use dapohiru_second::pricing::Answer;
 
 /// The file with spaces before its numbers, with zeros, and with any of both.
 fn alike(random: &mut Random, file: &[u8]) -> [Vec<u8>; 3] {
@@ -18,11 +19,11 @@ fn alike(random: &mut Random, file: &[u8]) -> [Vec<u8>; 3] {
 }
 
 #[test]
-fn job_files_and_volume_files_that_are_alike_get_the_same_number() {
+fn job_files_volume_files_and_price_files_that_are_alike_get_the_same_number() {
     const JOBS: usize = 1_000;
     let mut random = Random::of_this_run();
     let mut calls = Calls::new();
-    let (mut zeros, mut volume_zeros) = (0, 0);
+    let mut zeros = Counts::default();
     for number in 0..JOBS {
         let job = match number % 100 {
             0 => sized::job(&mut random, FULL),
@@ -31,72 +32,110 @@ fn job_files_and_volume_files_that_are_alike_get_the_same_number() {
         for case in cases(&mut random, &job) {
             let wanted = calls.agree(format_args!("job {number}"), &case);
             let files = alike(&mut random, &case.checking.file);
-            for volumes in alike(&mut random, &case.volumes) {
-                for file in &files {
-                    let mut other = case.clone();
-                    other.checking.file.clone_from(file);
-                    other.volumes.clone_from(&volumes);
-                    let answer = calls.agree(format_args!("job {number}"), &other);
-                    assert_eq!(answer, wanted, "{}\nand {}", case.words(), other.words());
-                    zeros += usize::from(*file != files[0]);
-                    volume_zeros += usize::from(volumes != case.volumes);
+            let volumes = alike(&mut random, &case.volumes);
+            let prices = case.prices.as_ref().map(|file| alike(&mut random, file));
+            // every two of the three files are spelled in all pairs of ways
+            for (one, two) in (0..9).map(|pair| (pair / 3, pair % 3)) {
+                let mut other = case.clone();
+                other.checking.file.clone_from(&files[one]);
+                other.volumes.clone_from(&volumes[two]);
+                other.prices = prices.as_ref().map(|files| files[(one + two) % 3].clone());
+                let answer = calls.agree(format_args!("job {number}"), &other);
+                assert_eq!(answer, wanted, "{}\nand {}", case.words(), other.words());
+                for (name, is_other) in [
+                    ("job files", other.checking.file != files[0]),
+                    ("volume files", other.volumes != volumes[0]),
+                    (
+                        "price files",
+                        other.prices.as_ref() != prices.as_ref().map(|of| &of[0]),
+                    ),
+                ] {
+                    if is_other {
+                        zeros.add(name);
+                    }
                 }
             }
         }
     }
     calls.counts.print(&format!("{JOBS} jobs"));
     calls.counts.came(all_answers());
-    println!("{zeros} job files and {volume_zeros} volume files with zeros");
-    assert!(zeros > 10 * JOBS && volume_zeros > 10 * JOBS);
+    zeros.print("files with zeros");
+    for name in ["job files", "volume files", "price files"] {
+        assert!(zeros.of(name) > 10 * JOBS as u64, "{name}");
+    }
 }
 
-#[test]
-fn zero_before_a_space_is_refused_as_16_in_every_field() {
-    let mut memory = Memory::new(WRAPPER);
-    let (file, plan) = (pair().file(), [1, 1, 1]);
-    // one digit in every field
-    let volumes = volumes::file(&[5, 6, 7]);
-    let wanted = memory.call(&file, &plan, &volumes).unwrap();
+/// Puts every choice of a space or a zero into the five columns before each number of one digit: spaces and then
+/// zeros are read as the file is, all others are refused by this number. Gives how many files are of each.
+fn zeros_and_spaces(
+    file: &[u8],
+    refusal: u64,
+    mut answer: impl FnMut(&[u8]) -> Answer,
+) -> [u64; 2] {
+    let wanted = answer(file);
     assert_eq!(refused(wanted), None);
-    let (mut alike, mut refusals) = (0, 0);
-    let columns = (0..volumes.len()).filter(|&place| volumes[place..].starts_with(b"     "));
+    let mut seen = [0, 0];
+    let columns = (0..file.len()).filter(|&place| file[place..].starts_with(b"     "));
     for first in columns {
-        // every choice of a space or a zero in the five columns before the number
         for choice in 0..32_u8 {
             let lead: Vec<_> = (0..5)
                 .map(|column| b" 0"[usize::from(choice >> column & 1)])
                 .collect();
-            let mut other = volumes.clone();
+            let mut other = file.to_vec();
             other[first..first + 5].copy_from_slice(&lead);
-            let answer = memory.call(&file, &plan, &other).unwrap();
-            if lead.is_sorted() {
-                assert_eq!(answer, wanted, "{}", start_of(&other));
-                alike += 1;
-            } else {
-                assert_eq!(refused(answer), Some(16), "{}", start_of(&other));
-                refusals += 1;
-            }
+            let wanted = match lead.is_sorted() {
+                true => wanted,
+                false => Answer::Refused(refusal),
+            };
+            assert_eq!(answer(&other), wanted, "{}", start_of(&other));
+            seen[usize::from(!lead.is_sorted())] += 1;
         }
     }
-    println!("{alike} files are read alike, {refusals} are refused");
-    // six fields; six of the 32 choices are spaces and then zeros
-    assert_eq!((alike, refusals), (6 * 6, 6 * 26));
+    println!("{} files are read alike, {} are refused", seen[0], seen[1]);
+    seen
 }
 
 #[test]
-fn volume_files_that_are_alike_and_cut_at_the_same_byte_get_the_same_number() {
+fn zero_before_a_space_is_refused_as_16_or_28_in_every_field() {
+    let mut memory = Memory::new(WRAPPER);
+    let (file, plan) = (pair().file(), [1, 1, 1]);
+    // one digit in every field
+    let volumes = volumes::file(&[5, 6, 7]);
+    let seen = zeros_and_spaces(&volumes, 16, |volumes| {
+        memory.call(&file, &plan, volumes, None).unwrap()
+    });
+    // six fields; six of the 32 choices are spaces and then zeros
+    assert_eq!(seen, [6 * 6, 6 * 26]);
+    let prices = prices::file(&[9, 8, 7, 6, 5, 4, 3, 2, 1, 0, 1, 2, 3, 4, 5, 6]);
+    let seen = zeros_and_spaces(&prices, 28, |prices| {
+        memory.call(&file, &plan, &volumes, Some(prices)).unwrap()
+    });
+    // all prices, and the symbols of one digit
+    assert_eq!(seen, [26 * 6, 26 * 26]);
+}
+
+#[test]
+fn files_that_are_alike_and_cut_at_the_same_byte_get_the_same_number() {
     let mut random = Random::of_this_run();
     let mut calls = Calls::new();
     for number in 0..60 {
         let job = mixed::small_job(&mut random);
         let plan = small::plan(&mut random, &job);
-        let case = Case::any(&mut random, &job, plan);
-        let files = alike(&mut random, &case.volumes);
-        for cut in 0..=files[0].len() {
-            let wanted = (cut < files[0].len()).then_some(16);
+        let case = Case::any(&mut random, &job, plan, By::BOTH[number % 2]);
+        let (whole, refusal) = match &case.prices {
+            None => (&case.volumes, 16),
+            Some(prices) => (prices, 28),
+        };
+        let files = alike(&mut random, whole);
+        for cut in 0..=whole.len() {
+            let wanted = (cut < whole.len()).then_some(refusal);
             for file in &files {
                 let mut other = case.clone();
-                other.volumes = file[..cut].to_vec();
+                let part = file[..cut].to_vec();
+                match other.prices.as_mut() {
+                    None => other.volumes = part,
+                    Some(prices) => *prices = part,
+                }
                 let answer = calls.agree(format_args!("job {number}, cut at {cut}"), &other);
                 assert_eq!(refused(answer), wanted, "{}", other.words());
             }
@@ -105,31 +144,47 @@ fn volume_files_that_are_alike_and_cut_at_the_same_byte_get_the_same_number() {
     calls.counts.print("cut");
 }
 
-#[test]
-fn volume_files_of_the_generators_have_zeros_and_events_at_the_limits() {
-    let mut random = Random::of_this_run();
-    let (mut zeros, mut limits) = (Counts::default(), Counts::default());
-    for _ in 0..1_000 {
-        let events = volumes::events(&mut random, 6);
-        for limit in [0, 1, 999_999] {
-            if events.contains(&limit) {
-                limits.add(limit);
-            }
-        }
-        let file = volumes::any(&mut random, 6);
-        assert_eq!(file.len(), 6 * 14);
+/// How often so many files have zeros before none of their numbers, before all, and before some.
+fn zeros_of(files: impl Iterator<Item = Vec<u8>>) -> Counts<&'static str> {
+    let mut zeros = Counts::default();
+    for file in files {
         zeros.add(match spaced(file.clone()) {
             spaces if spaces == file => "none",
             spaces if zero_filled(spaces.clone()) == file => "all",
             _ => "some",
         });
     }
-    zeros.print("zeros in fields");
-    limits.print("events at the limits");
-    for kind in ["none", "all", "some"] {
-        assert!(zeros.of(kind) > 100, "{kind}");
+    zeros
+}
+
+#[test]
+fn files_of_the_generators_have_zeros_and_numbers_at_the_limits() {
+    const FILES: usize = 1_000;
+    let mut random = Random::of_this_run();
+    let volumes = (0..FILES).map(|_| volumes::any(&mut random, 6));
+    let of_volumes = zeros_of(volumes);
+    let of_prices = zeros_of((0..FILES).map(|_| prices::any(&mut random)));
+    for (what, zeros) in [("volume files", of_volumes), ("price files", of_prices)] {
+        zeros.print(what);
+        for kind in ["none", "all", "some"] {
+            assert!(zeros.of(kind) > 100, "{what}: {kind}");
+        }
     }
-    for limit in [0, 1, 999_999] {
-        assert!(limits.of(limit) > 100, "{limit}");
+    let mut limits = Counts::default();
+    for _ in 0..FILES {
+        let events = volumes::events(&mut random, 6);
+        let cents = prices::cents(&mut random).to_vec();
+        for (what, numbers, most) in [("events", events, 999_999), ("cents", cents, 9_999)] {
+            let there = [0, 1, most].into_iter();
+            there
+                .filter(|limit| numbers.contains(limit))
+                .for_each(|limit| limits.add((what, limit)));
+        }
+    }
+    limits.print("at the limits");
+    for (what, most) in [("events", 999_999), ("cents", 9_999)] {
+        for number in [0, 1, most] {
+            assert!(limits.of((what, number)) > 100, "{number} {what}");
+        }
     }
 }

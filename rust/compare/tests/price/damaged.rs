@@ -1,34 +1,61 @@
-//! Every damage of some kind to small volume files.
+//! Every damage of some kind to small volume files and to price files.
 use crate::agreement::Calls;
 use crate::refusals::all_kinds;
 use dapohiru_compare::damage;
 use dapohiru_compare::memory::{start_of, Counts};
 use dapohiru_compare::pricing::{refused, Case, Memory};
 use dapohiru_compare::wrapper::WRAPPER;
+use dapohiru_generators::numbered::Kind;
 use dapohiru_generators::random::Random;
-use dapohiru_generators::samples::{one_seal, pair};
+use dapohiru_generators::samples::{one_seal, pair, points};
 use dapohiru_generators::sized::Sizes;
-use dapohiru_generators::volumes;
 use dapohiru_generators::zeros::{filled, zero_filled};
+use dapohiru_generators::{prices, volumes};
 use dapohiru_second::job::{spell, Job, Line};
 use dapohiru_second::pricing::Answer;
 
-/// A job with a plan and the lines of a volume file.
-struct Sample {
-    what: &'static str,
-    job: Job,
-    plan: Vec<u8>,
-    lines: Vec<Line>,
+/// Which file of a call is damaged.
+#[derive(Clone, Copy)]
+enum Part {
+    Volumes,
+    Prices,
 }
 
-/// The files that are damaged in every way: for one point, for PAIR with a point unwatched, and for nodes of
+impl Part {
+    /// Its lines.
+    fn kind(self) -> Kind {
+        match self {
+            Part::Volumes => volumes::KIND,
+            Part::Prices => prices::KIND,
+        }
+    }
+
+    /// The number of its refusal.
+    fn refusal(self) -> u64 {
+        match self {
+            Part::Volumes => 16,
+            Part::Prices => 28,
+        }
+    }
+}
+
+/// A sound call, and the file of it that is damaged.
+struct Sample {
+    what: &'static str,
+    case: Case,
+    part: Part,
+    /// The numbers of that file.
+    numbers: Vec<u64>,
+}
+
+/// Volume files that are damaged in every way: for one point, for PAIR with a point unwatched, and for nodes of
 /// all kinds.
-fn small() -> [Sample; 3] {
+fn volume_samples() -> [Sample; 3] {
     let sample = |what, job: Job, plan: &[u8], events: &[u64]| Sample {
         what,
-        job,
-        plan: plan.to_vec(),
-        lines: volumes::lines(events),
+        case: Case::of(&job, plan.to_vec(), volumes::file(events)),
+        part: Part::Volumes,
+        numbers: events.to_vec(),
     };
     let kinds = all_kinds();
     let plan = kinds.all_watched();
@@ -44,18 +71,63 @@ fn small() -> [Sample; 3] {
     ]
 }
 
+/// Price files that are damaged in every way: for PAIR, which has three symbols, and for a point of the last of
+/// sixteen.
+fn price_samples() -> [Sample; 2] {
+    let cents = [
+        12, 0, 150, 9_999, 1, 255, 256, 1_000, 5, 4_096, 20, 25, 30, 0, 9_998, 7,
+    ];
+    let sample = |what, job: Job, events: &[u64]| Sample {
+        what,
+        case: Case::of(&job, job.all_watched(), volumes::file(events)).by(prices::file(&cents)),
+        part: Part::Prices,
+        numbers: cents.to_vec(),
+    };
+    [
+        sample("prices of PAIR", pair(), &[1_000, 49, 999_999]),
+        sample("prices of symbol 15", points(15, 1), &[1_000]),
+    ]
+}
+
+/// All of them.
+fn samples() -> Vec<Sample> {
+    volume_samples()
+        .into_iter()
+        .chain(price_samples())
+        .collect()
+}
+
 impl Sample {
-    /// The volume file, with spaces before its numbers and with zeros.
+    /// The lines of the file.
+    fn lines(&self) -> Vec<Line> {
+        self.part.kind().lines(&self.numbers)
+    }
+
+    /// The file, with spaces before its numbers and with zeros.
     fn spelled(&self) -> [Vec<u8>; 2] {
-        [spell(&self.lines), zero_filled(spell(&self.lines))]
+        let file = spell(&self.lines());
+        [file.clone(), zero_filled(file)]
     }
 
-    /// The call with this volume file.
-    fn with(&self, volumes: Vec<u8>) -> Case {
-        Case::of(&self.job, self.plan.clone(), volumes)
+    /// The call with this file.
+    fn with(&self, file: Vec<u8>) -> Case {
+        let mut case = self.case.clone();
+        match self.part {
+            Part::Volumes => case.volumes = file,
+            Part::Prices => case.prices = Some(file),
+        }
+        case
     }
 
-    /// Compares all of these volume files, each as it is and with any zeros, and says and gives the counts.
+    /// Asks that the library refuses this file.
+    #[track_caller]
+    fn is_refused(&self, memory: &mut Memory, file: Vec<u8>) {
+        let case = self.with(file);
+        let wanted = Answer::Refused(self.part.refusal());
+        assert_eq!(case.answer(memory), Ok(wanted), "{}", case.words());
+    }
+
+    /// Compares all of these files, each as it is and with any zeros, and says and gives the counts.
     fn compare_all(&self, files: impl IntoIterator<Item = Vec<u8>>) -> Counts<Option<u64>> {
         let mut random = Random::of_this_run();
         let mut calls = Calls::new();
@@ -78,20 +150,32 @@ impl Sample {
         calls.counts.print(self.what);
         calls.counts
     }
+
+    /// The answers that damage can leave: the price, and the refusal of the file.
+    fn answers(&self) -> [Option<u64>; 2] {
+        [None, Some(self.part.refusal())]
+    }
 }
 
 #[test]
-fn cut_at_every_byte_is_refused_as_16() {
+fn cut_at_every_byte_is_refused_as_16_or_28() {
     let mut memory = Memory::new(WRAPPER);
     let mut cuts = 0;
-    for sample in small() {
-        let file = sample.job.file();
+    for sample in samples() {
+        let Case {
+            checking, volumes, ..
+        } = &sample.case;
         for whole in sample.spelled() {
             for cut in 0..whole.len() {
                 // what is cut off stands past the file in memory
-                let (volumes, past) = whole.split_at(cut);
-                let answer = memory.call_before(&file, &sample.plan, volumes, past);
-                assert_eq!(answer, Ok(Answer::Refused(16)), "{} at {cut}", sample.what);
+                let split = whole.split_at(cut);
+                let (volumes, prices) = match sample.part {
+                    Part::Volumes => (split, None),
+                    Part::Prices => ((&volumes[..], &b""[..]), Some(split)),
+                };
+                let answer = memory.call_before(&checking.file, &checking.plan, volumes, prices);
+                let wanted = Answer::Refused(sample.part.refusal());
+                assert_eq!(answer, Ok(wanted), "{} at {cut}", sample.what);
                 cuts += 1;
             }
         }
@@ -100,16 +184,13 @@ fn cut_at_every_byte_is_refused_as_16() {
 }
 
 #[test]
-fn more_bytes_of_any_kind_are_refused_as_16() {
+fn more_bytes_of_any_kind_are_refused_as_16_or_28() {
     let mut memory = Memory::new(WRAPPER);
-    for sample in small() {
-        let file = sample.job.file();
+    for sample in samples() {
         for whole in sample.spelled() {
             for byte in 0..=255 {
                 for more in [1, 2, 14, 28] {
-                    let volumes = [&whole[..], &vec![byte; more]].concat();
-                    let answer = memory.call(&file, &sample.plan, &volumes);
-                    assert_eq!(answer, Ok(Answer::Refused(16)), "{more} of {byte}");
+                    sample.is_refused(&mut memory, [&whole[..], &vec![byte; more]].concat());
                 }
             }
         }
@@ -117,49 +198,65 @@ fn more_bytes_of_any_kind_are_refused_as_16() {
 }
 
 #[test]
-fn every_byte_replaced_by_any_other_agrees() {
+fn every_byte_of_the_first_and_the_last_lines_replaced_by_any_other_agrees() {
     let all: Vec<u8> = (0..=255).collect();
-    for sample in small() {
+    for sample in samples() {
         for file in sample.spelled() {
-            let counts = sample.compare_all(damage::bytes_replaced(&file, &all));
-            counts.came([None, Some(16)]);
+            // all lines of a volume file, of which the longest has six
+            let lines = file.len() / 14;
+            let places =
+                (0..file.len()).filter(|place| lines <= 6 || [0, 15].contains(&(place / 14)));
+            let files = places.flat_map(|place| damage::byte_replaced(&file, place, &all));
+            let counts = sample.compare_all(files);
+            counts.came(sample.answers());
         }
     }
 }
 
 #[test]
-fn bytes_put_in_or_taken_out_are_refused_as_16() {
-    for sample in small() {
+fn every_byte_of_a_price_file_replaced_by_many_others_agrees() {
+    for sample in price_samples() {
+        for file in sample.spelled() {
+            let counts = sample.compare_all(damage::bytes_replaced(&file, damage::BYTES));
+            counts.came(sample.answers());
+        }
+    }
+}
+
+#[test]
+fn bytes_put_in_or_taken_out_are_refused_as_16_or_28() {
+    for sample in samples() {
         for file in sample.spelled() {
             let counts = sample.compare_all(damage::bytes_moved(&file, damage::BYTES));
             assert_eq!(counts.of(None), 0);
-            counts.came([Some(16)]);
+            counts.came([Some(sample.part.refusal())]);
         }
     }
 }
 
 #[test]
 fn lines_swapped_doubled_or_missing_agree() {
-    for sample in small() {
-        let counts = sample.compare_all(damage::lines_moved(&sample.lines));
-        counts.came([None, Some(16)]);
+    for sample in samples() {
+        let lines = sample.lines();
+        let counts = sample.compare_all(damage::lines_moved(&lines));
+        counts.came(sample.answers());
         // the file itself comes once for each line, and every other is refused
-        let lines = sample.lines.len() as u64;
-        assert_eq!(counts.of(None), 2 * lines, "{}", sample.what);
+        assert_eq!(counts.of(None), 2 * lines.len() as u64, "{}", sample.what);
     }
 }
 
 #[test]
 fn numbers_at_and_past_every_limit_agree() {
-    for sample in small() {
+    for sample in samples() {
+        let job = &sample.case.checking.job;
         let sizes = Sizes {
-            states: sample.job.states() as u64,
-            symbols: sample.job.symbols,
-            nodes: sample.job.nodes.len() as u64,
-            edges: sample.job.edges.len() as u64,
+            states: job.states() as u64,
+            symbols: job.symbols,
+            nodes: job.nodes.len() as u64,
+            edges: job.edges.len() as u64,
         };
-        let counts = sample.compare_all(damage::numbers_replaced(&sample.lines, sizes));
-        counts.came([None, Some(16)]);
+        let counts = sample.compare_all(damage::numbers_replaced(&sample.lines(), sizes));
+        counts.came(sample.answers());
     }
 }
 
@@ -167,15 +264,13 @@ fn numbers_at_and_past_every_limit_agree() {
 fn place_is_never_taken_modulo_a_power_of_two() {
     let mut memory = Memory::new(WRAPPER);
     let mut files = 0;
-    for sample in small() {
-        let file = sample.job.file();
-        for line in 0..sample.lines.len() {
+    for sample in samples() {
+        for line in 0..sample.lines().len() {
             for more in (1..16).map(|k| k * 65_536).chain([256, 512, 1024, 32_768]) {
-                let mut lines = sample.lines.clone();
+                let mut lines = sample.lines();
                 lines[line].numbers[0] += more;
-                for volumes in [spell(&lines), zero_filled(spell(&lines))] {
-                    let answer = memory.call(&file, &sample.plan, &volumes);
-                    assert_eq!(answer, Ok(Answer::Refused(16)), "{:?}", lines[line]);
+                for file in [spell(&lines), zero_filled(spell(&lines))] {
+                    sample.is_refused(&mut memory, file);
                     files += 1;
                 }
             }
@@ -185,41 +280,60 @@ fn place_is_never_taken_modulo_a_power_of_two() {
 }
 
 #[test]
-fn fields_spelled_otherwise_agree() {
-    for sample in small() {
-        let counts = sample.compare_all(damage::fields_misspelled(&sample.lines));
-        counts.came([None, Some(16)]);
+fn price_above_9999_is_never_cut() {
+    let mut memory = Memory::new(WRAPPER);
+    for sample in price_samples() {
+        for line in 0..sample.lines().len() {
+            for price in [
+                10_000, 10_001, 16_384, 32_768, 65_535, 65_536, 65_556, 999_999,
+            ] {
+                let mut lines = sample.lines();
+                lines[line].numbers[1] = price;
+                sample.is_refused(&mut memory, spell(&lines));
+            }
+        }
     }
 }
 
 #[test]
-fn line_ends_letters_and_more_bytes_agree() {
-    for sample in small() {
-        let counts = sample.compare_all(damage::shape_changed(&sample.lines));
-        counts.came([None, Some(16)]);
+fn fields_spelled_otherwise_agree() {
+    for sample in samples() {
+        let counts = sample.compare_all(damage::fields_misspelled(&sample.lines()));
+        counts.came(sample.answers());
+    }
+}
+
+#[test]
+fn line_ends_letters_byte_order_marks_and_more_bytes_agree() {
+    for sample in samples() {
+        let lines = sample.lines();
+        let counts = sample.compare_all(damage::shape_changed(&lines));
+        counts.came(sample.answers());
         // each line with its own letter is the file itself
-        let lines = sample.lines.len() as u64;
-        assert_eq!(counts.of(None), 2 * lines, "{}", sample.what);
+        assert_eq!(counts.of(None), 2 * lines.len() as u64, "{}", sample.what);
     }
 }
 
 #[test]
 fn every_field_over_six_bytes_agrees() {
-    let [sample, ..] = small();
-    let whole = spell(&sample.lines);
+    let [of_volumes, ..] = volume_samples();
+    let [of_prices, ..] = price_samples();
     let columns = b" 015:9";
-    for first in [1, 7] {
-        let files = (0..columns.len().pow(6)).map(|number| {
-            let mut file = whole.clone();
-            let mut left = number;
-            for column in &mut file[first..first + 6] {
-                *column = columns[left % columns.len()];
-                left /= columns.len();
-            }
-            file
-        });
-        let counts = sample.compare_all(files);
-        counts.came([None, Some(16)]);
+    for sample in [of_volumes, of_prices] {
+        let whole = spell(&sample.lines());
+        for first in [1, 7] {
+            let files = (0..columns.len().pow(6)).map(|number| {
+                let mut file = whole.clone();
+                let mut left = number;
+                for column in &mut file[first..first + 6] {
+                    *column = columns[left % columns.len()];
+                    left /= columns.len();
+                }
+                file
+            });
+            let counts = sample.compare_all(files);
+            counts.came(sample.answers());
+        }
     }
 }
 
@@ -227,27 +341,33 @@ fn every_field_over_six_bytes_agrees() {
 fn random_damage_agrees() {
     const FILES: usize = 20_000;
     let mut random = Random::of_this_run();
-    let mut calls = Calls::new();
-    for number in 0..FILES {
-        let sample = &small()[number % 3];
-        let case = sample.with(volumes::damaged(&mut random, sample.job.nodes.len()));
-        calls.agree(format_args!("{}, file {number}", sample.what), &case);
-    }
-    calls.counts.print(&format!("{FILES} files"));
-    for answer in [None, Some(16)] {
-        let count = calls.counts.of(answer) as usize;
-        assert!(count * 20 > FILES, "{answer:?} is too rare");
+    for sample in samples() {
+        let mut calls = Calls::new();
+        for number in 0..FILES / 3 {
+            let damaged = sample.part.kind().damaged(&mut random, &sample.numbers);
+            let case = sample.with(damaged);
+            calls.agree(format_args!("{}, file {number}", sample.what), &case);
+        }
+        calls.counts.print(sample.what);
+        for answer in sample.answers() {
+            let count = calls.counts.of(answer) as usize;
+            assert!(count * 60 > FILES, "{answer:?} is too rare");
+        }
     }
 }
 
 #[test]
-fn every_fault_of_the_generators_is_refused_as_16() {
+fn every_fault_of_the_generators_is_refused_as_16_or_28() {
+    const FILES: usize = 7_000;
     let mut random = Random::of_this_run();
-    let mut calls = Calls::new();
-    for number in 0..20_000 {
-        let sample = &small()[number % 3];
-        let case = sample.with(volumes::refused(&mut random, sample.job.nodes.len()));
-        let answer = calls.agree(format_args!("{}, file {number}", sample.what), &case);
-        assert_eq!(refused(answer), Some(16), "{}", case.words());
+    for sample in samples() {
+        let mut calls = Calls::new();
+        for number in 0..FILES {
+            let damaged = sample.part.kind().refused(&mut random, &sample.numbers);
+            let case = sample.with(damaged);
+            let answer = calls.agree(format_args!("{}, file {number}", sample.what), &case);
+            let wanted = Some(sample.part.refusal());
+            assert_eq!(refused(answer), wanted, "{}", case.words());
+        }
     }
 }

@@ -1,38 +1,48 @@
 //! What a plan saves: one with fewer points watched costs no more, and planning's own no more than all points
-//! watched.
+//! watched; and what other prices do to it.
 use dapohiru::numbers::ACCEPTED;
 use dapohiru_compare::pricing::Memory;
 use dapohiru_compare::wrapper::WRAPPER;
 use dapohiru_generators::mixed;
 use dapohiru_generators::random::Random;
 use dapohiru_generators::zeros::filled;
-use dapohiru_generators::{small, volumes};
+use dapohiru_generators::{prices, small, volumes};
 use dapohiru_second::job::Job;
 use dapohiru_second::pricing::Answer;
+use std::array;
 
-/// Prices of the plans of one job under one volume file.
+/// Prices of the plans of one job under one volume file, by the house table or by a price file.
 struct Prices<'a> {
     memory: &'a mut Memory,
     file: Vec<u8>,
     volumes: Vec<u8>,
+    prices: Option<Vec<u8>>,
 }
 
 impl<'a> Prices<'a> {
-    /// A job with any volume file for it.
+    /// A job with any volume file for it, one in two with any price file.
     fn any(random: &mut Random, memory: &'a mut Memory, job: &Job) -> Self {
         Prices {
             memory,
             file: filled(random, job.file()),
             volumes: volumes::any(random, job.nodes.len()),
+            prices: random.once_in(2).then(|| prices::any(random)),
         }
     }
 
     /// The price of a plan.
     fn cents(&mut self, plan: &[u8]) -> u64 {
-        match self.memory.call(&self.file, plan, &self.volumes) {
+        let prices = self.prices.as_deref();
+        match self.memory.call(&self.file, plan, &self.volumes, prices) {
             Ok(Answer::Cents(cents)) => cents,
             answer => panic!("{answer:?}"),
         }
+    }
+
+    /// The price of a plan by the file of these prices.
+    fn cents_by(&mut self, plan: &[u8], cents: [u64; 16]) -> u64 {
+        self.prices = Some(prices::file(&cents));
+        self.cents(plan)
     }
 }
 
@@ -85,4 +95,29 @@ fn plan_of_planning_costs_at_most_what_all_points_watched_cost() {
     }
     println!("plans that save nothing, and that save cents: {saved:?}");
     assert!(saved.iter().all(|&plans| plans > JOBS / 100));
+}
+
+#[test]
+fn dearer_price_file_costs_no_less_and_a_free_one_nothing() {
+    const JOBS: usize = 4_000;
+    let mut random = Random::of_this_run();
+    let mut memory = Memory::new(WRAPPER);
+    let mut dearer = 0;
+    for number in 0..JOBS {
+        let job = mixed::job(&mut random);
+        let plan = small::plan(&mut random, &job);
+        let mut prices = Prices::any(&mut random, &mut memory, &job);
+        let more = prices::cents(&mut random);
+        let less = more.map(|cents| random.between(0, cents));
+        let rest = array::from_fn(|symbol| more[symbol] - less[symbol]);
+        let [whole, part, other] = [more, less, rest].map(|cents| prices.cents_by(&plan, cents));
+        assert!(part <= whole, "job {number}: {less:?} and {more:?}");
+        // both parts together cost the same, or one cent more
+        let both = part + other;
+        assert!(both == whole || both == whole + 1, "job {number}");
+        assert_eq!(prices.cents_by(&plan, [0; 16]), 0, "job {number}");
+        dearer += usize::from(part < whole);
+    }
+    println!("of {JOBS} price files {dearer} are dearer than one with lower prices");
+    assert!(dearer > JOBS / 10);
 }

@@ -1,6 +1,6 @@
-//! How much of the stack the call takes, which is lent no work buffer: it is made on a stack whose every byte is
+//! How much of the stack the calls take, which are lent no work buffer: they are made on a stack whose every byte is
 //! looked at afterwards.
-use dapohiru::numbers::{price, ACCEPTED};
+use dapohiru::numbers::{price, price_by, ACCEPTED};
 use dapohiru_compare::guarded::{Flush, Room};
 use dapohiru_compare::pricing::{cases, Case};
 use dapohiru_generators::random::Random;
@@ -39,7 +39,7 @@ mod ffi {
 
 /// The length of the stack.
 const STACK: usize = 1 << 18;
-/// How much more than it takes the header may say.
+/// How much more than a call takes the header may say.
 const ROOM: usize = 8_192;
 /// What stands in it before.
 const FILL: u8 = 0xa5;
@@ -57,8 +57,15 @@ extern "C" fn make(made: *mut c_void) -> *mut c_void {
     let made = unsafe { &mut *made.cast::<Made>() };
     let place = 0_u8;
     made.caller = (&raw const place).addr();
-    let Case { checking, volumes } = made.case;
-    made.number = price(&checking.file, &checking.plan, volumes);
+    let Case {
+        checking,
+        volumes,
+        prices,
+    } = made.case;
+    made.number = match prices {
+        None => price(&checking.file, &checking.plan, volumes),
+        Some(prices) => price_by(&checking.file, &checking.plan, volumes, prices),
+    };
     ptr::null_mut()
 }
 
@@ -90,7 +97,7 @@ fn taken_by(room: &mut Room, case: &Case) -> (usize, u64) {
     (made.caller - lowest, made.number)
 }
 
-/// The bytes that the header, the wrapper or a page says.
+/// The bytes that the header, the wrapper or a page says, which are the same wherever it says some.
 fn said_by(path: &str) -> usize {
     let path = Path::new(env!("CARGO_MANIFEST_DIR"))
         .join("../..")
@@ -99,16 +106,22 @@ fn said_by(path: &str) -> usize {
     let words = text.split_whitespace();
     let words: Vec<_> = words.filter(|word| !["*", "///"].contains(word)).collect();
     let text = words.join(" ");
-    let (_, after) = text.split_once(" takes less than ").expect("it is said");
-    let number = after.split(" bytes of ").next().expect("a number");
-    number.replace(',', "").parse().expect("a number")
+    let said = text.split(" less than ").skip(1);
+    let said = said.filter_map(|after| after.split(" bytes of ").next());
+    let mut said: Vec<_> = said
+        .filter_map(|number| number.replace(',', "").parse().ok())
+        .collect();
+    said.dedup();
+    assert_eq!(said.len(), 1, "{} says {said:?}", path.display());
+    said[0]
 }
 
 #[test]
-fn call_takes_less_of_the_stack_than_the_header_says() {
+fn calls_take_less_of_the_stack_than_the_header_says() {
     let mut random = Random::of_this_run();
     let mut room = Room::new(STACK);
-    let mut most = [0, 0];
+    // by the house table and by a price file, refused and with a price
+    let mut most = [[0; 2]; 2];
     for number in 0..400 {
         let job = match number {
             0 => pair(),
@@ -117,21 +130,23 @@ fn call_takes_less_of_the_stack_than_the_header_says() {
         };
         for case in cases(&mut random, &job) {
             let (taken, number) = taken_by(&mut room, &case);
-            let most = &mut most[usize::from(number >= ACCEPTED)];
+            let by_file = usize::from(case.prices.is_some());
+            let most = &mut most[by_file][usize::from(number >= ACCEPTED)];
             *most = taken.max(*most);
         }
     }
-    println!(
-        "at most {} bytes where it is refused, {} where there is a price",
-        most[0], most[1]
-    );
+    for (call, [refused, priced]) in ["price", "price_by"].iter().zip(most) {
+        println!(
+            "{call}: at most {refused} bytes where it is refused, {priced} where there is a price"
+        );
+    }
     let said = said_by("include/dapohiru.h");
     assert_eq!(said, said_by("rust/src/lib.rs"));
     assert_eq!(said, said_by("docs/SERVICE.md"));
     // where the loader binds `memset` at the first call, that takes some 3,000 bytes more
     let right = said - ROOM..said - 4_096;
     assert!(
-        most.iter().all(|most| right.contains(most)),
+        most.as_flattened().iter().all(|most| right.contains(most)),
         "{most:?}, and {said} is said"
     );
 }

@@ -1,0 +1,121 @@
+//! Files of numbered lines (document 02, "Journal price of a plan" and "An association's own journal prices"):
+//! a line for each place in order, with the place and a number, "built as in the job file".
+use crate::reading::{self, Reader};
+
+/// A wrong reading of such a file.
+#[derive(Clone, Copy, Debug, PartialEq, Eq)]
+pub(crate) enum Slip {
+    /// Where a line is due and the file ends it is 3, and where the line has not its form 4.
+    FormAs3And4,
+    /// The last line may be missing; its number is 0.
+    LastLineMissingAccepted,
+    /// The last end byte may be missing.
+    EndByteMissingAccepted,
+    /// Bytes after the last line are accepted.
+    BytesAfterAccepted,
+    /// Any letter is accepted.
+    LetterNotTested,
+    /// Lines may stand in any order.
+    PlacesNotTested,
+    /// Zeros before a number are refused.
+    ZerosRefused,
+    /// One more than the greatest number is accepted.
+    MostByOneMore,
+    /// The greatest number is refused.
+    MostRefused,
+    /// The number 0 is refused.
+    ZeroRefused,
+}
+
+/// The numbered lines of a file, which are taken one after another, with one slip or with none.
+pub(crate) struct Lines<'a> {
+    pub letter: u8,
+    /// The greatest number.
+    pub most: u64,
+    /// The refusal of a file that is not exactly these lines.
+    pub refusal: u64,
+    pub slip: Option<Slip>,
+    /// How many lines there are.
+    pub count: usize,
+    /// What is not taken so far.
+    pub rest: &'a [u8],
+}
+
+impl<'a> Lines<'a> {
+    fn slips(&self, slip: Slip) -> bool {
+        self.slip == Some(slip)
+    }
+
+    /// The refusal, for a fault that in a job file has this number.
+    fn fault(&self, number: u64) -> u64 {
+        match self.slip {
+            Some(Slip::FormAs3And4) => number,
+            _ => self.refusal,
+        }
+    }
+
+    /// Takes the line of this place, and gives its number.
+    pub fn number(&mut self, place: usize) -> Result<u64, u64> {
+        let is_missing = place + 1 == self.count && self.rest.is_empty();
+        if is_missing && self.slips(Slip::LastLineMissingAccepted) {
+            return Ok(0);
+        }
+        let line = self.take()?;
+        self.number_in(line, place)
+    }
+
+    /// Takes the line due, without its end byte.
+    pub fn take(&mut self) -> Result<&'a [u8], u64> {
+        if self.rest.is_empty() {
+            return Err(self.fault(3));
+        }
+        let mut parts = self.rest.splitn(2, |&byte| byte == b'\n');
+        let line = parts.next().expect("there is a first part");
+        self.rest = match parts.next() {
+            Some(after) => after,
+            None if self.slips(Slip::EndByteMissingAccepted) => &[],
+            None => return Err(self.fault(4)),
+        };
+        Ok(line)
+    }
+
+    /// The number in a line, which is the one of this place.
+    fn number_in(&self, line: &[u8], place: usize) -> Result<u64, u64> {
+        let malformed = self.fault(4);
+        let (&letter, columns) = line.split_first().ok_or(malformed)?;
+        if columns.len() != 12 || (letter != self.letter && !self.slips(Slip::LetterNotTested)) {
+            return Err(malformed);
+        }
+        let slip = self
+            .slips(Slip::ZerosRefused)
+            .then_some(reading::Slip::LeadingZeroRefused);
+        let field = |columns: &[u8]| Reader { slip }.number(columns).ok_or(malformed);
+        let (named, number) = columns.split_at(6);
+        let (named, number) = (field(named)?, field(number)?);
+        let is_in_place = named == place as u64 || self.slips(Slip::PlacesNotTested);
+        if is_in_place && self.is_within(number) {
+            Ok(number)
+        } else {
+            Err(self.refusal)
+        }
+    }
+
+    /// Whether a number is within its limits.
+    fn is_within(&self, number: u64) -> bool {
+        match self.slip {
+            Some(Slip::MostByOneMore) => number <= self.most + 1,
+            Some(Slip::MostRefused) => number < self.most,
+            Some(Slip::ZeroRefused) if number == 0 => false,
+            _ => number <= self.most,
+        }
+    }
+
+    /// Asks that nothing follows the last line.
+    pub fn end(&self) -> Result<(), u64> {
+        match self.rest {
+            [] => Ok(()),
+            _ if self.slips(Slip::BytesAfterAccepted) => Ok(()),
+            _ => Err(self.refusal),
+        }
+    }
+}
