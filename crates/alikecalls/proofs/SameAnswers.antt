@@ -138,10 +138,10 @@ prices-last file plan volumes f g h (without-prices b) = without-prices b
 prices-last file plan volumes f g h (other-prices b none) = absurd (h refl)
 
 -- and any but 16 and 28 is that beside any volume file
-volumes-before-prices
+own-volumes-last
     : (file plan f g prices : List ℕ) {r : ℕ} → r ≢ 16 → r ≢ 28 → OwnPriceRefused file plan f prices r → OwnPriceRefused file plan g prices r
-volumes-before-prices file plan f g prices h k (without-prices b) = without-prices (same-refusal file plan f g h b)
-volumes-before-prices file plan f g prices h k (other-prices b none) = absurd (k refl)
+own-volumes-last file plan f g prices h k (without-prices b) = without-prices (same-refusal file plan f g h b)
+own-volumes-last file plan f g prices h k (other-prices b none) = absurd (k refl)
 
 -- ---- the theorem
 
@@ -170,7 +170,7 @@ same-answers =
       prices-last = λ file plan volumes f g r h e.
           own-price-refused file plan volumes g r .1
           (prices-last file plan volumes f g h (own-price-refused file plan volumes f r .0 e));
-      volumes-before-prices = λ file plan f g prices r h k e.
+      own-volumes-last = λ file plan f g prices r h k e.
           own-price-refused file plan g prices r .1
-          (volumes-before-prices file plan f g prices h k (own-price-refused file plan f prices r .0 e));
+          (own-volumes-last file plan f g prices h k (own-price-refused file plan f prices r .0 e));
     }

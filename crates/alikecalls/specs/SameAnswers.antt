@@ -143,6 +143,6 @@ pub record SameAnswers : Type 0 where
       : (f g due : List ℕ) → length f ≡ length g → ColumnDue priceLine 16 f due → AlikeUpTo due f g → OneOwnPrice f g
   pub prices-last
       : (file plan volumes f g : List ℕ) (r : ℕ) → r ≢ 28 → pricedBy file plan volumes f ≡ Refused r → pricedBy file plan volumes g ≡ Refused r
-  pub volumes-before-prices
+  pub own-volumes-last
       : (file plan f g prices : List ℕ) (r : ℕ) → r ≢ 16 → r ≢ 28 → pricedBy file plan f prices ≡ Refused r
       → pricedBy file plan g prices ≡ Refused r

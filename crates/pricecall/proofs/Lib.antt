@@ -1,3 +1,3 @@
--- The laws that the proof of the function cites.
+-- The laws that the proofs of the functions cite.
 -- Assumes nothing.
 pub mod PriceCallLaws

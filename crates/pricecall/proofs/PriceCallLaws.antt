@@ -24,10 +24,10 @@ use Rattle.pricing.specs.Pricing.{housePrices, pricedAt, priced}
 use Rattle.pricing.specs.Inner.{PricesFit, BillFit, Billed}
 use Rattle.pricing.proofs.NumberedLaws.{column-says}
 use Rattle.pricing.proofs.PricingLaws.{priced-turned, priced-job}
-use Rattle.pricing.proofs.LargestPrice.{same-within, house-price-most}
+use Rattle.pricing.proofs.LargestPrice.{same-within}
 use Rattle.pricelist.specs.PriceList.{priceLine, unlisted, pricedBy}
 use Rattle.pricelist.specs.Inner.{SixteenFit, listedAs, PricesRead}
-use Rattle.pricelist.proofs.PriceListSays.{at-its-prices, without-list, unlisted-any}
+use Rattle.pricelist.proofs.PriceListSays.{house-within, at-its-prices, without-list, unlisted-any}
 
 -- the buffer on the stack is long enough
 pub enough : workSize ≤ length {A = ℕ} (replicate workSize 0)
@@ -69,7 +69,7 @@ module _ (prices file plan volumes l m : List ℕ) (r : Head) (enough : workSize
 
 -- the house prices are within their limit
 pub house-fit : (prices : List ℕ) → prices ≡ housePrices → PricesFit prices
-house-fit prices e s = rw e (omega (arith, house-price-most s))
+house-fit prices e s = rw e (house-within s)
 
 -- the answer at the house prices
 pub at-house

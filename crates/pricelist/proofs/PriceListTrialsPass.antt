@@ -22,5 +22,5 @@ own-trials-pass =
     and refl
     and refl
     and refl and refl and refl and refl and refl and refl
-    and refl and refl and refl and refl and refl and refl and refl
+    and refl and refl and refl and refl and refl and refl and refl and refl and refl
     and refl and refl and refl and refl and refl and done

@@ -4,12 +4,12 @@
 -- Assumes nothing.
 use mathlib.Core.Path.{_≡_}
 use mathlib.Core.Logic.{_↔_}
-use mathlib.Core.List.{List}
-use Prim.Native.Nat.{ℕ, _≤_}
+use mathlib.Core.List.{List, []}
+use Prim.Native.Nat.{ℕ, _≤_, _<_}
 use lib.ListN.{length, getD, replicate}
 use Rattle.job.specs.Job.{Job}
+use Rattle.lines.specs.Line.{at}
 use Rattle.jobfile.specs.File.{writeJob}
-use Rattle.pricing.specs.declared.price.Price.{Price}
 use Rattle.pricing.specs.declared.price.Price.the-variants.{Cents, Refused}
 use Rattle.pricing.specs.Numbered.{ColumnFile, writeColumn}
 use Rattle.pricing.specs.Pricing.{housePrices, dayCost, pricedAt, priced, priceNumber}
@@ -22,8 +22,9 @@ use Rattle.pricelist.specs.PriceList.{priceLine, pricedBy, houseFile}
 abbrev pub PriceFile : List ℕ → List ℕ → Type 0
 PriceFile prices list = ColumnFile priceLine 16 prices list
 
--- the statement: there are sixteen prices, none above 9,999, whatever the job; and every sixteen such prices have a file
+-- the statement: line s has symbol s; there are sixteen prices, none above 9,999, whatever the job; and every sixteen such prices have a file
 pub record PriceFilesSay : Type 0 where
+  pub in-order : (prices list : List ℕ) (f : PriceFile prices list) (s : ℕ) → s < 16 → at (getD (f .lines) s []) 0 ≡ s
   pub sixteen : (prices list : List ℕ) → PriceFile prices list → length list ≡ 16
   pub within : (prices list : List ℕ) → PriceFile prices list → (s : ℕ) → getD list s 0 ≤ 9999
   pub written : (list : List ℕ) → length list ≡ 16 → ((s : ℕ) → getD list s 0 ≤ 9999) → PriceFile (writeColumn 66 0 list) list

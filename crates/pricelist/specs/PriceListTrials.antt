@@ -61,9 +61,13 @@ last = linesIn ("B    15    95" ∷ [])
 abbrev pub beginning : List String → List ℕ
 beginning ls = linesIn ls ++ (inner ++ last)
 
+-- one with the house prices of the symbols 0 to 2, and then this
+abbrev pub headed : List ℕ → List ℕ
+headed rest = linesIn ("B     0    20" ∷ "B     1    25" ∷ "B     2    30" ∷ []) ++ rest
+
 -- the house table
 abbrev pub houseTable : List ℕ
-houseTable = beginning ("B     0    20" ∷ "B     1    25" ∷ "B     2    30" ∷ [])
+houseTable = headed (inner ++ last)
 
 -- 9,999 everywhere
 unfoldable pub dear : List ℕ
@@ -142,7 +146,7 @@ ownTrials =
     costs pairFile all thousands houseTable (Cents 70)
     ∷ costs pairFile own thousands houseTable (Cents 50)
     ∷ costs pairFile none thousands houseTable (Cents 0)
-    -- symbol 0 free, symbol 2 at 12; all free; free but for a symbol that no point has
+    -- symbol 0 free, symbol 2 at 12; all free; free but for symbols that no point has
     ∷ costs pairFile all thousands (beginning ("B     0     0" ∷ "B     1    25" ∷ "B     2    12" ∷ [])) (Cents 12)
     ∷ costs pairFile all (linesIn ("V     0999999" ∷ "V     1999999" ∷ "V     2999999" ∷ [])) free (Cents 0)
     ∷ costs pairFile all thousands (beginning ("B     0     0" ∷ "B     1  9999" ∷ "B     2     0" ∷ [])) (Cents 0)
@@ -158,17 +162,19 @@ ownTrials =
     -- zeros before the digits
     ∷ costs pairFile all thousands (beginning ("B000000000020" ∷ "B  0001   025" ∷ "B     2 00030" ∷ [])) (Cents 70)
     -- 28: the last line missing; a line for each symbol of the job alone; all missing; a line more; a byte more; the last byte missing
-    ∷ costs pairFile all thousands (linesIn ("B     0    20" ∷ "B     1    25" ∷ "B     2    30" ∷ []) ++ inner) (Refused 28)
-    ∷ costs pairFile all thousands (linesIn ("B     0    20" ∷ "B     1    25" ∷ "B     2    30" ∷ [])) (Refused 28)
+    ∷ costs pairFile all thousands (headed inner) (Refused 28)
+    ∷ costs pairFile all thousands (headed []) (Refused 28)
     ∷ costs pairFile all thousands [] (Refused 28)
     ∷ costs pairFile all thousands (houseTable ++ linesIn ("B    16   100" ∷ [])) (Refused 28)
     ∷ costs pairFile all thousands (houseTable ++ (10 ∷ [])) (Refused 28)
     ∷ costs pairFile all thousands
-    (linesIn ("B     0    20" ∷ "B     1    25" ∷ "B     2    30" ∷ []) ++ (inner ++ bytesIn "B    15    95")) (Refused 28)
-    -- 28: out of order; a symbol twice; 10,000; another letter; a field that is none, a sign, a space after the digits
+    (headed (inner ++ bytesIn "B    15    95")) (Refused 28)
+    -- 28: out of order; a symbol twice, also in the last line; 10,000, also there; another letter; a field that is none, a sign, a space after the digits
     ∷ costs pairFile all thousands (beginning ("B     1    25" ∷ "B     0    20" ∷ "B     2    30" ∷ [])) (Refused 28)
     ∷ costs pairFile all thousands (beginning ("B     0    20" ∷ "B     0    20" ∷ "B     2    30" ∷ [])) (Refused 28)
+    ∷ costs pairFile all thousands (headed (inner ++ linesIn ("B    14    95" ∷ []))) (Refused 28)
     ∷ costs pairFile all thousands (beginning ("B     0    20" ∷ "B     1 10000" ∷ "B     2    30" ∷ [])) (Refused 28)
+    ∷ costs pairFile all thousands (headed (inner ++ linesIn ("B    15 10000" ∷ []))) (Refused 28)
     ∷ costs pairFile all thousands (beginning ("V     0    20" ∷ "B     1    25" ∷ "B     2    30" ∷ [])) (Refused 28)
     ∷ costs pairFile all thousands (beginning ("B     0      " ∷ "B     1    25" ∷ "B     2    30" ∷ [])) (Refused 28)
     ∷ costs pairFile all thousands (beginning ("B     0   -20" ∷ "B     1    25" ∷ "B     2    30" ∷ [])) (Refused 28)

@@ -1,6 +1,6 @@
 -- A file of numbered lines, read line by line: another length, a line that does not pass, all lines.
 -- Assumes nothing.
-use mathlib.Core.Path.{_≡_, refl, ap, _∙_}
+use mathlib.Core.Path.{_≡_, ap, _∙_}
 use mathlib.Core.List.{List, []}
 use Prim.Native.Nat.{ℕ, _*_, _≤_, _<_}
 use native.Mathlib.Omega.{arith}
@@ -13,9 +13,9 @@ use Rattle.lines.specs.Lines.{lines}
 use Rattle.lines.specs.Places.{dueAt, numbersAt, beforeAt, statusAt}
 use Rattle.lines.proofs.LinesLaws.{lines-all, lines-stop}
 use Rattle.lines.proofs.AlikeLaws.{stand-length}
-use Rattle.pricing.specs.Numbered.{numberedLine, Column, column, not-these-lines, numbersIn, columnRead, columnIn}
+use Rattle.pricing.specs.Numbered.{numberedLine, column, not-these-lines, numbersIn, columnRead, columnIn}
 use Rattle.pricing.specs.Inner.{numberDue}
-use Rattle.pricing.proofs.NumberedLaws.{column-says, column-refused, due-number, due-none}
+use Rattle.pricing.proofs.NumberedLaws.{no-column-says, column-refused, due-number, due-none}
 
 module _ (letter limit refusal : ℕ) (file : List ℕ) where
   -- the number in the line of a place
@@ -37,15 +37,10 @@ module _ (letter limit refusal : ℕ) (file : List ℕ) where
   module _ (c : ℕ) where
     -- another length
     pub column-length : (length file ≡ c * 14 → ⊥) → columnIn (numberedLine letter limit refusal) c file ≡ not-these-lines
-    column-length h = go (columnIn (numberedLine letter limit refusal) c file) refl
-      where
-        go
-            : (x : Column) → columnIn (numberedLine letter limit refusal) c file ≡ x
-            → columnIn (numberedLine letter limit refusal) c file ≡ not-these-lines
-        go (column ns) e =
-            let f = column-says (numberedLine letter limit refusal) c file ns .0 e in
-            absurd (h (omega (arith, stand-length (numberedLine letter limit refusal) (f .lines) file [] (f .stand .stand), f .stand .count)))
-        go not-these-lines e = e
+    column-length h =
+        no-column-says (numberedLine letter limit refusal) c file .1
+        (λ numbers f.
+        h (omega (arith, stand-length (numberedLine letter limit refusal) (f .lines) file [] (f .stand .stand), f .stand .count)))
 
     module _ (some : 0 < refusal) where
       -- a line that does not pass

@@ -1,5 +1,5 @@
--- There is a job whose price is 48,639,952 cents, and no price is larger.
--- Why: at most 512 points, each of at most 999,999 events a day at no more than 95 cents per thousand.
+-- How large a price can be at prices up to a limit, and a job that reaches it; at the house prices, 48,639,952 cents.
+-- Why: at most 512 points, each of at most 999,999 events a day at no more than the limit.
 -- Assumes nothing.
 use mathlib.Core.Path.{_≡_, refl, sym, ap, _∙_}
 use mathlib.Core.Logic.{by-cases}
@@ -180,7 +180,7 @@ price-most prices top file plan volumes c most e =
 
 -- no price is larger
 pub price-at-most : (file plan volumes : List ℕ) (c : ℕ) → priced file plan volumes ≡ Cents c → c ≤ maxPrice
-price-at-most file plan volumes c e = price-most housePrices 95 file plan volumes c house-price-most e
+price-at-most file plan volumes c e = omega (arith, price-most housePrices 95 file plan volumes c house-price-most e)
 
 -- the largest price
 pub largest-price : LargestPrice

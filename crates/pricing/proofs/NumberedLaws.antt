@@ -167,6 +167,22 @@ pub column-within
     → (n : ℕ) → getD numbers n 0 ≤ limit
 column-within letter limit refusal c file numbers f n = rw (f .are) (numbers-within letter limit refusal (f .stand .good) n)
 
+-- and each line has its place
+places-good
+    : (letter limit refusal : ℕ) {i : ℕ} {before : List ℕ} {ls : List (List ℕ)}
+    → GoodLines (numberedLine letter limit refusal) i before ls → (n : ℕ) → n < length ls → at (getD ls n []) 0 ≡ i + n
+places-good letter limit refusal good-none n l = absurd (omega arith)
+places-good letter limit refusal (good-more {i} {before} {ns} count fit good more) zero l =
+    omega (arith, numbered-test limit i before ns .0 good .0)
+places-good letter limit refusal (good-more count fit good more) (suc n) l =
+    omega (arith, places-good letter limit refusal more n (omega arith))
+
+pub column-places
+    : (letter limit refusal c : ℕ) (file numbers : List ℕ) (f : ColumnFile (numberedLine letter limit refusal) c file numbers)
+    → (n : ℕ) → n < c → at (getD (f .lines) n []) 0 ≡ n
+column-places letter limit refusal c file numbers f n l =
+    omega (arith, places-good letter limit refusal (f .stand .good) n (omega (arith, f .stand .count)))
+
 -- ---- the line that is due
 
 -- a field's number, and whether there is one

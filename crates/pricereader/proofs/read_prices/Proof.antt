@@ -18,7 +18,7 @@ abbrev μ-loop : tie.MeasureT-loop
 returns : tie.Need-returns Inv-loop μ-loop
 returns c =
     let start = c .before .before .before in
-    read-length (start .args .file .now) (start .args .prices .now) (start .pre) (c .if1 .taken)
+    read-length (start .args .file .now) (start .args .prices .now) (start .pre) (λ e. omega (arith, e, c .if1 .taken))
 
 loop-holds : tie.Need-loop-holds Inv-loop μ-loop
 loop-holds c =
