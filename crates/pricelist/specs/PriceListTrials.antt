@@ -167,9 +167,9 @@ ownTrials =
     ∷ costs pairFile all thousands [] (Refused 28)
     ∷ costs pairFile all thousands (houseTable ++ linesIn ("B    16   100" ∷ [])) (Refused 28)
     ∷ costs pairFile all thousands (houseTable ++ (10 ∷ [])) (Refused 28)
-    ∷ costs pairFile all thousands
-    (headed (inner ++ bytesIn "B    15    95")) (Refused 28)
-    -- 28: out of order; a symbol twice, also in the last line; 10,000, also there; another letter; a field that is none, a sign, a space after the digits
+    ∷ costs pairFile all thousands (headed (inner ++ bytesIn "B    15    95")) (Refused 28)
+    -- 28: out of order; a symbol twice, also in the last line; 10,000, also there; another letter; a field that is none, a sign, a space after
+    -- the digits
     ∷ costs pairFile all thousands (beginning ("B     1    25" ∷ "B     0    20" ∷ "B     2    30" ∷ [])) (Refused 28)
     ∷ costs pairFile all thousands (beginning ("B     0    20" ∷ "B     0    20" ∷ "B     2    30" ∷ [])) (Refused 28)
     ∷ costs pairFile all thousands (headed (inner ++ linesIn ("B    14    95" ∷ []))) (Refused 28)
@@ -181,8 +181,8 @@ ownTrials =
     ∷ costs pairFile all thousands (beginning ("B     0   20 " ∷ "B     1    25" ∷ "B     2    30" ∷ [])) (Refused 28)
     -- the order: 16 before 28, and so 12, 11 and the job's; 16 beside a good price file
     ∷ costs pairFile all cut [] (Refused 16)
-    ∷ costs pairFile (1 ∷ 2 ∷ 1 ∷ []) cut [] (Refused 12)
-    ∷ costs pairFile (1 ∷ 2 ∷ []) cut [] (Refused 11)
-    ∷ costs (linesIn pairLines) (1 ∷ 2 ∷ []) cut [] (Refused 3)
+    ∷ costs pairFile (1 ∷ 2 ∷ 1 ∷ []) thousands [] (Refused 12)
+    ∷ costs pairFile (1 ∷ 1 ∷ []) thousands [] (Refused 11)
+    ∷ costs (linesIn pairLines) all thousands [] (Refused 3)
     ∷ costs pairFile all cut houseTable (Refused 16)
     ∷ []
