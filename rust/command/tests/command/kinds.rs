@@ -1,5 +1,6 @@
 //! Volume files and price files: refused ones, with the place of the fault and what is expected there.
 use crate::program::{example, run_bytes, Done, PAIR};
+use dapohiru_generators::random::Random;
 use dapohiru_generators::{numbered, prices, volumes};
 
 /// A kind of file, and what is said of it.
@@ -156,6 +157,14 @@ impl Kind {
         }
     }
 
+    /// Any numbers for its lines.
+    pub fn numbers(&self, random: &mut Random) -> Vec<u64> {
+        match self.lined.letter {
+            b'V' => volumes::events(random, self.lines),
+            _ => prices::cents(random).to_vec(),
+        }
+    }
+
     /// What is said first of a refused file.
     pub fn refused(&self, name: &str) -> String {
         format!("dapohiru: {name}: {}\n  ", self.refused)
@@ -235,6 +244,11 @@ impl Kind {
             (
                 good.clone() + "\n",
                 "line NEXT, column 1: found `\\n`",
+                "the end of the file",
+            ),
+            (
+                format!("{good}@{:>6}     0\n", self.lines),
+                "line NEXT, column 1: found `@`",
                 "the end of the file",
             ),
             (

@@ -231,49 +231,53 @@ fn prices_are_those_of_the_second_implementation() {
         let name = file(&folder, "a.job", &filled(&mut random, job.file()));
         let events = volumes::any(&mut random, job.nodes.len());
         let volumes = file(&folder, "a.volumes", &events);
-        let own = random.once_in(2).then(|| prices::any(&mut random));
-        let prices = own.as_ref().map(|own| file(&folder, "a.prices", own));
-        let price = |plan: &[u8]| {
-            let call = Call {
-                file_len: job.file().len(),
-                held: Ok(&job),
-                plan,
-                volumes: &events,
-                prices: own.as_deref(),
-            };
-            match pricing::price(&call, None) {
-                Answer::Cents(cents) => cents,
-                refused => panic!("{refused:?}"),
-            }
-        };
+        let own = prices::any(&mut random);
+        let prices = file(&folder, "a.prices", &own);
         let plans = small::plans(&mut random, &job);
         let plan = &plans[random.place(plans.len())];
-        let (cents, full) = (price(plan), price(&job.all_watched()));
-        let mut words = vec!["price", &name, "-", &volumes];
-        if let Some(prices) = &prices {
-            words.extend(["--prices", prices]);
+        let house = ["price", &name, "-", &volumes];
+        let by_own = [&house[..], &["--prices", &prices]].concat();
+        for (words, own) in [(&house[..], None), (&by_own, Some(&own[..]))] {
+            let price = |plan: &[u8]| {
+                let call = Call {
+                    file_len: job.file().len(),
+                    held: Ok(&job),
+                    plan,
+                    volumes: &events,
+                    prices: own,
+                };
+                match pricing::price(&call, None) {
+                    Answer::Cents(cents) => cents,
+                    refused => panic!("{refused:?}"),
+                }
+            };
+            let cents = [price(plan), price(&job.all_watched())];
+            let lines = job.points().len() + 7 + usize::from(own.is_some());
+            is_printed(words, &line(plan), cents, lines);
         }
-        let (status, printed, _) = run(&words, &line(plan));
-        let begins = format!("{cents} cent");
-        assert!(status == 0 && printed.starts_with(&begins), "{printed}");
-        words.push("--explain");
-        let (status, explained, _) = run(&words, &line(plan));
-        assert_eq!(status, 0);
-        let said = [
-            "\nThe plan costs ",
-            "\nWith all points watched it would be ",
-            "\nThe plan saves ",
-        ];
-        for (said, cents) in said.into_iter().zip([cents, full, full - cents]) {
-            let money = format!("{}.{:02}.\n", cents / 100, cents % 100);
-            let said = format!("{said}{cents} cent");
-            let (_, rest) = explained.split_once(&said).expect(&explained);
-            let (_, rest) = rest.split_once(" a day, ").unwrap();
-            assert!(rest.starts_with(&money), "{explained}");
-        }
-        let words = 7 + usize::from(own.is_some());
-        assert_eq!(explained.lines().count(), job.points().len() + words);
     }
+}
+
+/// These words print the price of a plan; explained, beside that of all points watched, in so many lines.
+fn is_printed(words: &[&str], plan: &str, [cents, full]: [u64; 2], lines: usize) {
+    let (status, printed, _) = run(words, plan);
+    let begins = format!("{cents} cent");
+    assert!(status == 0 && printed.starts_with(&begins), "{printed}");
+    let (status, explained, _) = run(&[words, &["--explain"]].concat(), plan);
+    assert_eq!(status, 0);
+    let said = [
+        "\nThe plan costs ",
+        "\nWith all points watched it would be ",
+        "\nThe plan saves ",
+    ];
+    for (said, cents) in said.into_iter().zip([cents, full, full - cents]) {
+        let money = format!("{}.{:02}.\n", cents / 100, cents % 100);
+        let said = format!("{said}{cents} cent");
+        let (_, rest) = explained.split_once(&said).expect(&explained);
+        let (_, rest) = rest.split_once(" a day, ").unwrap();
+        assert!(rest.starts_with(&money), "{explained}");
+    }
+    assert_eq!(explained.lines().count(), lines);
 }
 
 #[test]
