@@ -42,13 +42,14 @@ impl Tariff {
         job.points().into_iter().map(rate).collect()
     }
 
-    /// Whose prices they are, as a line, if they are not the house's.
+    /// Whose prices they are, as a line, if they are not the house's. A file is named on that line alone, whatever
+    /// its name holds.
     pub fn words(&self) -> String {
         match self {
             Tariff::House => String::new(),
             Tariff::Own(prices) => format!(
                 "The cents per thousand are the association's own, from {}.\n",
-                prices.shown
+                prices.shown.escape_debug()
             ),
         }
     }

@@ -174,6 +174,40 @@ fn house_prices_from_a_file_give_what_no_file_gives() {
 }
 
 #[test]
+fn price_file_is_named_in_one_line_whatever_its_name_holds() {
+    let folder = folder("price-named");
+    let (job, volumes) = (example("pair.job"), example("pair.volumes"));
+    for (name, shown) in [
+        ("own.prices", "own.prices"),
+        ("of the b\u{fc}ro.prices", "of the b\u{fc}ro.prices"),
+        (
+            "a.\nThe plan costs 1 cent a day, 0.01.\nb",
+            "a.\\nThe plan costs 1 cent a day, 0.01.\\nb",
+        ),
+        ("a\r\x1b[2Jb\x7f", "a\\r\\u{1b}[2Jb\\u{7f}"),
+        ("a\u{2028}b\u{202e}c", "a\\u{2028}b\\u{202e}c"),
+    ] {
+        let prices = file(&folder, name, OWN.as_bytes());
+        let words = [
+            "price",
+            &job,
+            "-",
+            &volumes,
+            "--prices",
+            &prices,
+            "--explain",
+        ];
+        let (status, printed, wrong) = run(&words, "011\n");
+        assert_eq!((status, wrong.as_str()), (0, ""));
+        let own = printed.lines().nth_back(3).unwrap();
+        let (_, named) = own.rsplit_once('/').unwrap();
+        assert!(own.starts_with("The cents per thousand are the association's own, from "));
+        assert_eq!(named, format!("{shown}."));
+        assert_eq!(printed.lines().count(), 11);
+    }
+}
+
+#[test]
 fn volumes_of_plain_nodes_and_calls_do_not_count() {
     // plain, call, write, plain, seal, call that may come back in, reopen
     let folder = folder("price-kinds");
