@@ -2,7 +2,6 @@
 //! numbers, the one of the house table, and ones with a fault or with damage.
 use crate::numbered::{near_limits, Kind};
 use crate::random::Random;
-use dapohiru_second::job::Line;
 use dapohiru_second::pricing::{self, Prices, MOST_PRICE, SYMBOLS};
 use std::array;
 
@@ -20,11 +19,6 @@ pub fn cents(random: &mut Random) -> Prices {
         2 => pricing::house(),
         _ => array::from_fn(|_| near_limits(random, &[9, 99, 256, 1_000, MOST_PRICE])),
     }
-}
-
-/// The B lines of prices, from symbol 0 on.
-pub fn lines(cents: &Prices) -> Vec<Line> {
-    KIND.lines(cents)
 }
 
 /// The price file of these prices, without zeros before its numbers.

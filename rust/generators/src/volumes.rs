@@ -2,7 +2,6 @@
 //! ones with a fault or with damage.
 use crate::numbered::{near_limits, Kind};
 use crate::random::Random;
-use dapohiru_second::job::Line;
 use dapohiru_second::pricing::MOST_EVENTS;
 
 /// V lines: a node, and its events a day.
@@ -23,11 +22,6 @@ pub fn events(random: &mut Random, nodes: usize) -> Vec<u64> {
         _ => near_limits(random, &[9, 99, 9_999, 65_537, MOST_EVENTS]),
     };
     (0..nodes).map(event).collect()
-}
-
-/// The V lines of events a day, from node 0 on.
-pub fn lines(events: &[u64]) -> Vec<Line> {
-    KIND.lines(events)
 }
 
 /// The volume file of events a day, without zeros before its numbers.
