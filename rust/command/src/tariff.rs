@@ -1,8 +1,8 @@
 //! What events cost: the prices of the house, or an association's own.
 use crate::input::{self, Input};
-use crate::numbered::VOLUMES;
 use dapohiru::Refusal;
 use dapohiru_second::job::Job;
+use dapohiru_second::numbered::VOLUMES;
 use std::ffi::OsStr;
 
 /// The prices that a plan is priced by.

@@ -8,6 +8,7 @@ use dapohiru_generators::random::Random;
 use dapohiru_generators::samples::pair;
 use dapohiru_generators::zeros::zero_filled;
 use dapohiru_generators::{prices, volumes};
+use dapohiru_second::numbered::PRICES;
 use dapohiru_second::reading::{LONGEST, WORK};
 use dapohiru_second::serving::Service;
 use dapohiru_second::step::{Answer, Second};
@@ -102,7 +103,7 @@ fn volume_files(calls: &mut Calls) -> Result<(), String> {
 /// cut short or have bytes past the last line.
 fn price_files(calls: &mut Calls) -> Result<(), String> {
     let file = pair().file();
-    let spaced = prices::KIND.file(&[1_000; 5_000]);
+    let spaced = PRICES.file(&[1_000; 5_000]);
     let both = [spaced.clone(), zero_filled(spaced)];
     let thousands = [&volumes::file(&[1_000; 3])[..], &[b'\n'; 65_536]].concat();
     let past = HIGH.map(|high| PRICES_LEN + high);

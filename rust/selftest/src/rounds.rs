@@ -20,7 +20,7 @@ use dapohiru_generators::spread::Spread;
 use dapohiru_generators::zeros::filled;
 use dapohiru_generators::{prices, volumes};
 use dapohiru_second::job::Job;
-use dapohiru_second::pricing::MOST_EVENTS;
+use dapohiru_second::numbered::VOLUMES;
 use dapohiru_second::serving::{Given, Service};
 use dapohiru_second::step::Second;
 use dapohiru_second::walk::Walks;
@@ -222,7 +222,7 @@ impl Rounds {
         let cases = plans.map(|plan| checking::Case::of(job, plan).with_zeros(random));
         self.check_cases(job, &cases)?;
         let nodes = job.nodes.len();
-        let most = volumes::file(&vec![MOST_EVENTS; nodes]);
+        let most = volumes::file(&vec![VOLUMES.most; nodes]);
         for checking in &cases {
             let any = volumes::any(&mut self.lines, nodes);
             self.price_both(checking, any)?;

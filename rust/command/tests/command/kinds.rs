@@ -1,7 +1,8 @@
 //! Volume files and price files: refused ones, with the place of the fault and what is expected there.
 use crate::program::{example, run_bytes, Done, PAIR};
 use dapohiru_generators::random::Random;
-use dapohiru_generators::{numbered, prices, volumes};
+use dapohiru_generators::{prices, volumes};
+use dapohiru_second::numbered;
 
 /// A kind of file, and what is said of it.
 pub struct Kind {
@@ -20,14 +21,14 @@ pub struct Kind {
 pub type Wrong = (String, &'static str, &'static str);
 
 pub const VOLUMES: Kind = Kind {
-    lined: volumes::KIND,
+    lined: numbered::VOLUMES,
     lines: 3,
     owner: "node",
     number: "the events a day",
     refused: "refused 16: the volume file is not exactly one V line for each node, in order",
 };
 pub const PRICES: Kind = Kind {
-    lined: prices::KIND,
+    lined: numbered::PRICES,
     lines: 16,
     owner: "symbol",
     number: "the cents per thousand",
@@ -173,7 +174,7 @@ impl Kind {
     /// A text with this kind's letter for `@` and its words for those in capitals.
     pub fn told(&self, text: &str) -> String {
         let Kind { lines, number, .. } = self;
-        let numbered::Kind { letter, most } = self.lined;
+        let numbered::Kind { letter, most, .. } = self.lined;
         let words = [
             ("END", "the end of the line (byte 10) after FORM"),
             ("DUE", "a line of the letter @ and 2 fields of six columns, for OWNER"),

@@ -3,6 +3,7 @@ use crate::kinds::{Kind, Wrong, PRICES, VOLUMES};
 use crate::places::columns;
 use crate::program::{example, file, folder, PAIR};
 use dapohiru_generators::faults::{faulty, Fault, Form};
+use dapohiru_generators::numbered::{damaged, refused};
 use dapohiru_generators::random::Random;
 use dapohiru_generators::zeros::filled;
 use dapohiru_generators::{samples, volumes};
@@ -153,8 +154,8 @@ fn refusal_of_any_damaged_volume_file_or_price_file_is_told_with_what_was_expect
         for _ in 0..300 {
             let numbers = kind.numbers(&mut random);
             let file = match random.once_in(2) {
-                true => kind.lined.damaged(&mut random, &numbers),
-                false => kind.lined.refused(&mut random, &numbers),
+                true => damaged(&mut random, kind.lined, &numbers),
+                false => refused(&mut random, kind.lined, &numbers),
             };
             let (status, printed, wrong) = kind.price(&plan, "-", &file);
             let shown = file.escape_ascii();

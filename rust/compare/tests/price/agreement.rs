@@ -8,9 +8,10 @@ use dapohiru_generators::mixed;
 use dapohiru_generators::random::Random;
 use dapohiru_generators::sized::{self, Sizes, FULL};
 use dapohiru_generators::spread::Spread;
-use dapohiru_generators::{prices, small, volumes};
+use dapohiru_generators::{numbered, prices, small, volumes};
 use dapohiru_plain::price::{price, price_by};
 use dapohiru_plain::read::Decoded;
+use dapohiru_second::numbered::PRICES;
 use dapohiru_second::pricing::Answer;
 use std::collections::BTreeSet;
 use std::fmt::Display;
@@ -198,7 +199,7 @@ fn house_table_in_a_file_with_any_zeros_gives_the_price_of_the_house_table() {
         let plan = small::plan(&mut random, &job);
         let case = Case::any(&mut random, &job, plan, By::House);
         let wanted = calls.agree(format_args!("job {number}"), &case);
-        let case = case.by(prices::KIND.any(&mut random, &house));
+        let case = case.by(numbered::any(&mut random, PRICES, &house));
         let answer = calls.agree(format_args!("job {number}"), &case);
         assert_eq!(answer, wanted, "job {number}: {}", case.words());
     }

@@ -5,13 +5,13 @@ use dapohiru_compare::damage;
 use dapohiru_compare::memory::{start_of, Counts};
 use dapohiru_compare::pricing::{refused, Case, Memory};
 use dapohiru_compare::wrapper::WRAPPER;
-use dapohiru_generators::numbered::Kind;
 use dapohiru_generators::random::Random;
 use dapohiru_generators::samples::{one_seal, pair, points};
 use dapohiru_generators::sized::Sizes;
 use dapohiru_generators::zeros::{filled, zero_filled};
-use dapohiru_generators::{prices, volumes};
+use dapohiru_generators::{numbered, prices, volumes};
 use dapohiru_second::job::{spell, Job, Line};
+use dapohiru_second::numbered::{Kind, PRICES, VOLUMES};
 use dapohiru_second::pricing::Answer;
 
 /// Which file of a call is damaged.
@@ -25,16 +25,8 @@ impl Part {
     /// Its lines.
     fn kind(self) -> Kind {
         match self {
-            Part::Volumes => volumes::KIND,
-            Part::Prices => prices::KIND,
-        }
-    }
-
-    /// The number of its refusal.
-    fn refusal(self) -> u64 {
-        match self {
-            Part::Volumes => 16,
-            Part::Prices => 28,
+            Part::Volumes => VOLUMES,
+            Part::Prices => PRICES,
         }
     }
 
@@ -131,7 +123,7 @@ impl Sample {
     #[track_caller]
     fn is_refused(&self, memory: &mut Memory, file: Vec<u8>) {
         let case = self.with(file);
-        let wanted = Answer::Refused(self.part.refusal());
+        let wanted = Answer::Refused(self.part.kind().refusal);
         assert_eq!(case.answer(memory), Ok(wanted), "{}", case.words());
     }
 
@@ -167,7 +159,7 @@ impl Sample {
 
     /// The answers that damage can leave: the price, and the refusal of the file.
     fn answers(&self) -> [Option<u64>; 2] {
-        [None, Some(self.part.refusal())]
+        [None, Some(self.part.kind().refusal)]
     }
 }
 
@@ -188,7 +180,7 @@ fn cut_at_every_byte_is_refused_as_16_or_28() {
                     Part::Prices => ((&volumes[..], &b""[..]), Some(split)),
                 };
                 let answer = memory.call_before(&checking.file, &checking.plan, volumes, prices);
-                let wanted = Answer::Refused(sample.part.refusal());
+                let wanted = Answer::Refused(sample.part.kind().refusal);
                 assert_eq!(answer, Ok(wanted), "{} at {cut}", sample.what);
                 cuts += 1;
             }
@@ -243,7 +235,7 @@ fn bytes_put_in_or_taken_out_are_refused_as_16_or_28() {
         for file in sample.spelled() {
             let counts = sample.compare_all(damage::bytes_moved(&file, damage::BYTES));
             assert_eq!(counts.of(None), 0);
-            counts.came([Some(sample.part.refusal())]);
+            counts.came([Some(sample.part.kind().refusal)]);
         }
     }
 }
@@ -359,7 +351,7 @@ fn random_damage_agrees() {
         let mut calls = Calls::new();
         for number in 0..FILES {
             let numbers = sample.any_numbers(&mut random);
-            let damaged = sample.part.kind().damaged(&mut random, &numbers);
+            let damaged = numbered::damaged(&mut random, sample.part.kind(), &numbers);
             let case = sample.with(damaged);
             calls.agree(format_args!("{}, file {number}", sample.what), &case);
         }
@@ -379,10 +371,10 @@ fn every_fault_of_the_generators_is_refused_as_16_or_28() {
         let mut calls = Calls::new();
         for number in 0..FILES {
             let numbers = sample.any_numbers(&mut random);
-            let damaged = sample.part.kind().refused(&mut random, &numbers);
+            let damaged = numbered::refused(&mut random, sample.part.kind(), &numbers);
             let case = sample.with(damaged);
             let answer = calls.agree(format_args!("{}, file {number}", sample.what), &case);
-            let wanted = Some(sample.part.refusal());
+            let wanted = Some(sample.part.kind().refusal);
             assert_eq!(refused(answer), wanted, "{}", case.words());
         }
     }

@@ -8,6 +8,7 @@ use dapohiru_generators::random::Random;
 use dapohiru_generators::samples::{call, event, exit, pair, points, reentrant, PAIR, PLAIN_NODE};
 use dapohiru_generators::{prices, small, volumes};
 use dapohiru_second::job::Job;
+use dapohiru_second::numbered::PRICES;
 use dapohiru_second::pricing::Answer;
 use dapohiru_second::reading::LONGEST;
 
@@ -126,7 +127,7 @@ fn volume_file_of_any_other_length_is_16_however_long_it_is() {
 fn price_file_of_any_other_length_is_28_however_long_it_is() {
     let mut memory = Memory::new(WRAPPER);
     let (file, plan, volumes) = (pair().file(), [1, 1, 1], volumes::file(&[1_000; 3]));
-    let lines = prices::KIND.file(&[100; 8_000]);
+    let lines = PRICES.file(&[100; 8_000]);
     for len in (0..=14 * 18).chain(long_lengths(dapohiru::PRICES_LEN)) {
         let answer = memory.call(&file, &plan, &volumes, Some(&lines[..len]));
         let wanted = match len {
@@ -146,7 +147,7 @@ fn sixteen_prices_are_asked_for_however_many_symbols_the_job_has() {
         job.next[0].truncate(symbols);
         let case = Case::of(&job, vec![1], volumes::file(&[1_000]));
         for lines in [symbols - 1, symbols, symbols + 1, 15, 16, 17] {
-            let case = case.clone().by(prices::KIND.file(&vec![300; lines]));
+            let case = case.clone().by(PRICES.file(&vec![300; lines]));
             let answer = calls.agree(format_args!("{symbols} symbols"), &case);
             let wanted = match lines {
                 16 => Answer::Cents(300),
