@@ -58,10 +58,8 @@ impl Kind {
             if due.bytes.is_empty() {
                 fault.expected += &format!(", for {owner} {this}");
             }
-            // a number that its columns do not hold
             let is_end = fault.place == Some((due.line, LINE, LINE));
-            let columns = due.bytes.get(7..LINE).filter(|columns| columns[0] != b'0');
-            if is_end && columns.is_some_and(|columns| columns.iter().all(u8::is_ascii_digit)) {
+            if is_end && runs_past(&due.bytes[7..], most) {
                 fault.expected += &format!("; {number} are at most {most}");
             }
             return Err(fault);
@@ -77,4 +75,16 @@ impl Kind {
             None => Ok(numbers[1]),
         }
     }
+}
+
+/// Whether the digits of a field go on past its six columns, and are a number above this one.
+fn runs_past(columns: &[u8], most: u64) -> bool {
+    let digits = columns.iter().skip_while(|&&byte| byte == b' ');
+    let digits = digits.take_while(|byte| byte.is_ascii_digit());
+    let number = digits.fold(0_u64, |number, digit| {
+        number
+            .saturating_mul(10)
+            .saturating_add(u64::from(digit - b'0'))
+    });
+    columns.get(6).is_some_and(u8::is_ascii_digit) && number > most
 }

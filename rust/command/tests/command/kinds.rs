@@ -18,7 +18,7 @@ pub struct Kind {
 
 /// A refused file, the place of its fault with what stands there, and what is expected; the letter and the
 /// words of a kind are left open ([`Kind::told`]).
-pub type Wrong = (String, &'static str, &'static str);
+pub type Wrong<'a> = (String, &'a str, &'a str);
 
 pub const VOLUMES: Kind = Kind {
     lined: numbered::VOLUMES,
@@ -36,7 +36,7 @@ pub const PRICES: Kind = Kind {
 };
 
 /// Texts for the second line of a file, each as in [`Wrong`].
-const SECOND_LINES: [(&str, &str, &str); 21] = [
+const SECOND_LINES: [(&str, &str, &str); 26] = [
     // the letter
     (
         "P     1  1205\n",
@@ -127,9 +127,34 @@ const SECOND_LINES: [(&str, &str, &str); 21] = [
         "END; this line has 14; MOST",
     ),
     (
+        "@     1 1000000\n",
+        "line 2, column 14: found `0`",
+        "END; this line has 15; MOST",
+    ),
+    (
+        "@     1 12345678 \n",
+        "line 2, column 14: found `6`",
+        "END; this line has 17; MOST",
+    ),
+    (
+        "@     101000000\r\n",
+        "line 2, column 14: found `0`",
+        "END; this line has 16; MOST",
+    ),
+    (
         "@     1   1205\n",
         "line 2, column 14: found `5`",
         "END; this line has 14",
+    ),
+    (
+        "@     1 000999\n",
+        "line 2, column 14: found `9`",
+        "END; this line has 14",
+    ),
+    (
+        "@     1   999 99999\n",
+        "line 2, column 14: found ` `",
+        "END; this line has 19",
     ),
     (
         "@     10001205\n",
@@ -208,7 +233,7 @@ impl Kind {
     }
 
     /// Refused files.
-    pub fn wrong(&self) -> Vec<Wrong> {
+    pub fn wrong(&self) -> Vec<Wrong<'static>> {
         let (good, last) = (self.good(), self.lines - 1);
         let last_line = |text: &str| self.with(last, text);
         let cut = |columns: &str| last_line(&format!("@{last:>6}{columns}"));
@@ -287,7 +312,7 @@ impl Kind {
             (
                 format!("@     0  1205{}", "0".repeat(70_000)),
                 "line 1, column 14: found `0`",
-                "END; this line has more than 1000",
+                "END; this line has more than 1000; MOST",
             ),
             (
                 good.repeat(2_000),

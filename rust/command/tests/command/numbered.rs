@@ -52,6 +52,24 @@ fn price_above_9999_is_told_with_the_limits() {
     ]
     .map(|(line, text, place)| (PRICES.with(line, text), place, "NUMBER"));
     faults_are_told(&PRICES, &plan, &wrong);
+    // past its columns too
+    for (text, found, told) in [
+        ("@     1 100000\n", '0', "; MOST"),
+        ("@     1  10000\n", '0', "; MOST"),
+        ("@     10010000\n", '0', "; MOST"),
+        ("@     1   9999\n", '9', ""),
+    ] {
+        let place = format!("line 2, column 14: found `{found}`");
+        let expected = format!("END; this line has 14{told}");
+        faults_are_told(&PRICES, &plan, &[(PRICES.with(1, text), &place, &expected)]);
+        // events a day of five or six digits are not above their limit
+        let expected = "END; this line has 14";
+        faults_are_told(
+            &VOLUMES,
+            &plan,
+            &[(VOLUMES.with(1, text), &place, expected)],
+        );
+    }
     // the symbol comes first
     let other = [(
         PRICES.with(1, "@     2 10000\n"),
