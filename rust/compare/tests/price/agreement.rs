@@ -71,7 +71,7 @@ fn small_jobs_with_any_plans_volume_files_and_price_files_agree() {
     println!("{} answers", answers.len());
     calls.counts.came(all_answers());
     assert!(calls.counts.of(None) > 50_000);
-    assert!(calls.counts.of(Some(16)) > 10_000 && calls.counts.of(Some(28)) > 5_000);
+    assert!(calls.counts.of(Some(16)) > 20_000 && calls.counts.of(Some(28)) > 5_000);
     assert!(answers.len() > 10_000);
 }
 
