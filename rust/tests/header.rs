@@ -8,8 +8,12 @@ use std::process::Command;
 const CALLS: &str = "rust/tests/c/calls.c";
 /// What it prints.
 const ALL_HOLD: &str = "500 tests, 0 failed\n";
+/// The service of the examples.
+const SERVICE: &str = "examples/service.c";
 /// What the C compiler is told.
 const C99: &[&str] = &["-std=c99", "-pedantic"];
+/// What the C++ compiler is told.
+const CPP: &[&str] = &["-x", "c++", "-std=c++11"];
 
 /// A path from the top of the repository.
 fn top(path: &str) -> PathBuf {
@@ -29,15 +33,15 @@ fn library() -> PathBuf {
     folder.join("libdapohiru.a")
 }
 
-/// Builds a C program with this compiler and runs it; says what it prints, or nothing without the
-/// compiler.
-fn run(source: &str, compiler: &str, options: &[&str], arguments: &[PathBuf]) -> Option<String> {
-    // each test has a program of its own
-    let name = format!(
-        "{}-{compiler}-{}",
-        source.replace('/', "-"),
-        arguments.len()
-    );
+/// Builds a C program of this name with this compiler and runs it; says what it prints, or nothing without
+/// the compiler.
+fn run(
+    name: &str,
+    source: &str,
+    compiler: &str,
+    options: &[&str],
+    arguments: &[PathBuf],
+) -> Option<String> {
     let program = Path::new(env!("CARGO_TARGET_TMPDIR")).join(name);
     let built = Command::new(compiler)
         .args(options)
@@ -63,14 +67,14 @@ fn run(source: &str, compiler: &str, options: &[&str], arguments: &[PathBuf]) ->
 
 #[test]
 fn every_call_from_c_answers_and_leaves_what_the_header_says() {
-    let said = run(CALLS, "cc", C99, &[]).expect("cc is installed");
+    let said = run("calls-c99", CALLS, "cc", C99, &[]).expect("cc is installed");
     println!("C99: {}", said.trim_end());
     assert_eq!(said, ALL_HOLD);
 }
 
 #[test]
 fn header_is_c_plus_plus_too() {
-    match run(CALLS, "c++", &["-x", "c++", "-std=c++11"], &[]) {
+    match run("calls-c++", CALLS, "c++", CPP, &[]) {
         Some(said) => assert_eq!(said, ALL_HOLD),
         None => println!("no C++ compiler is installed"),
     }
@@ -79,7 +83,7 @@ fn header_is_c_plus_plus_too() {
 #[test]
 fn service_of_the_examples_prints_what_the_docs_show() {
     let files = ["examples/pair.job", "examples/pair.volumes"].map(top);
-    let said = run("examples/service.c", "cc", C99, &files).expect("cc is installed");
+    let said = run("service", SERVICE, "cc", C99, &files).expect("cc is installed");
     let wanted = fs::read_to_string(top("rust/tests/expected/service.txt"));
     assert_eq!(said, wanted.expect("the stored output is there"));
     let docs = fs::read_to_string(top("docs/SERVICE.md")).expect("the docs are there");
@@ -98,7 +102,7 @@ fn service_of_the_examples_prices_by_a_price_file_that_is_given() {
     let cents = dapohiru::price_by(&bytes(&job), &[0, 1, 1], &bytes(&volumes), &bytes(&prices));
     let wanted = format!("\n{} cents a day\n", cents.expect("it has a price"));
     let files = [job, volumes, prices];
-    let said = run("examples/service.c", "cc", C99, &files).expect("cc is installed");
+    let said = run("service-own-prices", SERVICE, "cc", C99, &files).expect("cc is installed");
     assert!(said.contains(&wanted), "{said}");
 }
 

@@ -2,6 +2,9 @@
 use std::ffi::{OsStr, OsString};
 use std::os::unix::ffi::OsStrExt;
 
+/// The options that every command has.
+const HELP: [&str; 2] = ["--help", "-h"];
+
 /// A command: what it is called, what it takes, and what it does.
 pub struct Command {
     pub name: &'static str,
@@ -33,6 +36,14 @@ impl Command {
             ..
         } = self;
         format!("usage: dapohiru {usage}\n\n{summary}\n{details}")
+    }
+
+    /// Whether a word is one of its options, with a value joined to it or without.
+    fn has_option(&self, word: &OsStr) -> bool {
+        let (begin, _) = parts(word);
+        let mut flags = self.flags.iter().chain(&HELP);
+        let mut options = self.options.iter();
+        flags.any(|flag| word == *flag) || options.any(|(name, _)| name.as_bytes() == begin)
     }
 
     /// What is wrong with the words, with the usage.
@@ -89,7 +100,7 @@ pub fn take(command: &Command, words: &[OsString]) -> Result<Asked, String> {
             given.names.push(word.clone());
         } else if word == "--" {
             options_end = true;
-        } else if word == "--help" || word == "-h" {
+        } else if HELP.iter().any(|help| word == help) {
             return Ok(Asked::Help);
         } else if let Some(&flag) = command.flags.iter().find(|&&flag| word == flag) {
             given.flags.push(flag);
@@ -112,18 +123,24 @@ pub fn take(command: &Command, words: &[OsString]) -> Result<Asked, String> {
     Ok(Asked::Run(given))
 }
 
-/// The option with a value that a word begins, and its value: the rest of `--NAME=VALUE`, or the next word.
+/// What a word begins with, and the value that is joined to it in `--NAME=VALUE`.
+fn parts(word: &OsStr) -> (&[u8], Option<&[u8]>) {
+    let bytes = word.as_bytes();
+    let end = bytes.iter().position(|&byte| byte == b'=');
+    match end {
+        Some(end) if bytes.starts_with(b"--") => (&bytes[..end], Some(&bytes[end + 1..])),
+        _ => (bytes, None),
+    }
+}
+
+/// The option with a value that a word begins, and its value: the one joined to it, or the next word, unless that is
+/// an option.
 fn option(
     command: &Command,
     word: &OsStr,
     next: impl FnOnce() -> Option<OsString>,
 ) -> Result<(&'static str, OsString), String> {
-    let bytes = word.as_bytes();
-    let end = bytes.iter().position(|&byte| byte == b'=');
-    let (begin, joined) = match end {
-        Some(end) if bytes.starts_with(b"--") => (&bytes[..end], Some(&bytes[end + 1..])),
-        _ => (bytes, None),
-    };
+    let (begin, joined) = parts(word);
     let known = |(name, _): &&(&str, &str)| name.as_bytes() == begin;
     let Some(&(name, value)) = command.options.iter().find(known) else {
         let word = word.to_string_lossy();
@@ -131,7 +148,7 @@ fn option(
     };
     let given = match joined {
         Some(value) => Some(OsStr::from_bytes(value).to_os_string()),
-        None => next(),
+        None => next().filter(|next| !command.has_option(next)),
     };
     match given {
         Some(given) if !given.is_empty() => Ok((name, given)),

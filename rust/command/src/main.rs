@@ -87,8 +87,10 @@ fn help() -> String {
     }
     text + "
 JOB is a job file, PLAN a file that holds a line of 0 and 1 with one digit for each node, VOLUMES one
-with a line for each node and its events a day. One of the files of a command may be -, which is
-standard input; watch reads its events there. What begins with - is an option, up to the word --.
+with a line for each node and its events a day, and the file of --prices one with a line for each of
+the symbols 0 to 15 and what a thousand of its events cost. One of the files of a command may be -,
+which is standard input; watch reads its events there. What begins with - is an option, up to the
+word --.
 `dapohiru COMMAND --help` tells more of a command.
 
 Exit status: 0 done, faithful, no alarm; 1 different, an alarm, or a refused job in a release;

@@ -1,9 +1,7 @@
-//! Files of numbered lines, volume files and price files: written, and read a second time for the number of
-//! each line, or for the place of the first fault and what is expected there.
+//! Files of numbered lines, volume files and price files, read a second time for the number of each line, or for
+//! the place of the first fault and what is expected there.
 use crate::fault::{Due, Fault};
-use dapohiru_second::job::{spell, Line};
-use dapohiru_second::pricing::{MOST_EVENTS, MOST_PRICE};
-use dapohiru_second::reading;
+use dapohiru_second::{numbered, reading};
 
 /// The bytes of a line.
 const LINE: usize = 14;
@@ -11,47 +9,31 @@ const LINE: usize = 14;
 /// A kind of file: for each node, or each symbol, in order a line of the letter, its own number and the number
 /// that the file is for.
 pub struct Kind {
-    /// The refusal of a file that is not exactly these lines.
-    refusal: u64,
-    letter: char,
+    lined: numbered::Kind,
     /// What has a line.
     owner: &'static str,
     /// What the number is.
     number: &'static str,
-    /// The greatest number.
-    most: u64,
 }
 
 /// A volume file.
 pub const VOLUMES: Kind = Kind {
-    refusal: 16,
-    letter: 'V',
+    lined: numbered::VOLUMES,
     owner: "node",
     number: "the events a day",
-    most: MOST_EVENTS,
 };
 /// A price file.
 pub const PRICES: Kind = Kind {
-    refusal: 28,
-    letter: 'B',
+    lined: numbered::PRICES,
     owner: "symbol",
     number: "the cents per thousand",
-    most: MOST_PRICE,
 };
 
 impl Kind {
-    /// The file of these numbers.
-    pub fn file(&self, numbers: &[u64]) -> Vec<u8> {
-        let line =
-            |(owner, &number): (usize, &u64)| Line::new(self.letter as u8, &[owner as u64, number]);
-        let lines: Vec<_> = numbers.iter().enumerate().map(line).collect();
-        spell(&lines)
-    }
-
     /// The numbers of so many lines, or the first fault of the file.
     pub fn read(&self, file: &[u8], lines: usize) -> Result<Vec<u64>, Fault> {
         let mut due = Due {
-            number: self.refusal,
+            number: self.lined.refusal,
             line: 1,
             bytes: file,
         };
@@ -69,21 +51,15 @@ impl Kind {
 
     /// The number in the line due, which is this node's or symbol's, or the fault of the line.
     fn number_in(&self, due: Due, this: u64) -> Result<u64, Fault> {
-        let Kind {
-            owner,
-            number,
-            most,
-            ..
-        } = self;
+        let Kind { owner, number, .. } = self;
+        let numbered::Kind { letter, most, .. } = self.lined;
         let names = [format!("the {owner}"), format!("{number}, 0 to {most}")];
-        if let Some(mut fault) = due.form_fault(self.letter, &names) {
+        if let Some(mut fault) = due.form_fault(char::from(letter), &names) {
             if due.bytes.is_empty() {
                 fault.expected += &format!(", for {owner} {this}");
             }
-            // a number that its columns do not hold
             let is_end = fault.place == Some((due.line, LINE, LINE));
-            let columns = due.bytes.get(7..LINE).filter(|columns| columns[0] != b'0');
-            if is_end && columns.is_some_and(|columns| columns.iter().all(u8::is_ascii_digit)) {
+            if is_end && runs_past(&due.bytes[7..], most) {
                 fault.expected += &format!("; {number} are at most {most}");
             }
             return Err(fault);
@@ -92,11 +68,23 @@ impl Kind {
         let numbers: Vec<_> = fields.filter_map(reading::number).collect();
         let wrong = |field: usize, found: u64| match field {
             0 => (found != this).then(|| format!("the {owner}, {this} in this line")),
-            _ => (found > *most).then(|| names[field].clone()),
+            _ => (found > most).then(|| names[field].clone()),
         };
         match due.first_field_fault(&numbers, wrong) {
             Some(fault) => Err(fault),
             None => Ok(numbers[1]),
         }
     }
+}
+
+/// Whether the digits of a field go on past its six columns, and are a number above this one.
+fn runs_past(columns: &[u8], most: u64) -> bool {
+    let digits = columns.iter().skip_while(|&&byte| byte == b' ');
+    let digits = digits.take_while(|byte| byte.is_ascii_digit());
+    let number = digits.fold(0_u64, |number, digit| {
+        number
+            .saturating_mul(10)
+            .saturating_add(u64::from(digit - b'0'))
+    });
+    columns.get(6).is_some_and(u8::is_ascii_digit) && number > most
 }

@@ -15,15 +15,15 @@ pub const COMMAND: Command = Command {
     details: "
   JOB            a job file
   PLAN           a file that holds a line of 0 and 1, a digit for each node
-  VOLUMES        a file with a line for each node in order: V, the node, and its events a day, 0 to 999999,
-                 each number right-justified in six columns, with spaces or zeros before it
+  VOLUMES        a file with a line for each node in order: V, the node, and its events a day, 0 to 999999
   --prices FILE  an association's own prices, a file with a line for each of the symbols 0 to 15 in order:
                  B, the symbol, and the cents per thousand events, 0 to 9999; `dapohiru prices` prints such
                  a file of the house prices
   --explain      a table of what each point costs, what all points watched would cost, and what the plan
                  saves
   --names FILE   with --explain, names for the symbols: a line for each, its number, a space and its name
-One of the files may be - for standard input.
+In VOLUMES and in the file of --prices each number is right-justified in six columns, with spaces or zeros
+before it. One of the files may be - for standard input.
 
 Without --prices a thousand events of symbol s cost 20 + 5 s cents. The price is the sum over the watched
 points, and a part of a cent in the sum counts as a cent. A plan that is different is priced too, with a

@@ -1,10 +1,10 @@
 //! The command `prices`: the prices of the house, as a price file.
 use crate::args::{Command, Given};
 use crate::input::Input;
-use crate::numbered::PRICES;
 use crate::output;
 use crate::tariff::Tariff;
 use dapohiru_second::job::{Job, Node, EVENT};
+use dapohiru_second::numbered::PRICES;
 use dapohiru_second::pricing::SYMBOLS;
 
 pub const COMMAND: Command = Command {

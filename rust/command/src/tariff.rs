@@ -1,8 +1,8 @@
 //! What events cost: the prices of the house, or an association's own.
 use crate::input::{self, Input};
-use crate::numbered::VOLUMES;
 use dapohiru::Refusal;
 use dapohiru_second::job::Job;
+use dapohiru_second::numbered::VOLUMES;
 use std::ffi::OsStr;
 
 /// The prices that a plan is priced by.
@@ -42,13 +42,14 @@ impl Tariff {
         job.points().into_iter().map(rate).collect()
     }
 
-    /// Whose prices they are, as a line, if they are not the house's.
+    /// Whose prices they are, as a line, if they are not the house's. A file is named on that line alone, whatever
+    /// its name holds.
     pub fn words(&self) -> String {
         match self {
             Tariff::House => String::new(),
             Tariff::Own(prices) => format!(
                 "The cents per thousand are the association's own, from {}.\n",
-                prices.shown
+                prices.shown.escape_debug()
             ),
         }
     }

@@ -1,35 +1,24 @@
 //! Price files (document 02, "An association's own journal prices"): random ones, with any zeros before their
 //! numbers, the one of the house table, and ones with a fault or with damage.
-use crate::numbered::{near_limits, Kind};
+use crate::numbered::{self, near_limits};
 use crate::random::Random;
-use dapohiru_second::job::Line;
-use dapohiru_second::pricing::{self, Prices, MOST_PRICE, SYMBOLS};
+use dapohiru_second::numbered::PRICES;
+use dapohiru_second::pricing::{self, Prices, SYMBOLS};
 use std::array;
-
-/// B lines: a symbol, and the cents of a thousand events of it.
-pub const KIND: Kind = Kind {
-    letter: b'B',
-    most: MOST_PRICE,
-};
 
 /// The prices of all symbols: those of the house table, the same at each, or any numbers with many at the limits.
 pub fn cents(random: &mut Random) -> Prices {
     match random.below(8) {
         0 => [0; SYMBOLS],
-        1 => [MOST_PRICE; SYMBOLS],
+        1 => [PRICES.most; SYMBOLS],
         2 => pricing::house(),
-        _ => array::from_fn(|_| near_limits(random, &[9, 99, 256, 1_000, MOST_PRICE])),
+        _ => array::from_fn(|_| near_limits(random, &[9, 99, 256, 1_000, PRICES.most])),
     }
-}
-
-/// The B lines of prices, from symbol 0 on.
-pub fn lines(cents: &Prices) -> Vec<Line> {
-    KIND.lines(cents)
 }
 
 /// The price file of these prices, without zeros before its numbers.
 pub fn file(cents: &Prices) -> Vec<u8> {
-    KIND.file(cents)
+    PRICES.file(cents)
 }
 
 /// The price file of the house table, without zeros before its numbers.
@@ -40,17 +29,17 @@ pub fn house() -> Vec<u8> {
 /// A price file with any zeros.
 pub fn any(random: &mut Random) -> Vec<u8> {
     let cents = cents(random);
-    KIND.any(random, &cents)
+    numbered::any(random, PRICES, &cents)
 }
 
 /// A file like one, with any zeros and one fault: it is not exactly these lines.
 pub fn refused(random: &mut Random) -> Vec<u8> {
     let cents = cents(random);
-    KIND.refused(random, &cents)
+    numbered::refused(random, PRICES, &cents)
 }
 
 /// A file like one, with any zeros and with other bytes, which it may be sound with.
 pub fn damaged(random: &mut Random) -> Vec<u8> {
     let cents = cents(random);
-    KIND.damaged(random, &cents)
+    numbered::damaged(random, PRICES, &cents)
 }

@@ -8,7 +8,7 @@ pub mod checking;
 pub mod found;
 pub mod job;
 pub mod listing;
-mod numbered;
+pub mod numbered;
 mod place;
 pub mod planning;
 pub mod pricing;

@@ -1,6 +1,49 @@
 //! Files of numbered lines (document 02, "Journal price of a plan" and "An association's own journal prices"):
 //! a line for each place in order, with the place and a number, "built as in the job file".
+use crate::job::{spell, Line};
 use crate::reading::{self, Reader};
+
+/// A kind of numbered lines.
+#[derive(Clone, Copy, Debug)]
+pub struct Kind {
+    pub letter: u8,
+    /// The greatest number.
+    pub most: u64,
+    /// The refusal of a file that is not exactly these lines.
+    pub refusal: u64,
+}
+
+/// V lines: a node, and its events a day.
+pub const VOLUMES: Kind = Kind {
+    letter: b'V',
+    most: 999_999,
+    refusal: 16,
+};
+/// B lines: a symbol, and the cents of a thousand events of it.
+pub const PRICES: Kind = Kind {
+    letter: b'B',
+    most: 9_999,
+    refusal: 28,
+};
+
+impl Kind {
+    /// The line of a place.
+    pub fn line(self, place: usize, number: u64) -> Line {
+        Line::new(self.letter, &[place as u64, number])
+    }
+
+    /// The lines of numbers, from place 0 on.
+    pub fn lines(self, numbers: &[u64]) -> Vec<Line> {
+        let places = numbers.iter().enumerate();
+        let line = |(place, &number)| self.line(place, number);
+        places.map(line).collect()
+    }
+
+    /// The file of numbers, without zeros before them.
+    pub fn file(self, numbers: &[u64]) -> Vec<u8> {
+        spell(&self.lines(numbers))
+    }
+}
 
 /// A wrong reading of such a file.
 #[derive(Clone, Copy, Debug, PartialEq, Eq)]
@@ -29,11 +72,7 @@ pub(crate) enum Slip {
 
 /// The numbered lines of a file, which are taken one after another, with one slip or with none.
 pub(crate) struct Lines<'a> {
-    pub letter: u8,
-    /// The greatest number.
-    pub most: u64,
-    /// The refusal of a file that is not exactly these lines.
-    pub refusal: u64,
+    pub kind: Kind,
     pub slip: Option<Slip>,
     /// How many lines there are.
     pub count: usize,
@@ -50,7 +89,7 @@ impl<'a> Lines<'a> {
     fn fault(&self, number: u64) -> u64 {
         match self.slip {
             Some(Slip::FormAs3And4) => number,
-            _ => self.refusal,
+            _ => self.kind.refusal,
         }
     }
 
@@ -83,7 +122,8 @@ impl<'a> Lines<'a> {
     fn number_in(&self, line: &[u8], place: usize) -> Result<u64, u64> {
         let malformed = self.fault(4);
         let (&letter, columns) = line.split_first().ok_or(malformed)?;
-        if columns.len() != 12 || (letter != self.letter && !self.slips(Slip::LetterNotTested)) {
+        if columns.len() != 12 || (letter != self.kind.letter && !self.slips(Slip::LetterNotTested))
+        {
             return Err(malformed);
         }
         let slip = self
@@ -96,17 +136,17 @@ impl<'a> Lines<'a> {
         if is_in_place && self.is_within(number) {
             Ok(number)
         } else {
-            Err(self.refusal)
+            Err(self.kind.refusal)
         }
     }
 
     /// Whether a number is within its limits.
     fn is_within(&self, number: u64) -> bool {
         match self.slip {
-            Some(Slip::MostByOneMore) => number <= self.most + 1,
-            Some(Slip::MostRefused) => number < self.most,
+            Some(Slip::MostByOneMore) => number <= self.kind.most + 1,
+            Some(Slip::MostRefused) => number < self.kind.most,
             Some(Slip::ZeroRefused) if number == 0 => false,
-            _ => number <= self.most,
+            _ => number <= self.kind.most,
         }
     }
 
@@ -115,7 +155,7 @@ impl<'a> Lines<'a> {
         match self.rest {
             [] => Ok(()),
             _ if self.slips(Slip::BytesAfterAccepted) => Ok(()),
-            _ => Err(self.refusal),
+            _ => Err(self.kind.refusal),
         }
     }
 }

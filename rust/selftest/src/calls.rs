@@ -25,7 +25,7 @@ pub fn filled(len: usize, byte: u8) -> Box<[u8]> {
 /// Calls, with the answers counted.
 pub struct Calls {
     /// Makes the volume files and price files; all else is made without it.
-    pricing: Random,
+    lines: Random,
     pub tally: Tally,
 }
 
@@ -33,7 +33,7 @@ impl Calls {
     /// No call so far, and volume files and price files from this seed on.
     pub fn new(seed: u64) -> Self {
         Calls {
-            pricing: Random(seed),
+            lines: Random(seed),
             tally: Tally::default(),
         }
     }
@@ -76,8 +76,8 @@ impl Calls {
         number
     }
 
-    /// A file in all five calls on one, of which each is refused as it should be, or accepted; a price is the one of
-    /// the second implementation.
+    /// A file in the five calls that take a job file, of which each is refused as it should be, or accepted; a price
+    /// is the one of the second implementation.
     pub fn file(&mut self, random: &mut Random, file: &[u8]) -> Result<(), String> {
         let read = reading::job(file);
         let (plan, of_plan) = match &read {
@@ -106,7 +106,7 @@ impl Calls {
     fn priced(&mut self, file: &[u8], read: Result<Job, u64>, plan: Vec<u8>) -> Result<(), String> {
         let unread = read.as_ref().err().copied();
         let job = read.unwrap_or_else(|_| pair());
-        let random = &mut self.pricing;
+        let random = &mut self.lines;
         let nodes = job.nodes.len();
         let volumes = match random.below(4) {
             0 => volumes::refused(random, nodes),

@@ -1,12 +1,14 @@
 //! Buffers of all lengths around the limits, in every place of every call.
 use crate::calls::{exact, filled, Calls};
 use dapohiru::numbers::ACCEPTED;
+use dapohiru::PRICES_LEN;
 use dapohiru_compare::library::CALLS;
 use dapohiru_generators::events::Call;
 use dapohiru_generators::random::Random;
 use dapohiru_generators::samples::pair;
 use dapohiru_generators::zeros::zero_filled;
 use dapohiru_generators::{prices, volumes};
+use dapohiru_second::numbered::PRICES;
 use dapohiru_second::reading::{LONGEST, WORK};
 use dapohiru_second::serving::Service;
 use dapohiru_second::step::{Answer, Second};
@@ -15,6 +17,9 @@ use dapohiru_second::step::{Answer, Second};
 const LENGTHS: [usize; 17] = [
     0, 1, 15, 16, 17, 255, 256, 257, 511, 512, 513, 32_767, 32_768, 32_769, 65_535, 65_536, 65_537,
 ];
+
+/// What a length has more that is taken for it where its high bits are lost.
+const HIGH: [usize; 2] = [256, 65_536];
 
 /// Says that a number is not the one wanted.
 fn same(number: u64, wanted: u64, what: &str) -> Result<(), String> {
@@ -77,7 +82,8 @@ fn volume_files(calls: &mut Calls) -> Result<(), String> {
     let spaced = volumes::file(&[1_000; 5_000]);
     let both = [spaced.clone(), zero_filled(spaced)];
     for plan in LENGTHS.into_iter().chain([2, 3, 4]) {
-        for len in LENGTHS.into_iter().chain(0..=4 * 14) {
+        let past = HIGH.map(|high| 3 * 14 + high);
+        for len in LENGTHS.into_iter().chain(0..=4 * 14).chain(past) {
             for volumes in &both {
                 let number = calls.price(&file, &vec![0; plan], &volumes[..len], None);
                 let wanted = match (plan, len) {
@@ -94,19 +100,20 @@ fn volume_files(calls: &mut Calls) -> Result<(), String> {
 }
 
 /// Plans to be priced by price files that are cut short or have lines past the last, with volume files that are sound,
-/// cut short or have a byte past the last line.
+/// cut short or have bytes past the last line.
 fn price_files(calls: &mut Calls) -> Result<(), String> {
     let file = pair().file();
-    let spaced = prices::KIND.file(&[1_000; 5_000]);
+    let spaced = PRICES.file(&[1_000; 5_000]);
     let both = [spaced.clone(), zero_filled(spaced)];
-    let thousands = [&volumes::file(&[1_000; 3])[..], b"\n"].concat();
-    for of_volumes in [41, 42, 43] {
-        for len in LENGTHS.into_iter().chain(0..=18 * 14) {
+    let thousands = [&volumes::file(&[1_000; 3])[..], &[b'\n'; 65_536]].concat();
+    let past = HIGH.map(|high| PRICES_LEN + high);
+    for of_volumes in [41, 42, 43].into_iter().chain(HIGH.map(|high| 42 + high)) {
+        for len in LENGTHS.into_iter().chain(0..=18 * 14).chain(past) {
             for prices in &both {
                 let volumes = &thousands[..of_volumes];
                 let number = calls.price(&file, &[0; 3], volumes, Some(&prices[..len]));
                 let wanted = match (of_volumes, len) {
-                    (42, 224) => ACCEPTED,
+                    (42, PRICES_LEN) => ACCEPTED,
                     (42, _) => 28,
                     _ => 16,
                 };

@@ -20,7 +20,7 @@ use dapohiru_generators::spread::Spread;
 use dapohiru_generators::zeros::filled;
 use dapohiru_generators::{prices, volumes};
 use dapohiru_second::job::Job;
-use dapohiru_second::pricing::MOST_EVENTS;
+use dapohiru_second::numbered::VOLUMES;
 use dapohiru_second::serving::{Given, Service};
 use dapohiru_second::step::Second;
 use dapohiru_second::walk::Walks;
@@ -135,7 +135,7 @@ impl Rounds {
         self.price_cases(&[by_house, by_file])
     }
 
-    /// A damaged file in all five calls on one; the second reader says what it deserves.
+    /// A damaged file in the five calls that take a job file; the second reader says what it deserves.
     fn damaged(&mut self, random: &mut Random) -> Result<(), String> {
         for _ in 0..8 {
             let damaged = Damaged::random(random);
@@ -195,7 +195,7 @@ impl Rounds {
         Ok(())
     }
 
-    /// A small job spread over up to 512 nodes, in all five calls on a file.
+    /// A small job spread over up to 512 nodes, in the five calls that take a job file.
     fn spread(&mut self, random: &mut Random) -> Result<(), String> {
         let small = small::job(random);
         let nodes = random.pick(&[16, 17, 64, 65, 255, 256, 257, 511, 512]);
@@ -203,7 +203,8 @@ impl Rounds {
         self.whole(random, &job)
     }
 
-    /// A job of 512 nodes with long loops, or of the longest file, in all five calls on a file; and the greatest price.
+    /// A job of 512 nodes with long loops, or of the longest file, in the five calls that take a job file; and the
+    /// greatest price.
     fn large(&mut self, random: &mut Random) -> Result<(), String> {
         let job = match random.below(4) {
             0 => sized::job(random, FULL),
@@ -222,7 +223,7 @@ impl Rounds {
         let cases = plans.map(|plan| checking::Case::of(job, plan).with_zeros(random));
         self.check_cases(job, &cases)?;
         let nodes = job.nodes.len();
-        let most = volumes::file(&vec![MOST_EVENTS; nodes]);
+        let most = volumes::file(&vec![VOLUMES.most; nodes]);
         for checking in &cases {
             let any = volumes::any(&mut self.lines, nodes);
             self.price_both(checking, any)?;

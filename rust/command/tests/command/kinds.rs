@@ -1,6 +1,8 @@
 //! Volume files and price files: refused ones, with the place of the fault and what is expected there.
 use crate::program::{example, run_bytes, Done, PAIR};
-use dapohiru_generators::{numbered, prices, volumes};
+use dapohiru_generators::random::Random;
+use dapohiru_generators::{prices, volumes};
+use dapohiru_second::numbered;
 
 /// A kind of file, and what is said of it.
 pub struct Kind {
@@ -16,17 +18,17 @@ pub struct Kind {
 
 /// A refused file, the place of its fault with what stands there, and what is expected; the letter and the
 /// words of a kind are left open ([`Kind::told`]).
-pub type Wrong = (String, &'static str, &'static str);
+pub type Wrong<'a> = (String, &'a str, &'a str);
 
 pub const VOLUMES: Kind = Kind {
-    lined: volumes::KIND,
+    lined: numbered::VOLUMES,
     lines: 3,
     owner: "node",
     number: "the events a day",
     refused: "refused 16: the volume file is not exactly one V line for each node, in order",
 };
 pub const PRICES: Kind = Kind {
-    lined: prices::KIND,
+    lined: numbered::PRICES,
     lines: 16,
     owner: "symbol",
     number: "the cents per thousand",
@@ -34,7 +36,7 @@ pub const PRICES: Kind = Kind {
 };
 
 /// Texts for the second line of a file, each as in [`Wrong`].
-const SECOND_LINES: [(&str, &str, &str); 21] = [
+const SECOND_LINES: [(&str, &str, &str); 26] = [
     // the letter
     (
         "P     1  1205\n",
@@ -125,9 +127,34 @@ const SECOND_LINES: [(&str, &str, &str); 21] = [
         "END; this line has 14; MOST",
     ),
     (
+        "@     1 1000000\n",
+        "line 2, column 14: found `0`",
+        "END; this line has 15; MOST",
+    ),
+    (
+        "@     1 12345678 \n",
+        "line 2, column 14: found `6`",
+        "END; this line has 17; MOST",
+    ),
+    (
+        "@     101000000\r\n",
+        "line 2, column 14: found `0`",
+        "END; this line has 16; MOST",
+    ),
+    (
         "@     1   1205\n",
         "line 2, column 14: found `5`",
         "END; this line has 14",
+    ),
+    (
+        "@     1 000999\n",
+        "line 2, column 14: found `9`",
+        "END; this line has 14",
+    ),
+    (
+        "@     1   999 99999\n",
+        "line 2, column 14: found ` `",
+        "END; this line has 19",
     ),
     (
         "@     10001205\n",
@@ -156,6 +183,14 @@ impl Kind {
         }
     }
 
+    /// Any numbers for its lines.
+    pub fn numbers(&self, random: &mut Random) -> Vec<u64> {
+        match self.lined.letter {
+            b'V' => volumes::events(random, self.lines),
+            _ => prices::cents(random).to_vec(),
+        }
+    }
+
     /// What is said first of a refused file.
     pub fn refused(&self, name: &str) -> String {
         format!("dapohiru: {name}: {}\n  ", self.refused)
@@ -164,7 +199,7 @@ impl Kind {
     /// A text with this kind's letter for `@` and its words for those in capitals.
     pub fn told(&self, text: &str) -> String {
         let Kind { lines, number, .. } = self;
-        let numbered::Kind { letter, most } = self.lined;
+        let numbered::Kind { letter, most, .. } = self.lined;
         let words = [
             ("END", "the end of the line (byte 10) after FORM"),
             ("DUE", "a line of the letter @ and 2 fields of six columns, for OWNER"),
@@ -198,7 +233,7 @@ impl Kind {
     }
 
     /// Refused files.
-    pub fn wrong(&self) -> Vec<Wrong> {
+    pub fn wrong(&self) -> Vec<Wrong<'static>> {
         let (good, last) = (self.good(), self.lines - 1);
         let last_line = |text: &str| self.with(last, text);
         let cut = |columns: &str| last_line(&format!("@{last:>6}{columns}"));
@@ -238,6 +273,11 @@ impl Kind {
                 "the end of the file",
             ),
             (
+                format!("{good}@{:>6}     0\n", self.lines),
+                "line NEXT, column 1: found `@`",
+                "the end of the file",
+            ),
+            (
                 good.clone() + "@     0     0\n",
                 "line NEXT, column 1: found `@`",
                 "the end of the file",
@@ -272,7 +312,7 @@ impl Kind {
             (
                 format!("@     0  1205{}", "0".repeat(70_000)),
                 "line 1, column 14: found `0`",
-                "END; this line has more than 1000",
+                "END; this line has more than 1000; MOST",
             ),
             (
                 good.repeat(2_000),

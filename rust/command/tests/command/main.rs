@@ -9,6 +9,7 @@ mod numbered;
 mod places;
 mod plan;
 mod price;
+mod prices;
 mod program;
 mod release;
 mod stop;

@@ -3,7 +3,7 @@ use crate::kinds::{Kind, Wrong, PRICES, VOLUMES};
 use crate::places::columns;
 use crate::program::{example, file, folder, PAIR};
 use dapohiru_generators::faults::{faulty, Fault, Form};
-use dapohiru_generators::numbered::near_limits;
+use dapohiru_generators::numbered::{damaged, refused};
 use dapohiru_generators::random::Random;
 use dapohiru_generators::zeros::filled;
 use dapohiru_generators::{samples, volumes};
@@ -52,6 +52,24 @@ fn price_above_9999_is_told_with_the_limits() {
     ]
     .map(|(line, text, place)| (PRICES.with(line, text), place, "NUMBER"));
     faults_are_told(&PRICES, &plan, &wrong);
+    // past its columns too
+    for (text, found, told) in [
+        ("@     1 100000\n", '0', "; MOST"),
+        ("@     1  10000\n", '0', "; MOST"),
+        ("@     10010000\n", '0', "; MOST"),
+        ("@     1   9999\n", '9', ""),
+    ] {
+        let place = format!("line 2, column 14: found `{found}`");
+        let expected = format!("END; this line has 14{told}");
+        faults_are_told(&PRICES, &plan, &[(PRICES.with(1, text), &place, &expected)]);
+        // events a day of five or six digits are not above their limit
+        let expected = "END; this line has 14";
+        faults_are_told(
+            &VOLUMES,
+            &plan,
+            &[(VOLUMES.with(1, text), &place, expected)],
+        );
+    }
     // the symbol comes first
     let other = [(
         PRICES.with(1, "@     2 10000\n"),
@@ -88,9 +106,9 @@ fn endless_file_is_refused() {
 
 /// The faults that the lines of a kind can have.
 fn faults(kind: &Kind) -> Vec<Fault> {
-    let mut faults: Vec<_> = [&b"\n"[..], b"0", b"V     3     0\n"]
-        .map(Fault::Follow)
-        .into();
+    // the line of each kind that would be next is among what follows
+    let follow = [&b"\n"[..], b"0", b"V     3     0\n", b"B    16     0\n"];
+    let mut faults: Vec<_> = follow.map(Fault::Follow).into();
     for line in 0..kind.lines {
         faults.push(Fault::Ends(line));
         faults.extend(Form::ALL.map(|form| Fault::Form(line, form)));
@@ -110,8 +128,8 @@ fn every_fault_of_a_volume_file_or_a_price_file_is_told_with_its_line_and_column
     let plan = plan("numbered-faults");
     for kind in [VOLUMES, VOLUMES, VOLUMES, VOLUMES, PRICES] {
         // a space stands before each, so that a missing column shows in the field where it is missing
-        let most = kind.lined.most.min(99_999);
-        let numbers: Vec<_> = (0..kind.lines).map(|_| random.between(0, most)).collect();
+        let numbers = kind.numbers(&mut random);
+        let numbers: Vec<_> = numbers.iter().map(|number| number % 100_000).collect();
         let lines = kind.lined.lines(&numbers);
         let letters = vec![kind.lined.letter; kind.lines];
         for fault in faults(&kind) {
@@ -152,13 +170,10 @@ fn refusal_of_any_damaged_volume_file_or_price_file_is_told_with_what_was_expect
     for kind in [VOLUMES, PRICES] {
         let mut told = [0, 0];
         for _ in 0..300 {
-            let tops = [9, 99, 9_999, kind.lined.most];
-            let numbers: Vec<_> = (0..kind.lines)
-                .map(|_| near_limits(&mut random, &tops))
-                .collect();
+            let numbers = kind.numbers(&mut random);
             let file = match random.once_in(2) {
-                true => kind.lined.damaged(&mut random, &numbers),
-                false => kind.lined.refused(&mut random, &numbers),
+                true => damaged(&mut random, kind.lined, &numbers),
+                false => refused(&mut random, kind.lined, &numbers),
             };
             let (status, printed, wrong) = kind.price(&plan, "-", &file);
             let shown = file.escape_ascii();

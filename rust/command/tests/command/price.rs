@@ -1,5 +1,5 @@
 //! The command `price`.
-use crate::program::{example, file, folder, pair_with, run, shell, PAIR};
+use crate::program::{example, file, folder, pair_with, run, PAIR};
 use dapohiru_generators::random::Random;
 use dapohiru_generators::samples::{self, call, event, exit, reentrant, PLAIN_NODE};
 use dapohiru_generators::samples::{REOPEN, SEAL, WRITE};
@@ -10,12 +10,12 @@ use dapohiru_second::pricing::{self, Answer, Call};
 /// The volume file in `examples/`.
 const VOLUMES: &str = include_str!("../../../../examples/pair.volumes");
 /// An association's price file there.
-const OWN: &str = include_str!("../../../../examples/association.prices");
+pub const OWN: &str = include_str!("../../../../examples/association.prices");
 /// What is said of a plan that is different.
 const DIFFERENT: &str = "is different: on some walk it has other alarms than all points watched\n";
 
 /// A volume file of these events a day.
-fn spelled(events: &[u64]) -> String {
+pub fn spelled(events: &[u64]) -> String {
     String::from_utf8(volumes::file(events)).unwrap()
 }
 
@@ -89,91 +89,6 @@ fn explained_price_shows_each_point_unrounded_and_what_the_plan_saves() {
 }
 
 #[test]
-fn own_prices_take_the_place_of_those_of_the_house() {
-    let folder = folder("price-own");
-    let job = example("pair.job");
-    // of seal, reopen and write; every other symbol costs the most
-    for (own, plan, events, printed) in [
-        ([0, 0, 0], "111\n", [999_999; 3], "0 cents a day, 0.00\n"),
-        (
-            [0, 9_999, 0],
-            "111\n",
-            [999_999; 3],
-            "0 cents a day, 0.00\n",
-        ),
-        (
-            [0, 0, 1],
-            "111\n",
-            [999_999, 999_999, 1],
-            "1 cent a day, 0.01\n",
-        ),
-        ([0, 0, 1], "111\n", [0, 0, 1_001], "2 cents a day, 0.02\n"),
-        (
-            [1, 0, 1],
-            "101\n",
-            [500, 999_999, 500],
-            "1 cent a day, 0.01\n",
-        ),
-        (
-            [20, 25, 30],
-            "011\n",
-            [1_205, 1_205, 1_180],
-            "60 cents a day, 0.60\n",
-        ),
-        (
-            [20, 25, 12],
-            "011\n",
-            [1_205, 1_205, 1_180],
-            "39 cents a day, 0.39\n",
-        ),
-        ([9_999; 3], "011\n", [0, 0, 1], "10 cents a day, 0.10\n"),
-        (
-            [9_999; 3],
-            "111\n",
-            [1_000; 3],
-            "29997 cents a day, 299.97\n",
-        ),
-        (
-            [9_999; 3],
-            "111\n",
-            [999_999; 3],
-            "29996971 cents a day, 299969.71\n",
-        ),
-    ] {
-        let mut cents = [9_999; 16];
-        cents[..3].copy_from_slice(&own);
-        let prices = file(&folder, "a.prices", &prices::file(&cents));
-        let volumes = file(&folder, "a.volumes", spelled(&events).as_bytes());
-        let words = ["price", &job, "-", &volumes, "--prices", &prices];
-        let done = run(&words, plan);
-        assert_eq!(done, (0, printed.to_string(), String::new()), "{own:?}");
-    }
-}
-
-#[test]
-fn house_prices_from_a_file_give_what_no_file_gives() {
-    let folder = folder("price-house");
-    let prices = example("house.prices");
-    for name in ["pair", "regroup", "seal", "once", "again-edge"] {
-        let job = example(&format!("{name}.job"));
-        let (_, plan, _) = run(&["plan", &job], "");
-        let nodes = 1..plan.len() as u64;
-        let events: Vec<_> = nodes.map(|node| 1_001 * node).collect();
-        let volumes = file(&folder, "a.volumes", spelled(&events).as_bytes());
-        let house = ["price", &job, "-", &volumes];
-        let own = [&house[..], &["--prices", &prices]].concat();
-        assert_eq!(run(&own, &plan), run(&house, &plan), "{name}");
-        // explained, a line more says whose prices they are
-        let explained = |words: &[&str]| run(&[words, &["--explain"]].concat(), &plan);
-        let (status, printed, wrong) = explained(&own);
-        let line = format!("The cents per thousand are the association's own, from {prices}.\n");
-        assert!(printed.contains(&line), "{printed}");
-        let printed = printed.replace(&line, "");
-        assert_eq!((status, printed, wrong), explained(&house), "{name}");
-    }
-}
-
-#[test]
 fn volumes_of_plain_nodes_and_calls_do_not_count() {
     // plain, call, write, plain, seal, call that may come back in, reopen
     let folder = folder("price-kinds");
@@ -231,49 +146,53 @@ fn prices_are_those_of_the_second_implementation() {
         let name = file(&folder, "a.job", &filled(&mut random, job.file()));
         let events = volumes::any(&mut random, job.nodes.len());
         let volumes = file(&folder, "a.volumes", &events);
-        let own = random.once_in(2).then(|| prices::any(&mut random));
-        let prices = own.as_ref().map(|own| file(&folder, "a.prices", own));
-        let price = |plan: &[u8]| {
-            let call = Call {
-                file_len: job.file().len(),
-                held: Ok(&job),
-                plan,
-                volumes: &events,
-                prices: own.as_deref(),
-            };
-            match pricing::price(&call, None) {
-                Answer::Cents(cents) => cents,
-                refused => panic!("{refused:?}"),
-            }
-        };
+        let own = prices::any(&mut random);
+        let prices = file(&folder, "a.prices", &own);
         let plans = small::plans(&mut random, &job);
         let plan = &plans[random.place(plans.len())];
-        let (cents, full) = (price(plan), price(&job.all_watched()));
-        let mut words = vec!["price", &name, "-", &volumes];
-        if let Some(prices) = &prices {
-            words.extend(["--prices", prices]);
+        let house = ["price", &name, "-", &volumes];
+        let by_own = [&house[..], &["--prices", &prices]].concat();
+        for (words, own) in [(&house[..], None), (&by_own, Some(&own[..]))] {
+            let price = |plan: &[u8]| {
+                let call = Call {
+                    file_len: job.file().len(),
+                    held: Ok(&job),
+                    plan,
+                    volumes: &events,
+                    prices: own,
+                };
+                match pricing::price(&call, None) {
+                    Answer::Cents(cents) => cents,
+                    refused => panic!("{refused:?}"),
+                }
+            };
+            let cents = [price(plan), price(&job.all_watched())];
+            let lines = job.points().len() + 7 + usize::from(own.is_some());
+            is_printed(words, &line(plan), cents, lines);
         }
-        let (status, printed, _) = run(&words, &line(plan));
-        let begins = format!("{cents} cent");
-        assert!(status == 0 && printed.starts_with(&begins), "{printed}");
-        words.push("--explain");
-        let (status, explained, _) = run(&words, &line(plan));
-        assert_eq!(status, 0);
-        let said = [
-            "\nThe plan costs ",
-            "\nWith all points watched it would be ",
-            "\nThe plan saves ",
-        ];
-        for (said, cents) in said.into_iter().zip([cents, full, full - cents]) {
-            let money = format!("{}.{:02}.\n", cents / 100, cents % 100);
-            let said = format!("{said}{cents} cent");
-            let (_, rest) = explained.split_once(&said).expect(&explained);
-            let (_, rest) = rest.split_once(" a day, ").unwrap();
-            assert!(rest.starts_with(&money), "{explained}");
-        }
-        let words = 7 + usize::from(own.is_some());
-        assert_eq!(explained.lines().count(), job.points().len() + words);
     }
+}
+
+/// These words print the price of a plan; explained, beside that of all points watched, in so many lines.
+fn is_printed(words: &[&str], plan: &str, [cents, full]: [u64; 2], lines: usize) {
+    let (status, printed, _) = run(words, plan);
+    let begins = format!("{cents} cent");
+    assert!(status == 0 && printed.starts_with(&begins), "{printed}");
+    let (status, explained, _) = run(&[words, &["--explain"]].concat(), plan);
+    assert_eq!(status, 0);
+    let said = [
+        "\nThe plan costs ",
+        "\nWith all points watched it would be ",
+        "\nThe plan saves ",
+    ];
+    for (said, cents) in said.into_iter().zip([cents, full, full - cents]) {
+        let money = format!("{}.{:02}.\n", cents / 100, cents % 100);
+        let said = format!("{said}{cents} cent");
+        let (_, rest) = explained.split_once(&said).expect(&explained);
+        let (_, rest) = rest.split_once(" a day, ").unwrap();
+        assert!(rest.starts_with(&money), "{explained}");
+    }
+    assert_eq!(explained.lines().count(), lines);
 }
 
 #[test]
@@ -403,18 +322,4 @@ fn largest_prices_are_those_of_512_points_of_symbol_15_and_of_the_highest_price_
         );
         assert_eq!(rows[513], ["sum", sum, sum]);
     }
-}
-
-#[test]
-fn house_prices_are_printed_as_a_price_file_that_price_reads() {
-    let printed = include_str!("../../../../examples/house.prices").to_string();
-    assert_eq!(printed.as_bytes(), prices::house());
-    let done = run(&["prices"], "");
-    assert_eq!(done, (0, printed, String::new()));
-    let folder = folder("price-prices");
-    let plan = file(&folder, "pair.plan", b"011\n");
-    let (job, volumes) = (example("pair.job"), example("pair.volumes"));
-    let script = "\"$1\" prices | \"$@\" --prices -";
-    let wanted = (0, "60 cents a day, 0.60\n".to_string(), String::new());
-    assert_eq!(shell(script, &["price", &job, &plan, &volumes]), wanted);
 }

@@ -83,6 +83,36 @@ fn wrong_words_are_told_with_the_usage() {
             &["price", &job, "b", "c", "--prices="],
             "--prices is not followed by FILE",
         ),
+        // the next word is an option
+        (
+            &["price", &job, "b", "c", "--prices", "--explain"],
+            "--prices is not followed by FILE",
+        ),
+        (
+            &["price", "--names", "--prices", "d", &job, "b", "c"],
+            "--names is not followed by FILE",
+        ),
+        (
+            &["price", &job, "b", "c", "--prices", "--names=d"],
+            "--prices is not followed by FILE",
+        ),
+        (
+            &["price", &job, "b", "c", "--prices", "--prices", "d"],
+            "--prices is not followed by FILE",
+        ),
+        (
+            &["list", &job, "--names", "--help"],
+            "--names is not followed by FILE",
+        ),
+        (
+            &["graph", &job, "-o", "--svg"],
+            "-o is not followed by FILE",
+        ),
+        (&["graph", &job, "-o", "-h"], "-o is not followed by FILE"),
+        (
+            &["plan", &job, "-o", "-o", "a"],
+            "-o is not followed by FILE",
+        ),
         (&["plan", &job, "-o", "a", "-o", "b"], "-o is given twice"),
         (
             &["watch", &job, "--state=0", "--state", "1"],
@@ -99,6 +129,25 @@ fn wrong_words_are_told_with_the_usage() {
         let begins = format!("dapohiru: {name}: {why}\nusage: dapohiru {}", named(name));
         assert!(wrong.starts_with(&begins), "{wrong}");
         assert!(wrong.ends_with(&format!("`dapohiru {name} --help` tells more\n")));
+    }
+}
+
+#[test]
+fn file_whose_name_begins_with_a_hyphen_can_be_given() {
+    let (job, volumes) = (example("pair.job"), example("pair.volumes"));
+    let price = ["price", &job, "-", &volumes];
+    for (words, name) in [
+        // joined to the option, with its folder, or where it is no option of the command
+        (&["--prices=--explain"][..], "--explain"),
+        (&["--prices", "./--explain"], "./--explain"),
+        (&["--prices", "-x"], "-x"),
+        (&["--prices", "--svg"], "--svg"),
+        (&["--prices", "--explain.prices"], "--explain.prices"),
+        (&["--explain", "--names", "./-h"], "./-h"),
+    ] {
+        let wrong = format!("dapohiru: {name}: No such file or directory (os error 2)\n");
+        let words = [&price[..], words].concat();
+        assert_eq!(run(&words, "011\n"), (2, String::new(), wrong), "{words:?}");
     }
 }
 

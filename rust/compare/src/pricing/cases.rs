@@ -8,7 +8,8 @@ use dapohiru_generators::random::Random;
 use dapohiru_generators::samples::points;
 use dapohiru_generators::{prices, small, volumes};
 use dapohiru_second::job::Job;
-use dapohiru_second::pricing::{price, Answer, Call, MOST_EVENTS, MOST_PRICE, SYMBOLS};
+use dapohiru_second::numbered::{PRICES, VOLUMES};
+use dapohiru_second::pricing::{price, Answer, Call, SYMBOLS};
 use dapohiru_second::slip::Slip;
 
 /// What a call goes by.
@@ -67,9 +68,9 @@ impl Case {
     /// may be, at the greatest price.
     pub fn greatest() -> Self {
         let job = points(15, 512);
-        let volumes = volumes::file(&vec![MOST_EVENTS; job.nodes.len()]);
+        let volumes = volumes::file(&vec![VOLUMES.most; job.nodes.len()]);
         let case = Case::of(&job, job.all_watched(), volumes);
-        case.by(prices::file(&[MOST_PRICE; SYMBOLS]))
+        case.by(prices::file(&[PRICES.most; SYMBOLS]))
     }
 
     /// The house table, or a price file.

@@ -2,10 +2,9 @@
 use crate::library::Library;
 use crate::memory::{Lent, PAST_FILE};
 use dapohiru::numbers::ACCEPTED;
-use dapohiru_generators::numbered::Kind;
 use dapohiru_generators::random::Random;
-use dapohiru_generators::{prices, volumes};
 use dapohiru_second::job::spell;
+use dapohiru_second::numbered::{Kind, PRICES, VOLUMES};
 use dapohiru_second::pricing::Answer;
 
 /// A file, and the bytes that stand right past it in memory.
@@ -43,8 +42,8 @@ impl Memory {
         volumes: &[u8],
         prices: Option<&[u8]>,
     ) -> Result<Answer, String> {
-        let past_volumes = next_line(volumes::KIND, volumes);
-        let past_prices = prices.map(|prices| next_line(prices::KIND, prices));
+        let past_volumes = next_line(VOLUMES, volumes);
+        let past_prices = prices.map(|prices| next_line(PRICES, prices));
         let prices = prices.zip(past_prices.as_deref());
         self.call_before(file, plan, (volumes, &past_volumes), prices)
     }

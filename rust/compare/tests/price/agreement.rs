@@ -8,9 +8,10 @@ use dapohiru_generators::mixed;
 use dapohiru_generators::random::Random;
 use dapohiru_generators::sized::{self, Sizes, FULL};
 use dapohiru_generators::spread::Spread;
-use dapohiru_generators::{prices, small, volumes};
+use dapohiru_generators::{numbered, prices, small, volumes};
 use dapohiru_plain::price::{price, price_by};
 use dapohiru_plain::read::Decoded;
+use dapohiru_second::numbered::PRICES;
 use dapohiru_second::pricing::Answer;
 use std::collections::BTreeSet;
 use std::fmt::Display;
@@ -70,7 +71,7 @@ fn small_jobs_with_any_plans_volume_files_and_price_files_agree() {
     println!("{} answers", answers.len());
     calls.counts.came(all_answers());
     assert!(calls.counts.of(None) > 50_000);
-    assert!(calls.counts.of(Some(16)) > 10_000 && calls.counts.of(Some(28)) > 5_000);
+    assert!(calls.counts.of(Some(16)) > 20_000 && calls.counts.of(Some(28)) > 5_000);
     assert!(answers.len() > 10_000);
 }
 
@@ -130,13 +131,15 @@ fn damaged_job_files_agree() {
     for number in 0..FILES {
         let Damaged { file, unread, job } = Damaged::random(&mut random);
         let plan = small::plan(&mut random, &job);
-        let mut case = Case::any(&mut random, &job, plan, By::BOTH[number % 2]);
-        (case.checking.file, case.checking.unread) = (file, unread);
-        calls.agree(format_args!("file {number}"), &case);
+        for by in By::BOTH {
+            let mut case = Case::any(&mut random, &job, plan.clone(), by);
+            (case.checking.file, case.checking.unread) = (file.clone(), unread);
+            calls.agree(format_args!("file {number}"), &case);
+        }
     }
     calls.counts.print(&format!("{FILES} files"));
     calls.counts.came((3..=10).map(Some).chain([None]));
-    assert!(calls.counts.of(None) as usize * 20 > FILES);
+    assert!(calls.counts.of(None) as usize * 10 > FILES);
 }
 
 #[test]
@@ -172,14 +175,16 @@ fn longest_job_file_is_priced_and_one_byte_more_is_1() {
     for number in 0..20 {
         let job = sized::job(&mut random, FULL);
         let plan = small::plan(&mut random, &job);
-        let mut case = Case::any(&mut random, &job, plan, By::BOTH[number % 2]);
-        assert_eq!(case.checking.file.len(), dapohiru::JOB_LEN);
-        let answer = calls.agree(format_args!("job {number}"), &case);
-        assert_eq!(refused(answer), None);
-        case.checking.file.push(b'\n');
-        case.checking.unread = Some(9);
-        let answer = calls.agree(format_args!("job {number}"), &case);
-        assert_eq!(answer, Answer::Refused(1));
+        for by in By::BOTH {
+            let mut case = Case::any(&mut random, &job, plan.clone(), by);
+            assert_eq!(case.checking.file.len(), dapohiru::JOB_LEN);
+            let answer = calls.agree(format_args!("job {number}"), &case);
+            assert_eq!(refused(answer), None);
+            case.checking.file.push(b'\n');
+            case.checking.unread = Some(9);
+            let answer = calls.agree(format_args!("job {number}"), &case);
+            assert_eq!(answer, Answer::Refused(1));
+        }
     }
 }
 
@@ -194,7 +199,7 @@ fn house_table_in_a_file_with_any_zeros_gives_the_price_of_the_house_table() {
         let plan = small::plan(&mut random, &job);
         let case = Case::any(&mut random, &job, plan, By::House);
         let wanted = calls.agree(format_args!("job {number}"), &case);
-        let case = case.by(prices::KIND.any(&mut random, &house));
+        let case = case.by(numbered::any(&mut random, PRICES, &house));
         let answer = calls.agree(format_args!("job {number}"), &case);
         assert_eq!(answer, wanted, "job {number}: {}", case.words());
     }

@@ -61,7 +61,7 @@ fn job_files_volume_files_and_price_files_that_are_alike_get_the_same_number() {
     calls.counts.came(all_answers());
     zeros.print("files with zeros");
     for name in ["job files", "volume files", "price files"] {
-        assert!(zeros.of(name) > 10 * JOBS as u64, "{name}");
+        assert!(zeros.of(name) > 20 * JOBS as u64, "{name}");
     }
 }
 
@@ -121,33 +121,41 @@ fn files_that_are_alike_and_cut_at_the_same_byte_get_the_same_number() {
     for number in 0..60 {
         let job = mixed::small_job(&mut random);
         let plan = small::plan(&mut random, &job);
-        let case = Case::any(&mut random, &job, plan, By::BOTH[number % 2]);
-        let (whole, refusal) = match &case.prices {
-            None => (&case.volumes, 16),
-            Some(prices) => (prices, 28),
-        };
-        let files = alike(&mut random, whole);
-        for cut in 0..=whole.len() {
-            let wanted = (cut < whole.len()).then_some(refusal);
-            for file in &files {
-                let mut other = case.clone();
-                let part = file[..cut].to_vec();
-                match other.prices.as_mut() {
-                    None => other.volumes = part,
-                    Some(prices) => *prices = part,
-                }
-                let answer = calls.agree(format_args!("job {number}, cut at {cut}"), &other);
-                assert_eq!(refused(answer), wanted, "{}", other.words());
-            }
+        for by in By::BOTH {
+            let case = Case::any(&mut random, &job, plan.clone(), by);
+            cuts_agree(&mut random, &mut calls, &case, number);
         }
     }
     calls.counts.print("cut");
 }
 
-/// How often so many files have zeros before none of their numbers, before all, and before some.
-fn zeros_of(files: impl Iterator<Item = Vec<u8>>) -> Counts<&'static str> {
+/// Cuts the price file of a call, or the volume file where it has none, at every byte.
+fn cuts_agree(random: &mut Random, calls: &mut Calls, case: &Case, number: usize) {
+    let (whole, refusal) = match &case.prices {
+        None => (&case.volumes, 16),
+        Some(prices) => (prices, 28),
+    };
+    let files = alike(random, whole);
+    for cut in 0..=whole.len() {
+        let wanted = (cut < whole.len()).then_some(refusal);
+        for file in &files {
+            let mut other = case.clone();
+            let part = file[..cut].to_vec();
+            match other.prices.as_mut() {
+                None => other.volumes = part,
+                Some(prices) => *prices = part,
+            }
+            let answer = calls.agree(format_args!("job {number}, cut at {cut}"), &other);
+            assert_eq!(refused(answer), wanted, "{}", other.words());
+        }
+    }
+}
+
+/// How often so many files of this length have zeros before none of their numbers, before all, and before some.
+fn zeros_of(len: usize, files: impl Iterator<Item = Vec<u8>>) -> Counts<&'static str> {
     let mut zeros = Counts::default();
     for file in files {
+        assert_eq!(file.len(), len);
         zeros.add(match spaced(file.clone()) {
             spaces if spaces == file => "none",
             spaces if zero_filled(spaces.clone()) == file => "all",
@@ -162,8 +170,9 @@ fn files_of_the_generators_have_zeros_and_numbers_at_the_limits() {
     const FILES: usize = 1_000;
     let mut random = Random::of_this_run();
     let volumes = (0..FILES).map(|_| volumes::any(&mut random, 6));
-    let of_volumes = zeros_of(volumes);
-    let of_prices = zeros_of((0..FILES).map(|_| prices::any(&mut random)));
+    let of_volumes = zeros_of(6 * 14, volumes);
+    let prices = (0..FILES).map(|_| prices::any(&mut random));
+    let of_prices = zeros_of(dapohiru::PRICES_LEN, prices);
     for (what, zeros) in [("volume files", of_volumes), ("price files", of_prices)] {
         zeros.print(what);
         for kind in ["none", "all", "some"] {

@@ -1,161 +1,15 @@
 //! Every damage of some kind to small volume files and to price files.
 use crate::agreement::Calls;
-use crate::refusals::all_kinds;
+use crate::samples::{price_samples, samples, volume_samples, Part};
 use dapohiru_compare::damage;
-use dapohiru_compare::memory::{start_of, Counts};
 use dapohiru_compare::pricing::{refused, Case, Memory};
 use dapohiru_compare::wrapper::WRAPPER;
-use dapohiru_generators::numbered::Kind;
+use dapohiru_generators::numbered;
 use dapohiru_generators::random::Random;
-use dapohiru_generators::samples::{one_seal, pair, points};
 use dapohiru_generators::sized::Sizes;
-use dapohiru_generators::zeros::{filled, zero_filled};
-use dapohiru_generators::{prices, volumes};
-use dapohiru_second::job::{spell, Job, Line};
+use dapohiru_generators::zeros::zero_filled;
+use dapohiru_second::job::spell;
 use dapohiru_second::pricing::Answer;
-
-/// Which file of a call is damaged.
-#[derive(Clone, Copy)]
-enum Part {
-    Volumes,
-    Prices,
-}
-
-impl Part {
-    /// Its lines.
-    fn kind(self) -> Kind {
-        match self {
-            Part::Volumes => volumes::KIND,
-            Part::Prices => prices::KIND,
-        }
-    }
-
-    /// The number of its refusal.
-    fn refusal(self) -> u64 {
-        match self {
-            Part::Volumes => 16,
-            Part::Prices => 28,
-        }
-    }
-}
-
-/// A sound call, and the file of it that is damaged.
-struct Sample {
-    what: &'static str,
-    case: Case,
-    part: Part,
-    /// The numbers of that file.
-    numbers: Vec<u64>,
-}
-
-/// Volume files that are damaged in every way: for one point, for PAIR with a point unwatched, and for nodes of
-/// all kinds.
-fn volume_samples() -> [Sample; 3] {
-    let sample = |what, job: Job, plan: &[u8], events: &[u64]| Sample {
-        what,
-        case: Case::of(&job, plan.to_vec(), volumes::file(events)),
-        part: Part::Volumes,
-        numbers: events.to_vec(),
-    };
-    let kinds = all_kinds();
-    let plan = kinds.all_watched();
-    [
-        sample("one point", one_seal(0), &[1], &[7]),
-        sample("PAIR", pair(), &[0, 1, 1], &[1_000, 49, 999_999]),
-        sample(
-            "nodes of all kinds",
-            kinds,
-            &plan,
-            &[0, 12, 345, 6_789, 65_536, 999_999],
-        ),
-    ]
-}
-
-/// Price files that are damaged in every way: for PAIR, which has three symbols, and for a point of the last of
-/// sixteen.
-fn price_samples() -> [Sample; 2] {
-    let cents = [
-        12, 0, 150, 9_999, 1, 255, 256, 1_000, 5, 4_096, 20, 25, 30, 0, 9_998, 7,
-    ];
-    let sample = |what, job: Job, events: &[u64]| Sample {
-        what,
-        case: Case::of(&job, job.all_watched(), volumes::file(events)).by(prices::file(&cents)),
-        part: Part::Prices,
-        numbers: cents.to_vec(),
-    };
-    [
-        sample("prices of PAIR", pair(), &[1_000, 49, 999_999]),
-        sample("prices of symbol 15", points(15, 1), &[1_000]),
-    ]
-}
-
-/// All of them.
-fn samples() -> Vec<Sample> {
-    volume_samples()
-        .into_iter()
-        .chain(price_samples())
-        .collect()
-}
-
-impl Sample {
-    /// The lines of the file.
-    fn lines(&self) -> Vec<Line> {
-        self.part.kind().lines(&self.numbers)
-    }
-
-    /// The file, with spaces before its numbers and with zeros.
-    fn spelled(&self) -> [Vec<u8>; 2] {
-        let file = spell(&self.lines());
-        [file.clone(), zero_filled(file)]
-    }
-
-    /// The call with this file.
-    fn with(&self, file: Vec<u8>) -> Case {
-        let mut case = self.case.clone();
-        match self.part {
-            Part::Volumes => case.volumes = file,
-            Part::Prices => case.prices = Some(file),
-        }
-        case
-    }
-
-    /// Asks that the library refuses this file.
-    #[track_caller]
-    fn is_refused(&self, memory: &mut Memory, file: Vec<u8>) {
-        let case = self.with(file);
-        let wanted = Answer::Refused(self.part.refusal());
-        assert_eq!(case.answer(memory), Ok(wanted), "{}", case.words());
-    }
-
-    /// Compares all of these files, each as it is and with any zeros, and says and gives the counts.
-    fn compare_all(&self, files: impl IntoIterator<Item = Vec<u8>>) -> Counts<Option<u64>> {
-        let mut random = Random::of_this_run();
-        let mut calls = Calls::new();
-        for (number, file) in files.into_iter().enumerate() {
-            let with_zeros = filled(&mut random, file.clone());
-            let files = [file, with_zeros];
-            let answers = files.each_ref().map(|file| {
-                let name = format_args!("{}, file {number}", self.what);
-                calls.agree(name, &self.with(file.clone()))
-            });
-            assert_eq!(
-                answers[0],
-                answers[1],
-                "{}, file {number}, without zeros and with:\n{}\nand\n{}",
-                self.what,
-                start_of(&files[0]),
-                start_of(&files[1])
-            );
-        }
-        calls.counts.print(self.what);
-        calls.counts
-    }
-
-    /// The answers that damage can leave: the price, and the refusal of the file.
-    fn answers(&self) -> [Option<u64>; 2] {
-        [None, Some(self.part.refusal())]
-    }
-}
 
 #[test]
 fn cut_at_every_byte_is_refused_as_16_or_28() {
@@ -174,7 +28,7 @@ fn cut_at_every_byte_is_refused_as_16_or_28() {
                     Part::Prices => ((&volumes[..], &b""[..]), Some(split)),
                 };
                 let answer = memory.call_before(&checking.file, &checking.plan, volumes, prices);
-                let wanted = Answer::Refused(sample.part.refusal());
+                let wanted = Answer::Refused(sample.part.kind().refusal);
                 assert_eq!(answer, Ok(wanted), "{} at {cut}", sample.what);
                 cuts += 1;
             }
@@ -229,7 +83,7 @@ fn bytes_put_in_or_taken_out_are_refused_as_16_or_28() {
         for file in sample.spelled() {
             let counts = sample.compare_all(damage::bytes_moved(&file, damage::BYTES));
             assert_eq!(counts.of(None), 0);
-            counts.came([Some(sample.part.refusal())]);
+            counts.came([Some(sample.part.kind().refusal)]);
         }
     }
 }
@@ -339,19 +193,20 @@ fn every_field_over_six_bytes_agrees() {
 
 #[test]
 fn random_damage_agrees() {
-    const FILES: usize = 20_000;
+    const FILES: usize = 7_000;
     let mut random = Random::of_this_run();
     for sample in samples() {
         let mut calls = Calls::new();
-        for number in 0..FILES / 3 {
-            let damaged = sample.part.kind().damaged(&mut random, &sample.numbers);
+        for number in 0..FILES {
+            let numbers = sample.any_numbers(&mut random);
+            let damaged = numbered::damaged(&mut random, sample.part.kind(), &numbers);
             let case = sample.with(damaged);
             calls.agree(format_args!("{}, file {number}", sample.what), &case);
         }
         calls.counts.print(sample.what);
         for answer in sample.answers() {
             let count = calls.counts.of(answer) as usize;
-            assert!(count * 60 > FILES, "{answer:?} is too rare");
+            assert!(count * 20 > FILES, "{answer:?} is too rare");
         }
     }
 }
@@ -363,10 +218,11 @@ fn every_fault_of_the_generators_is_refused_as_16_or_28() {
     for sample in samples() {
         let mut calls = Calls::new();
         for number in 0..FILES {
-            let damaged = sample.part.kind().refused(&mut random, &sample.numbers);
+            let numbers = sample.any_numbers(&mut random);
+            let damaged = numbered::refused(&mut random, sample.part.kind(), &numbers);
             let case = sample.with(damaged);
             let answer = calls.agree(format_args!("{}, file {number}", sample.what), &case);
-            let wanted = Some(sample.part.refusal());
+            let wanted = Some(sample.part.kind().refusal);
             assert_eq!(refused(answer), wanted, "{}", case.words());
         }
     }

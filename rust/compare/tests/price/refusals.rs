@@ -8,6 +8,7 @@ use dapohiru_generators::random::Random;
 use dapohiru_generators::samples::{call, event, exit, pair, points, reentrant, PAIR, PLAIN_NODE};
 use dapohiru_generators::{prices, small, volumes};
 use dapohiru_second::job::Job;
+use dapohiru_second::numbered::PRICES;
 use dapohiru_second::pricing::Answer;
 use dapohiru_second::reading::LONGEST;
 
@@ -99,18 +100,26 @@ fn all_faults_at_once_are_refused_by_the_first() {
     calls.counts.print("one fault more at a time");
 }
 
+/// Lengths far past a file of this length, those among them that lose their high bits to it.
+fn long_lengths(len: usize) -> impl Iterator<Item = usize> {
+    let cut = (8..=16).map(move |bits| len + (1 << bits));
+    cut.chain([7_168, LONGEST, LONGEST + 1, 65_536, 14 * 8_000])
+}
+
 #[test]
 fn volume_file_of_any_other_length_is_16_however_long_it_is() {
     let mut memory = Memory::new(WRAPPER);
-    let (file, plan) = (pair().file(), [1, 1, 1]);
+    let (file, plan, house) = (pair().file(), [1, 1, 1], prices::house());
     let thousands = volumes::file(&[1_000; 8_000]);
-    for len in (0..=14 * 6).chain([7_168, LONGEST, LONGEST + 1, 65_536, thousands.len()]) {
-        let answer = memory.call(&file, &plan, &thousands[..len], None).unwrap();
+    for len in (0..=14 * 6).chain(long_lengths(14 * 3)) {
         let wanted = match len {
             42 => Answer::Cents(70),
             _ => Answer::Refused(16),
         };
-        assert_eq!(answer, wanted, "{len} bytes");
+        for prices in [None, Some(&house[..])] {
+            let answer = memory.call(&file, &plan, &thousands[..len], prices);
+            assert_eq!(answer, Ok(wanted), "{len} bytes");
+        }
     }
 }
 
@@ -118,8 +127,8 @@ fn volume_file_of_any_other_length_is_16_however_long_it_is() {
 fn price_file_of_any_other_length_is_28_however_long_it_is() {
     let mut memory = Memory::new(WRAPPER);
     let (file, plan, volumes) = (pair().file(), [1, 1, 1], volumes::file(&[1_000; 3]));
-    let lines = prices::KIND.file(&[100; 8_000]);
-    for len in (0..=14 * 18).chain([7_168, LONGEST, LONGEST + 1, 65_536, lines.len()]) {
+    let lines = PRICES.file(&[100; 8_000]);
+    for len in (0..=14 * 18).chain(long_lengths(dapohiru::PRICES_LEN)) {
         let answer = memory.call(&file, &plan, &volumes, Some(&lines[..len]));
         let wanted = match len {
             dapohiru::PRICES_LEN => Answer::Cents(300),
@@ -138,7 +147,7 @@ fn sixteen_prices_are_asked_for_however_many_symbols_the_job_has() {
         job.next[0].truncate(symbols);
         let case = Case::of(&job, vec![1], volumes::file(&[1_000]));
         for lines in [symbols - 1, symbols, symbols + 1, 15, 16, 17] {
-            let case = case.clone().by(prices::KIND.file(&vec![300; lines]));
+            let case = case.clone().by(PRICES.file(&vec![300; lines]));
             let answer = calls.agree(format_args!("{symbols} symbols"), &case);
             let wanted = match lines {
                 16 => Answer::Cents(300),

@@ -1,7 +1,7 @@
 //! What a plan saves: one with fewer points watched costs no more, and planning's own no more than all points
 //! watched; and what other prices do to it.
 use dapohiru::numbers::ACCEPTED;
-use dapohiru_compare::pricing::Memory;
+use dapohiru_compare::pricing::{By, Memory};
 use dapohiru_compare::wrapper::WRAPPER;
 use dapohiru_generators::mixed;
 use dapohiru_generators::random::Random;
@@ -20,13 +20,16 @@ struct Prices<'a> {
 }
 
 impl<'a> Prices<'a> {
-    /// A job with any volume file for it, one in two with any price file.
-    fn any(random: &mut Random, memory: &'a mut Memory, job: &Job) -> Self {
+    /// A job with any volume file for it, by the house table or by any price file.
+    fn any(random: &mut Random, memory: &'a mut Memory, job: &Job, by: By) -> Self {
         Prices {
             memory,
             file: filled(random, job.file()),
             volumes: volumes::any(random, job.nodes.len()),
-            prices: random.once_in(2).then(|| prices::any(random)),
+            prices: match by {
+                By::House => None,
+                By::File => Some(prices::any(random)),
+            },
         }
     }
 
@@ -48,13 +51,18 @@ impl<'a> Prices<'a> {
 
 #[test]
 fn plan_whose_watched_points_are_watched_in_another_costs_no_more() {
+    By::BOTH.into_iter().for_each(fewer_watched_cost_no_more);
+}
+
+/// Asks it of many jobs in this call.
+fn fewer_watched_cost_no_more(by: By) {
     const JOBS: usize = 4_000;
     let mut random = Random::of_this_run();
     let mut memory = Memory::new(WRAPPER);
     let mut cheaper = 0;
     for number in 0..JOBS {
         let job = mixed::job(&mut random);
-        let mut prices = Prices::any(&mut random, &mut memory, &job);
+        let mut prices = Prices::any(&mut random, &mut memory, &job, by);
         let more = small::plan(&mut random, &job);
         let fewer: Vec<_> = more
             .iter()
@@ -72,19 +80,24 @@ fn plan_whose_watched_points_are_watched_in_another_costs_no_more() {
         assert!(both == whole || both == whole + 1, "job {number}");
         cheaper += usize::from(part < whole);
     }
-    println!("of {JOBS} plans {cheaper} are cheaper than one that watches more");
+    println!("{by:?}: of {JOBS} plans {cheaper} are cheaper than one that watches more");
     assert!(cheaper > JOBS / 10);
 }
 
 #[test]
 fn plan_of_planning_costs_at_most_what_all_points_watched_cost() {
+    By::BOTH.into_iter().for_each(own_plan_costs_no_more);
+}
+
+/// Asks it of many jobs in this call.
+fn own_plan_costs_no_more(by: By) {
     const JOBS: usize = 4_000;
     let mut random = Random::of_this_run();
     let mut memory = Memory::new(WRAPPER);
     let mut saved = [0, 0];
     for number in 0..JOBS {
         let job = mixed::job(&mut random);
-        let mut prices = Prices::any(&mut random, &mut memory, &job);
+        let mut prices = Prices::any(&mut random, &mut memory, &job, by);
         let (mut work, mut own) = (vec![7; dapohiru::WORK_LEN], [7; dapohiru::PLAN_LEN]);
         let answer = dapohiru::numbers::plan(&prices.file, &mut work, &mut own);
         assert!(answer >= ACCEPTED, "job {number}: {answer}");
@@ -93,7 +106,7 @@ fn plan_of_planning_costs_at_most_what_all_points_watched_cost() {
         assert!(own <= all, "job {number}: {own} and {all} cents");
         saved[usize::from(own < all)] += 1;
     }
-    println!("plans that save nothing, and that save cents: {saved:?}");
+    println!("{by:?}: plans that save nothing, and that save cents: {saved:?}");
     assert!(saved.iter().all(|&plans| plans > JOBS / 100));
 }
 
@@ -106,7 +119,7 @@ fn dearer_price_file_costs_no_less_and_a_free_one_nothing() {
     for number in 0..JOBS {
         let job = mixed::job(&mut random);
         let plan = small::plan(&mut random, &job);
-        let mut prices = Prices::any(&mut random, &mut memory, &job);
+        let mut prices = Prices::any(&mut random, &mut memory, &job, By::File);
         let more = prices::cents(&mut random);
         let less = more.map(|cents| random.between(0, cents));
         let rest = array::from_fn(|symbol| more[symbol] - less[symbol]);

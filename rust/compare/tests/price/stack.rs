@@ -97,23 +97,38 @@ fn taken_by(room: &mut Room, case: &Case) -> (usize, u64) {
     (made.caller - lowest, made.number)
 }
 
-/// The bytes that the header, the wrapper or a page says, which are the same wherever it says some.
-fn said_by(path: &str) -> usize {
+/// The bytes that the header, the wrapper or a page says: the same in as many sentences as it has on them, of which
+/// each has all of these words.
+fn said_by(path: &str, sentences: usize, words: &[&str]) -> usize {
     let path = Path::new(env!("CARGO_MANIFEST_DIR"))
         .join("../..")
         .join(path);
     let text = fs::read_to_string(&path).expect("the source is there");
-    let words = text.split_whitespace();
-    let words: Vec<_> = words.filter(|word| !["*", "///"].contains(word)).collect();
-    let text = words.join(" ");
-    let said = text.split(" less than ").skip(1);
-    let said = said.filter_map(|after| after.split(" bytes of ").next());
-    let mut said: Vec<_> = said
-        .filter_map(|number| number.replace(',', "").parse().ok())
+    let text: Vec<_> = text
+        .split_whitespace()
+        .filter(|word| !["*", "///"].contains(word))
         .collect();
-    said.dedup();
-    assert_eq!(said.len(), 1, "{} says {said:?}", path.display());
-    said[0]
+    let text = text.join(" ");
+    let said: Vec<_> = text
+        .split(". ")
+        .filter_map(|sentence| Some((sentence, bytes_in(sentence)?)))
+        .collect();
+    assert_eq!(said.len(), sentences, "{} says {said:?}", path.display());
+    for (sentence, bytes) in &said {
+        assert_eq!(*bytes, said[0].1, "{}", path.display());
+        assert!(
+            words.iter().all(|word| sentence.contains(word)),
+            "{sentence}"
+        );
+    }
+    said[0].1
+}
+
+/// The bytes of which a sentence says that a call takes less.
+fn bytes_in(sentence: &str) -> Option<usize> {
+    let (_, after) = sentence.split_once(" less than ")?;
+    let (number, _) = after.split_once(" bytes of ")?;
+    number.replace(',', "").parse().ok()
 }
 
 #[test]
@@ -140,9 +155,11 @@ fn calls_take_less_of_the_stack_than_the_header_says() {
             "{call}: at most {refused} bytes where it is refused, {priced} where there is a price"
         );
     }
-    let said = said_by("include/dapohiru.h");
-    assert_eq!(said, said_by("rust/src/lib.rs"));
-    assert_eq!(said, said_by("docs/SERVICE.md"));
+    // for each call, and on the page for both at once
+    let both = ["`dapohiru_price`", "`dapohiru_price_by`"];
+    let said = said_by("include/dapohiru.h", 2, &[]);
+    assert_eq!(said, said_by("rust/src/lib.rs", 2, &[]));
+    assert_eq!(said, said_by("docs/SERVICE.md", 1, &both));
     // where the loader binds `memset` at the first call, that takes some 3,000 bytes more
     let right = said - ROOM..said - 4_096;
     assert!(
