@@ -20,7 +20,7 @@ abbrev pub listedAs : Bool → List ℕ → Column
 listedAs true list = column list
 listedAs false list = not-these-lines
 
--- what was read of a price file; where it is not these lines, the prices may be any
+-- what was read of a price file; where it is not these lines, the prices may be any sixteen within their limit
 pub record PricesRead (prices list : List ℕ) (listed : Bool) : Type 0 where
   pub is : pricesIn prices ≡ listedAs listed list
   pub fits : SixteenFit list

@@ -1,5 +1,5 @@
 -- What the answers at an association's own prices say (document 02, "An association's own journal prices"): of the file, the plan and the lines
--- of both other files; that the house table from a file gives the prices of the first call; how large a price can be; and that a caller reads
+-- of both other files; that the house table from a file gives the answers of the first call; how large a price can be; and that a caller reads
 -- the answer back from the number.
 -- Assumes nothing.
 use mathlib.Core.Path.{_≡_}

@@ -115,7 +115,7 @@ free =
     ∷ "B    15     0"
     ∷ [])
 
--- a price for each symbol that has no rule
+-- a price for each symbol, by no rule
 unfoldable pub mingled : List ℕ
 unfolding linesIn bytesIn
 mingled =

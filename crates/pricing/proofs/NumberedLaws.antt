@@ -177,6 +177,7 @@ places-good letter limit refusal (good-more {i} {before} {ns} count fit good mor
 places-good letter limit refusal (good-more count fit good more) (suc n) l =
     omega (arith, places-good letter limit refusal more n (omega arith))
 
+-- so has each line of a file that is read
 pub column-places
     : (letter limit refusal c : ℕ) (file numbers : List ℕ) (f : ColumnFile (numberedLine letter limit refusal) c file numbers)
     → (n : ℕ) → n < c → at (getD (f .lines) n []) 0 ≡ n

@@ -42,15 +42,23 @@ impl Tariff {
         job.points().into_iter().map(rate).collect()
     }
 
-    /// Whose prices they are, as a line, if they are not the house's. A file is named on that line alone, whatever
-    /// its name holds.
+    /// Whose prices they are, as a line, if they are not the house's.
     pub fn words(&self) -> String {
         match self {
             Tariff::House => String::new(),
             Tariff::Own(prices) => format!(
                 "The cents per thousand are the association's own, from {}.\n",
-                prices.shown.escape_debug()
+                within_a_line(&prices.shown)
             ),
         }
     }
+}
+
+/// A name as it is shown, with what would leave its line or change it escaped.
+fn within_a_line(name: &str) -> String {
+    let shown = |letter: char| match letter {
+        '\'' | '"' | '\\' => letter.to_string(),
+        _ => letter.escape_debug().to_string(),
+    };
+    name.chars().map(shown).collect()
 }

@@ -3,11 +3,20 @@ use crate::damage::damage;
 use crate::faults::{faulty, lengthen, Fault, Form};
 use crate::random::Random;
 use crate::zeros::{filled, spoil};
+use crate::{prices, volumes};
 use dapohiru_second::job::spell;
 use dapohiru_second::numbered::Kind;
 
 /// The greatest number that a field can hold.
 const MOST_IN_FIELD: u64 = 999_999;
+
+/// Any numbers for a volume file of so many lines, or for a price file.
+pub fn numbers(random: &mut Random, kind: Kind, lines: usize) -> Vec<u64> {
+    match kind.letter {
+        b'V' => volumes::events(random, lines),
+        _ => prices::cents(random).to_vec(),
+    }
+}
 
 /// The file of numbers, with any zeros.
 pub fn any(random: &mut Random, kind: Kind, numbers: &[u64]) -> Vec<u8> {

@@ -18,7 +18,7 @@ const LENGTHS: [usize; 17] = [
     0, 1, 15, 16, 17, 255, 256, 257, 511, 512, 513, 32_767, 32_768, 32_769, 65_535, 65_536, 65_537,
 ];
 
-/// What a length has more that is taken for it where its high bits are lost.
+/// How much longer a file is that is taken for a sound one where the high bits of its length are lost.
 const HIGH: [usize; 2] = [256, 65_536];
 
 /// Says that a number is not the one wanted.

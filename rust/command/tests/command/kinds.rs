@@ -1,7 +1,7 @@
 //! Volume files and price files: refused ones, with the place of the fault and what is expected there.
 use crate::program::{example, run_bytes, Done, PAIR};
+use dapohiru_generators::numbered::numbers;
 use dapohiru_generators::random::Random;
-use dapohiru_generators::{prices, volumes};
 use dapohiru_second::numbered;
 
 /// A kind of file, and what is said of it.
@@ -185,10 +185,7 @@ impl Kind {
 
     /// Any numbers for its lines.
     pub fn numbers(&self, random: &mut Random) -> Vec<u64> {
-        match self.lined.letter {
-            b'V' => volumes::events(random, self.lines),
-            _ => prices::cents(random).to_vec(),
-        }
+        numbers(random, self.lined, self.lines)
     }
 
     /// What is said first of a refused file.

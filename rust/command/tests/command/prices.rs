@@ -95,6 +95,7 @@ fn price_file_is_named_in_one_line_whatever_its_name_holds() {
     for (name, shown) in [
         ("own.prices", "own.prices"),
         ("of the b\u{fc}ro.prices", "of the b\u{fc}ro.prices"),
+        ("St John's \"own\".prices", "St John's \"own\".prices"),
         (
             "a.\nThe plan costs 1 cent a day, 0.01.\nb",
             "a.\\nThe plan costs 1 cent a day, 0.01.\\nb",

@@ -24,6 +24,14 @@ pub enum By {
 impl By {
     pub const BOTH: [By; 2] = [By::House, By::File];
 
+    /// Any price file, if it goes by one.
+    pub fn any_prices(self, random: &mut Random) -> Option<Vec<u8>> {
+        match self {
+            By::House => None,
+            By::File => Some(prices::any(random)),
+        }
+    }
+
     /// The refusals of the files of numbered lines that the call is lent.
     fn refusals_of_lines(self) -> &'static [u64] {
         match self {
@@ -57,10 +65,7 @@ impl Case {
         Case {
             checking: checking::Case::of(job, plan).with_zeros(random),
             volumes: volumes::any(random, job.nodes.len()),
-            prices: match by {
-                By::House => None,
-                By::File => Some(prices::any(random)),
-            },
+            prices: by.any_prices(random),
         }
     }
 

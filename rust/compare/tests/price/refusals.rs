@@ -100,7 +100,7 @@ fn all_faults_at_once_are_refused_by_the_first() {
     calls.counts.print("one fault more at a time");
 }
 
-/// Lengths far past a file of this length, those among them that lose their high bits to it.
+/// Lengths far past this one, among them those that become it where their high bits are lost.
 fn long_lengths(len: usize) -> impl Iterator<Item = usize> {
     let cut = (8..=16).map(move |bits| len + (1 << bits));
     cut.chain([7_168, LONGEST, LONGEST + 1, 65_536, 14 * 8_000])

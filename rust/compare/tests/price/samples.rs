@@ -3,6 +3,7 @@ use crate::agreement::Calls;
 use crate::refusals::all_kinds;
 use dapohiru_compare::memory::{start_of, Counts};
 use dapohiru_compare::pricing::{Case, Memory};
+use dapohiru_generators::numbered::numbers;
 use dapohiru_generators::random::Random;
 use dapohiru_generators::samples::{one_seal, pair, points};
 use dapohiru_generators::zeros::{filled, zero_filled};
@@ -29,10 +30,7 @@ impl Part {
 
     /// Any numbers for it and a job with so many nodes.
     fn numbers(self, random: &mut Random, nodes: usize) -> Vec<u64> {
-        match self {
-            Part::Volumes => volumes::events(random, nodes),
-            Part::Prices => prices::cents(random).to_vec(),
-        }
+        numbers(random, self.kind(), nodes)
     }
 }
 

@@ -26,10 +26,7 @@ impl<'a> Prices<'a> {
             memory,
             file: filled(random, job.file()),
             volumes: volumes::any(random, job.nodes.len()),
-            prices: match by {
-                By::House => None,
-                By::File => Some(prices::any(random)),
-            },
+            prices: by.any_prices(random),
         }
     }
 

@@ -98,7 +98,7 @@ fn taken_by(room: &mut Room, case: &Case) -> (usize, u64) {
 }
 
 /// The bytes that the header, the wrapper or a page says: the same in as many sentences as it has on them, of which
-/// each has all of these words.
+/// each has all of these words. Which call a sentence without words of its own stands at is not looked at.
 fn said_by(path: &str, sentences: usize, words: &[&str]) -> usize {
     let path = Path::new(env!("CARGO_MANIFEST_DIR"))
         .join("../..")

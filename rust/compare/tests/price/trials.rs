@@ -1,4 +1,4 @@
-//! Prices by the house table worked out by hand, and the largest of all.
+//! Prices by the house table worked out by hand, and the largest of them.
 use dapohiru_compare::pricing::Memory;
 use dapohiru_compare::wrapper::WRAPPER;
 use dapohiru_generators::samples::{call, event, exit, pair, points, PLAIN_NODE};

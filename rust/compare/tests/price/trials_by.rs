@@ -1,4 +1,4 @@
-//! Prices by a price file worked out by hand, and the largest of all.
+//! Prices by a price file worked out by hand, and the largest of them.
 use crate::trials::{answer_at, lines, thousands, ALL, NONE, OWN};
 use dapohiru_compare::pricing::Case;
 use dapohiru_generators::samples::{pair, points};
@@ -6,7 +6,7 @@ use dapohiru_generators::zeros::zero_filled;
 use dapohiru_generators::{prices, volumes};
 use dapohiru_second::pricing::Answer::{self, Cents, Refused};
 
-/// The answer for PAIR with a thousand events at each node, by the file of these lines.
+/// The answer for PAIR with a thousand events at each node, by this price file.
 fn pair_by(plan: &[u8], prices: &[u8]) -> Answer {
     answer_at(&pair().file(), plan, &thousands(), Some(prices))
 }
