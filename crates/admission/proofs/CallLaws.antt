@@ -1,9 +1,11 @@
 -- The ways out of a call past admission, with the answer and what is left of the lent bytes; bytes written from the start of a buffer.
 -- Assumes nothing.
 use mathlib.Core.Path.{_≡_, refl, sym, ap, _∙_, subst}
+use mathlib.Core.Bool.{Bool, true, false, _||_}
 use mathlib.Core.List.{List}
 use Prim.Native.Nat.{ℕ, _+_, _≤_}
 use native.Mathlib.Omega.{arith}
+use lib.Dec.{ltb}
 use lib.ListN.{length, take, drop}
 use lib.Seq.{sets, sets-eq, length-sets, take-at, drop-at}
 use Rattle.job.specs.Job.{Job}
@@ -15,7 +17,7 @@ use Rattle.jobhead.specs.declared.head.Head.{Head}
 use Rattle.jobhead.specs.Reading.{headOfAnswer}
 use Rattle.buffer.specs.Views.{ruleRowsIn}
 use Rattle.tables.specs.Held.{JobHeld}
-use Rattle.admission.specs.Admission.{workAfter, WrittenFirst}
+use Rattle.admission.specs.Admission.{admitted, workAfter, WrittenFirst}
 use Rattle.admission.specs.Admitted.{Admitted}
 use Rattle.admission.proofs.AdmissionLaws.{cleared-outside}
 
@@ -23,6 +25,16 @@ use Rattle.admission.proofs.AdmissionLaws.{cleared-outside}
 abbrev pub Ends : {X : Type 0} → (Answer → X) → (Answer → List ℕ → List ℕ) → Answer → List ℕ → List ℕ → X → List ℕ → List ℕ → Type 0
 Ends outcome after answer work other r work′ other′ =
     (r ≡ outcome answer) × (work′ ≡ workAfter answer work) × (other′ ≡ after answer other)
+
+-- where no buffer but the work buffer is tested, its test is the only one
+pub admitted-alone
+    : (file : List ℕ) (size : ℕ) {l m : List ℕ} {r : Head} → Admitted (admitted file (ltb size workSize || false)) l m r
+    → Admitted (admitted file (ltb size workSize)) l m r
+admitted-alone file size {l} {m} {r} a = go (ltb size workSize) a
+  where
+    go : (b : Bool) → Admitted (admitted file (b || false)) l m r → Admitted (admitted file b) l m r
+    go true a = a
+    go false a = a
 
 -- a number other than 0 is the answer's refusal
 pub answer-refused : {answer : Answer} {l m : List ℕ} {r : Head} → Admitted answer l m r → (r .refusal ≡ 0 → ⊥) → answer ≡ turned (r .refusal)

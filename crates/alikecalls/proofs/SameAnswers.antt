@@ -28,7 +28,8 @@ use Rattle.pricelist.specs.PriceListSays.{OwnPriceRefused, without-prices, othe
 use Rattle.pricelist.proofs.PriceListSays.{own-price-refused}
 use Rattle.planoutcome.specs.PlanCall.{planSize, planAnswer}
 use Rattle.listoutcome.specs.ListCall.{listingSize, listAnswer}
-use Rattle.alikecalls.specs.SameAnswers.{planGives, listGives, checkGives, priceGives, printGives, OneAnswer, OnePrice, OneOwnPrice, SameAnswers}
+use Rattle.ruleoutcome.specs.RuleCall.{ruleSize, fitted, ruleAnswer}
+use Rattle.alikecalls.specs.SameAnswers.{planGives, listGives, checkGives, priceGives, ruleGives, valueGives, printGives, OneAnswer, OnePrice, OneOwnPrice, SameAnswers}
 
 -- the answer of pricing is one, whatever the prices
 abbrev SamePrice : List ℕ → List ℕ → List ℕ → List ℕ → List ℕ → Type 0
@@ -63,6 +64,10 @@ module _ (f g : List ℕ) (long : length f ≡ length g) (read : readJob f ≡ r
   unfolding checked
   same-verdict plan work = ap (λ (x : Answer). answered x plan) (same-admission (ltb work workSize))
 
+  -- the rule
+  same-rule : (work rule : ℕ) → ruleAnswer f work rule ≡ ruleAnswer g work rule
+  same-rule work rule = ap (λ (x : Answer). fitted x rule) (same-admission (ltb work workSize))
+
   -- the price, at any prices
   same-price : (plan volumes : List ℕ) → SamePrice f g plan volumes volumes
   unfolding pricedAt
@@ -81,6 +86,9 @@ module _ (f g : List ℕ) (long : length f ≡ length g) (read : readJob f ≡ r
         checking = λ plan work. ap (λ (v : Verdict). checkGives v work) (same-verdict plan (length work));
         pricing = λ plan volumes. ap priceGives (same-price plan volumes housePrices);
         own-pricing = λ plan volumes prices. ap priceGives (same-own-price f g plan volumes volumes prices (same-price plan volumes));
+        rule-answer = same-rule;
+        rule = λ work rule. ap (λ (x : Answer). ruleGives x work rule) (same-rule (length work) (length rule));
+        rule-by-value = λ work. ap (λ (x : Answer). valueGives x work) (same-rule (length work) ruleSize);
         printing = λ work. ap (λ (x : Answer). printGives x work) (same-admission false);
       }
 

@@ -28,6 +28,9 @@ use Rattle.planoutcome.specs.declared.plan.Outcome.{Outcome}
 use Rattle.planoutcome.specs.PlanCall.{planAnswer, outcomeOf, planAfter, planNumber}
 use Rattle.listoutcome.specs.declared.list.Listed.{Listed}
 use Rattle.listoutcome.specs.ListCall.{listAnswer, listedOf, listingAfter, listNumber}
+use Rattle.ruleoutcome.specs.declared.rule.RuleAnswer.{RuleAnswer}
+use Rattle.ruleoutcome.specs.declared.rule.JobRule.{JobRule}
+use Rattle.ruleoutcome.specs.RuleCall.{ruleSize, ruleAnswer, ruledOf, ruleAfter, ruleValue, ruleNumber}
 
 -- what a caller of planning has: counts or refusal, their number, the work buffer, the plan buffer
 pub record PlanResult : Type 0 where
@@ -72,6 +75,27 @@ pub record PriceResult : Type 0 where
 abbrev pub priceGives : Price → PriceResult
 priceGives p = record { price = p; number = priceNumber p }
 
+-- of the rule call: the numbers of the rule or a refusal, their number, the work buffer, the rule buffer
+pub record RuleResult : Type 0 where
+  pub answer : RuleAnswer
+  pub number : ℕ
+  pub work : List ℕ
+  pub rule : List ℕ
+
+-- for an answer
+abbrev pub ruleGives : Answer → List ℕ → List ℕ → RuleResult
+ruleGives a work rule =
+    record { answer = ruledOf a; number = ruleNumber (ruledOf a); work = workAfter a work; rule = ruleAfter a rule }
+
+-- by value: the rule, the work buffer
+pub record ValueResult : Type 0 where
+  pub rule : JobRule
+  pub work : List ℕ
+
+-- for an answer
+abbrev pub valueGives : Answer → List ℕ → ValueResult
+valueGives a work = record { rule = ruleValue a; work = workAfter a work }
+
 -- of the listing program: what is printed, the work buffer
 pub record PrintResult : Type 0 where
   pub text : List ℕ
@@ -81,8 +105,8 @@ pub record PrintResult : Type 0 where
 abbrev pub printGives : Answer → List ℕ → PrintResult
 printGives a work = record { text = printedFor a; work = workAfter a work }
 
--- two files get the same of every call. Each contract of a call names its file in `admitted`, `planAnswer`, `listAnswer`, `checked`, `priced` or
--- `pricedBy` alone, so what is said of these is said of all that a call gives
+-- two files get the same of every call. Each contract of a call names its file in `admitted`, `planAnswer`, `listAnswer`, `checked`, `priced`,
+-- `pricedBy` or `ruleAnswer` alone, so what is said of these is said of all that a call gives
 pub record OneAnswer (f g : List ℕ) : Type 0 where
   -- what every call begins with
   pub admission : (short : Bool) → admitted f short ≡ admitted g short
@@ -100,6 +124,12 @@ pub record OneAnswer (f g : List ℕ) : Type 0 where
   pub pricing : (plan volumes : List ℕ) → priceGives (priced f plan volumes) ≡ priceGives (priced g plan volumes)
   pub own-pricing
       : (plan volumes prices : List ℕ) → priceGives (pricedBy f plan volumes prices) ≡ priceGives (pricedBy g plan volumes prices)
+  pub rule-answer : (work rule : ℕ) → ruleAnswer f work rule ≡ ruleAnswer g work rule
+  pub rule
+      : (work rule : List ℕ)
+      → ruleGives (ruleAnswer f (length work) (length rule)) work rule ≡ ruleGives (ruleAnswer g (length work) (length rule)) work rule
+  pub rule-by-value
+      : (work : List ℕ) → valueGives (ruleAnswer f (length work) ruleSize) work ≡ valueGives (ruleAnswer g (length work) ruleSize) work
   pub printing : (work : List ℕ) → printGives (admitted f false) work ≡ printGives (admitted g false) work
 
 -- two volume files get the same of both calls of pricing, beside one job file

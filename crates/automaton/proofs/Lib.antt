@@ -2,3 +2,4 @@
 -- Assumes nothing.
 pub mod AutomatonLaws
 pub mod TableLaws
+pub mod RuleBytesLaws

@@ -2,7 +2,7 @@
 -- Assumes nothing.
 use mathlib.Core.Path.{_≡_, refl, sym, ap, _∙_, subst}
 use mathlib.Core.Logic.{inr}
-use mathlib.Core.Bool.{Bool, true, false, cond, _||_}
+use mathlib.Core.Bool.{Bool, true, false, cond}
 use mathlib.Core.List.{List}
 use Prim.Native.Nat.{ℕ, _+_, _≤_, _<_}
 use native.Mathlib.Omega.{arith}
@@ -164,16 +164,6 @@ left-judged j plan work =
     go true true false = refl
     go true false c = refl
     go false b c = refl
-
--- no buffer but the work buffer is tested
-pub check-admitted
-    : (file : List ℕ) (size : ℕ) {l m : List ℕ} {r : Head} → Admitted (admitted file (ltb size workSize || false)) l m r
-    → Admitted (admitted file (ltb size workSize)) l m r
-check-admitted file size {l} {m} {r} a = go (ltb size workSize) a
-  where
-    go : (b : Bool) → Admitted (admitted file (b || false)) l m r → Admitted (admitted file b) l m r
-    go true a = a
-    go false a = a
 
 -- a number of admission is the refusal
 pub check-refused

@@ -1,7 +1,7 @@
--- Every answer of planning, of listing and of pricing has a number of 64 bits: the counts are at most 513, a listing fits its buffer, a price
--- is at most the largest.
+-- Every answer of planning, of listing, of pricing and of the rule call has a number of 64 bits: the counts are at most 513, a listing fits its
+-- buffer, a price is at most the largest, and a rule has at most sixteen states and symbols.
 -- Assumes nothing.
-use mathlib.Core.Path.{_≡_, sym}
+use mathlib.Core.Path.{_≡_, refl, sym, subst}
 use mathlib.Core.Bool.{Bool}
 use mathlib.Core.List.{List}
 use Prim.Native.Nat.{ℕ}
@@ -23,6 +23,12 @@ use Rattle.pricing.proofs.LargestPrice.{price-at-most}
 use Rattle.pricelist.specs.PriceList.{pricedBy}
 use Rattle.pricelist.proofs.PriceListSays.{own-price-at-most}
 use Rattle.answernumbers.specs.Fits.{OutcomeFits, ListedFits}
+use Rattle.jobfile.specs.File.{Answer, accepted, turned}
+use Rattle.ruleoutcome.specs.declared.rule.RuleAnswer.{RuleAnswer}
+use Rattle.ruleoutcome.specs.declared.rule.RuleAnswer.the-variants.{Rule, Refused as RuleRefused}
+use Rattle.ruleoutcome.specs.RuleCall.{ruleAnswer, ruledOf}
+use Rattle.ruleoutcome.proofs.RuleLaws.{rule-well-formed, finals-few}
+use Rattle.rulenumbers.specs.Fits.{RuleFits}
 
 -- of planning
 pub outcome-fits : (file : List ℕ) (short : Bool) (r : Outcome) → r ≡ outcomeOf (admitted file short) → OutcomeFits r
@@ -45,3 +51,13 @@ price-fits file plan volumes (PriceRefused k) e = tt
 pub own-price-fits : (file plan volumes prices : List ℕ) (r : Price) → r ≡ pricedBy file plan volumes prices → CentsFit r
 own-price-fits file plan volumes prices (Cents c) e = omega (arith, own-price-at-most file plan volumes prices c (sym e))
 own-price-fits file plan volumes prices (PriceRefused k) e = tt
+
+-- of the rule call
+pub rule-fits : (file : List ℕ) (work rule : ℕ) (r : RuleAnswer) → r ≡ ruledOf (ruleAnswer file work rule) → RuleFits r
+rule-fits file work rule r e = subst RuleFits (sym e) (go (ruleAnswer file work rule) refl)
+  where
+    go : (a : Answer) → ruleAnswer file work rule ≡ a → RuleFits (ruledOf a)
+    go (accepted j) is =
+        let wf = rule-well-formed file work rule j is in
+        (omega (arith, wf .few-states), omega (arith, wf .few-symbols), finals-few (j .rule) wf)
+    go (turned k) is = tt

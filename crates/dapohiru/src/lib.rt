@@ -4,3 +4,4 @@ pub mod check; // check.rt: the plan check
 pub mod plan; // plan.rt: planning
 pub mod list; // list.rt: listing
 pub mod price; // price.rt: pricing
+pub mod rule; // rule.rt: the rule of a job

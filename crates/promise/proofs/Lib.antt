@@ -2,4 +2,5 @@
 -- Assumes nothing.
 pub mod PlanningLaws
 pub mod CallsLaws
+pub mod RuleLaws
 pub mod Promise

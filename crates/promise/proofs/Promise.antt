@@ -13,6 +13,7 @@ use Rattle.eventbytes.proofs.FormLaws.{call-moves}
 use Rattle.promise.specs.Promise.{PromiseIn, ThirdPromise}
 use Rattle.promise.proofs.PlanningLaws.{planning-accepts, both-halves}
 use Rattle.promise.proofs.CallsLaws.{value-gives, lent-gives, call-gives, value-refused, lent-refused, call-refused, value-records, lent-records, call-records}
+use Rattle.promise.proofs.RuleLaws.{rule-tied}
 
 -- in a form that moves as it must, and has calls, refused ones and records
 promise-in : (f : EventForm) → FormMoves f → FormGives f → RecordsExist f → RefusedExist f → PromiseIn f
@@ -30,5 +31,6 @@ third-promise =
       planning-accepts = planning-accepts;
       plan-bytes = plan-bytes-say;
       planning-seen = seen-by-number;
+      rule-tied = rule-tied;
       report-seen = report-by-number;
     }

@@ -3,10 +3,12 @@
 -- Assumes nothing.
 use mathlib.Core.Path.{_≡_}
 use mathlib.Core.List.{List}
-use Prim.Native.Nat.{ℕ, _≤_}
+use Prim.Native.Nat.{ℕ, _≤_, _<_}
 use lib.ListN.{length, take}
 use Rattle.events.specs.Monitor.{ReportByNumber}
-use Rattle.events.specs.Form.{EventForm, valueForm, lentForm}
+use Rattle.automaton.specs.Automaton.{Automaton, automatonOf}
+use Rattle.automaton.specs.Table.{tableOf}
+use Rattle.events.specs.Form.{EventForm, Given, valueForm, lentForm}
 use Rattle.job.specs.Job.{Job}
 use Rattle.twomonitors.specs.Monitors.{AlarmsKept, PointsNeeded, ListsExist, AnyOrder}
 use Rattle.jobfile.specs.File.{accepted, writeJob}
@@ -15,7 +17,12 @@ use Rattle.jobfile.specs.Spellable.{Spellable}
 use Rattle.buffer.specs.Buffer.{workSize}
 use Rattle.planoutcome.specs.PlanCall.{planSize, planAnswer, planAfter}
 use Rattle.planoutcome.specs.PlanSays.{PlanBytesSay, SeenByNumber}
-use Rattle.eventbytes.specs.Form.{callForm}
+use Rattle.ruleoutcome.specs.declared.rule.RuleNumbers.{RuleNumbers}
+use Rattle.ruleoutcome.specs.declared.rule.RuleAnswer.the-variants.{Rule}
+use Rattle.ruleoutcome.specs.RuleCall.{ruleSize, ruleAnswer, ruledOf, ruleAfter, ruleValue, ruleNumber}
+use Rattle.ruleoutcome.specs.RuleSays.{ruledRead, RuledByNumber}
+use Rattle.eventbytes.specs.Event.{recordSize}
+use Rattle.eventbytes.specs.Form.{HeldBytes, ByteCall, callForm}
 
 -- the plan bytes that planning leaves: those of nodes 0 to N-1
 abbrev pub planBytes : List ℕ → List ℕ → ℕ → Job → List ℕ
@@ -39,9 +46,55 @@ pub record PromiseIn (f : EventForm) : Type 0 where
   pub lists-exist : ListsExist f
   pub any-order : AnyOrder f
 
+-- ---- the rule that the calls of the event step are given
+
+-- a call of the event step with the bytes and the numbers that the rule call left and returned, lent the record that is held
+abbrev pub byteCallWith : List ℕ → RuleNumbers → ℕ → HeldBytes → ByteCall
+byteCallWith rule n a h =
+    record {
+      rule = rule;
+      states = n .states;
+      symbols = n .symbols;
+      finals = n .finals;
+      symbol = a;
+      start = h .place;
+      count = recordSize;
+    }
+
+-- the same by value, with the rule that `table_of` makes of the table
+abbrev pub givenWith : List ℕ → RuleNumbers → ℕ → Given
+givenWith table n a = record { rule = automatonOf (tableOf table) (n .states) (n .symbols) (n .finals); symbol = a }
+
+-- a call that gives this rule and this symbol, as both halves ask of the calls of events, and that can be passed
+pub record GivesRule (f : EventForm) (m : Automaton) (a : ℕ) (c : f .Call) (h : f .Held) : Type 0 where
+  pub gives : f .Gives m a c h
+  pub passable : f .Passable c
+
+-- the statement: where planning accepts a file, so does the rule call, with the same job; and the bytes that it leaves, beside the numbers that
+-- are read back from its number, are in every call of the event step the rule of that job. So a caller who plans with `dapohiru_plan`, takes the
+-- rule with `dapohiru_rule` and reports events with `dapohiru_event` has calls as the promise asks for
+pub record RuleTied : Type 0 where
+  pub rule-accepts
+      : (file plan : List ℕ) (size : ℕ) (j : Job) → planAnswer file size (length plan) ≡ accepted j → (work : ℕ) → workSize ≤ work
+      → ruleAnswer file work ruleSize ≡ accepted j
+  pub across-the-c-call
+      : (file rule : List ℕ) (work : ℕ) (j : Job) → ruleAnswer file work (length rule) ≡ accepted j → (n : RuleNumbers)
+      → ruledRead (ruleNumber (ruledOf (ruleAnswer file work (length rule)))) ≡ Rule n → (a : ℕ) → a < j .rule .symbols → (h : HeldBytes)
+      → GivesRule callForm (j .rule) a (byteCallWith (ruleAfter (ruleAnswer file work (length rule)) rule) n a h) h
+  pub on-values
+      : (file : List ℕ) (work : ℕ) (j : Job) → ruleAnswer file work ruleSize ≡ accepted j → (n : RuleNumbers)
+      → ruleValue (ruleAnswer file work ruleSize) .answer ≡ Rule n → (a : ℕ) → a < j .rule .symbols → (h : valueForm .Held)
+      → GivesRule valueForm (j .rule) a (givenWith (ruleValue (ruleAnswer file work ruleSize) .table) n a) h
+  pub on-a-lent-record
+      : (file : List ℕ) (work : ℕ) (j : Job) → ruleAnswer file work ruleSize ≡ accepted j → (n : RuleNumbers)
+      → ruleValue (ruleAnswer file work ruleSize) .answer ≡ Rule n → (a : ℕ) → a < j .rule .symbols → (h : lentForm .Held)
+      → GivesRule lentForm (j .rule) a (givenWith (ruleValue (ruleAnswer file work ruleSize) .table) n a) h
+  pub rule-seen : RuledByNumber
+
 -- the third promise: nobody who sees the alarms alone can tell the planned monitor from the fully watched one, and no watched point can
 -- be spared, in all three forms of the event step. Planning accepts every job that a file can spell, what it leaves is a plan and no other
--- byte, and a caller reads back from the numbers returned what planning and the event step answered
+-- byte, the rule call hands over such a rule as the promise is about, and a caller reads back from the numbers returned what planning, the
+-- rule call and the event step answered
 pub record ThirdPromise : Type 0 where
   pub on-values : PromiseIn valueForm
   pub on-a-lent-record : PromiseIn lentForm
@@ -49,4 +102,5 @@ pub record ThirdPromise : Type 0 where
   pub planning-accepts : PlanningAccepts
   pub plan-bytes : PlanBytesSay
   pub planning-seen : SeenByNumber
+  pub rule-tied : RuleTied
   pub report-seen : ReportByNumber

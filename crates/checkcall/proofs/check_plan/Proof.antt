@@ -6,7 +6,8 @@ use native.Mathlib.Omega.{arith}
 use lib.ListN.{length}
 use borrow.Author.Needs.{needs}
 use Rattle.checking.specs.Checking.{checked}
-use Rattle.checking.proofs.CheckLaws.{check-admitted, check-refused, check-judged}
+use Rattle.admission.proofs.CallLaws.{admitted-alone}
+use Rattle.checking.proofs.CheckLaws.{check-refused, check-judged}
 use Rattle.checkcall.proofs.check_plan.Statement.{statement}
 use Rattle.checkcall.proofs.check_plan.Tie as tie
 
@@ -21,7 +22,7 @@ unfolding checked
 returns c =
     let call = c .before .before .before in
     let x = call .before .before .before .before .before .args in
-    check-refused (x .plan .now) (check-admitted (x .file .now) (length (x .work .now)) (call .admit .ensures)) (c .if1 .taken)
+    check-refused (x .plan .now) (admitted-alone (x .file .now) (length (x .work .now)) (call .admit .ensures)) (c .if1 .taken)
 
 cast-judge : tie.Need-cast-judge
 cast-judge c = record { fits = c .before .before .before .before .before .admit .ensures .job (c .before .before .if1 .left) .final-set }
@@ -46,7 +47,7 @@ returns-2 c =
     let call = good .before .before .before in
     let x = call .before .before .before .before .before .args in
     let judged =
-    check-judged (x .plan .now) _ (held .judge .result) (check-admitted (x .file .now) (length (x .work .now)) (call .admit .ensures))
+    check-judged (x .plan .now) _ (held .judge .result) (admitted-alone (x .file .now) (length (x .work .now)) (call .admit .ensures))
     (good .if1 .left) (held .judge .ensures) in
     (judged .0, c .before .before .clear .ensures ∙ judged .1)
 

@@ -1,0 +1,3 @@
+-- The answers that their number holds.
+-- Assumes nothing.
+pub mod Fits

@@ -1,0 +1,19 @@
+// The number that a C call returns for each answer of the rule call.
+ghost use mathlib.Core.Path.{_≡_};
+ghost use Rattle.ruleoutcome.specs.RuleCall.{ruleNumber};
+ghost use Rattle.rulenumbers.specs.Fits.{RuleFits};
+use callnumber::ACCEPTED;
+use ruleoutcome::rule::RuleAnswer;
+
+// 2^48 plus states times 2^32, symbols times 2^16, and the final set, or the refusal's number.
+pub fn of_rule(answer: RuleAnswer) -> u64
+    requires { ⌜ RuleFits answer ⌝ }
+    ensures { λ r. ⌜ r ≡ ruleNumber answer ⌝ }
+{
+    match answer {
+        RuleAnswer::Rule(numbers) => {
+            ACCEPTED + numbers.states * 4_294_967_296 + numbers.symbols * 65_536 + numbers.finals
+        }
+        RuleAnswer::Refused(number) => number,
+    }
+}

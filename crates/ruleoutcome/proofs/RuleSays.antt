@@ -1,0 +1,149 @@
+-- What a caller of the rule call has: the bytes of the rule, the refusals in their order, the numbers read back, and the rule by value.
+-- Assumes nothing.
+use mathlib.Core.Path.{_≡_, refl, sym, ap, _∙_, subst}
+use mathlib.Core.Logic.{inl, inr}
+use mathlib.Core.Bool.{Bool, true, false, cond}
+use mathlib.Core.List.{List}
+use Prim.Native.Nat.{ℕ, zero, suc, _+_, _*_, _/_, _%_, _^_, _≤_, _<_}
+use native.Mathlib.Omega.{arith}
+use lib.Dec.{eqb, ltb}
+use lib.ListN.{length, getD, replicate}
+use borrow.Author.Tests.{ltb-true, ltb-false, lt-ltb, le-ltb, eqb-false, eq-eqb, ne-eqb}
+use Rattle.callnumber.specs.CallNumber.{acceptedFrom}
+use Rattle.automaton.specs.Automaton.{Automaton, WellFormed}
+use Rattle.automaton.specs.Table.{ruleBytes}
+use Rattle.automaton.proofs.RuleBytesLaws.{cell-byte-at, cell-byte-past, rule-bytes-length, rule-bytes-at, rule-bytes-same}
+use Rattle.job.specs.Job.{Job}
+use Rattle.jobfile.specs.File.{Answer, accepted, turned, maxFile, readJob}
+use Rattle.buffer.specs.Buffer.{workSize}
+use Rattle.admission.specs.Admission.{admitted}
+use Rattle.admission.proofs.AdmissionLaws.{admitted-long, admitted-short, admitted-read, admitted-small}
+use Rattle.ruleoutcome.specs.declared.rule.RuleAnswer.the-variants.{Rule, Refused}
+use Rattle.ruleoutcome.specs.RuleCall.{ruleSize, fitted, ruleAnswer, numbersOf, ruledOf, ruleAfter, ruleValue, ruleNumber}
+use Rattle.ruleoutcome.specs.RuleSays.{RuleWritten, RuleLeft, handed-over, unchanged, RuleBytesSay, RuleRefused, too-long, short-work, turned-back, other-length, RuleAnswerSays, ruledRead, RuledByNumber, RuleValueSays}
+use Rattle.ruleoutcome.proofs.RuleLaws.{turned-or-accepted, rule-reads, rule-well-formed, finals-few}
+
+-- ---- the bytes
+
+-- of a rule
+rule-written : (m : Automaton) → WellFormed m → RuleWritten m (ruleBytes m)
+rule-written m wf =
+    record {
+      count = rule-bytes-length m;
+      cells = λ q a h k.
+          rule-bytes-at m q a (omega (arith, wf .few-states)) (omega (arith, wf .few-symbols)) ∙ cell-byte-at m q a h k;
+      past-states = λ q a past h k. rule-bytes-at m q a h k ∙ cell-byte-past m q a (inl past);
+      past-symbols = λ q a h past k. rule-bytes-at m q a h k ∙ cell-byte-past m q a (inr past);
+    }
+
+-- the rule buffer after the call
+pub rule-bytes-say : RuleBytesSay
+rule-bytes-say file rule work = go (ruleAnswer file work (length rule)) refl
+  where
+    go : (a : Answer) → ruleAnswer file work (length rule) ≡ a → RuleLeft rule (ruleAfter a rule) a
+    go (accepted j) e = handed-over (rule-written (j .rule) (rule-well-formed file work (length rule) j e))
+    go (turned k) e = unchanged refl
+
+-- ---- the refusals
+
+module _ (file : List ℕ) (work rule : ℕ) where
+  -- whatever is refused is refused so
+  refused-so : (k : ℕ) → ruleAnswer file work rule ≡ turned k → RuleRefused file work rule k
+  unfolding admitted
+  refused-so k e = go (ltb maxFile (length file)) refl (ltb work workSize) refl (readJob file) refl e
+    where
+      refused-as : {n : ℕ} → turned n ≡ turned k → RuleRefused file work rule n → RuleRefused file work rule k
+      refused-as {n} e r = let same : n ≡ k = cc e in subst (RuleRefused file work rule) same r
+
+      fit
+          : (j : Job) → readJob file ≡ accepted j → workSize ≤ work → (same : Bool) → eqb rule ruleSize ≡ same
+          → cond same (accepted j) (turned 13) ≡ turned k → RuleRefused file work rule k
+      fit j read room true same e = absurd (turned-or-accepted (sym e))
+      fit j read room false same e = refused-as e (other-length room read (eqb-false rule ruleSize same))
+
+      go
+          : (long : Bool) → ltb maxFile (length file) ≡ long → (short : Bool) → ltb work workSize ≡ short → (a : Answer) → readJob file ≡ a
+          → fitted (cond long (turned 1) (cond short (turned 2) a)) rule ≡ turned k → RuleRefused file work rule k
+      go true l short s a read e = refused-as e (too-long (ltb-true maxFile (length file) l))
+      go false l true s a read e = refused-as e (short-work (ltb-false maxFile (length file) l) (ltb-true work workSize s))
+      go false l false s (turned n) read e =
+          refused-as e (turned-back (ltb-false maxFile (length file) l) (ltb-false work workSize s) read)
+      go false l false s (accepted j) read e = fit j read (ltb-false work workSize s) (eqb rule ruleSize) refl e
+
+  -- with room for the work, the answer is the file's, and then 13
+  with-room : (a : Answer) → workSize ≤ work → readJob file ≡ a → ruleAnswer file work rule ≡ fitted a rule
+  with-room a room read =
+      ap (λ (x : Answer). fitted x rule) (admitted-read file (ltb work workSize) (le-ltb work workSize room) ∙ read)
+
+  -- and it is refused
+  so-refused : (k : ℕ) → RuleRefused file work rule k → ruleAnswer file work rule ≡ turned k
+  so-refused k (too-long l) = ap (λ (x : Answer). fitted x rule) (admitted-long file (ltb work workSize) l)
+  so-refused k (short-work fits short) =
+      ap (λ (x : Answer). fitted x rule) (admitted-short file (ltb work workSize) fits (lt-ltb work workSize short))
+  so-refused k (turned-back fits room read) = with-room (turned k) room read
+  so-refused k (other-length {j} room read other) = with-room (accepted j) room read ∙ simp (ne-eqb rule ruleSize other)
+
+  -- a job that is spelled is handed over where both buffers are as they must be
+  so-accepted : (j : Job) → (workSize ≤ work) × (rule ≡ ruleSize) × (readJob file ≡ accepted j) → ruleAnswer file work rule ≡ accepted j
+  so-accepted j h = with-room (accepted j) (h .0) (h .2) ∙ simp (eq-eqb rule ruleSize (h .1))
+
+  -- ---- the number
+
+  -- S, A and the final set in it are read back
+  read-numbers : (m : Automaton) → WellFormed m → ruledRead (ruleNumber (Rule (numbersOf m))) ≡ Rule (numbersOf m)
+  read-numbers m wf =
+      let n = ruleNumber (Rule (numbersOf m)) in
+      let few = finals-few m wf in
+      let states : n / 2 ^ 32 % 2 ^ 16 ≡ m .states = omega (arith, wf .few-states, wf .few-symbols, few) in
+      let symbols : n / 2 ^ 16 % 2 ^ 16 ≡ m .symbols = omega (arith, wf .few-states, wf .few-symbols, few) in
+      let finals : n % 2 ^ 16 ≡ m .finals = omega (arith, wf .few-states, wf .few-symbols, few) in
+      simp (le-ltb n acceptedFrom (omega arith), states, symbols, finals)
+
+  -- so is a refusal
+  read-refusal : (k : ℕ) → RuleRefused file work rule k → ruledRead (ruleNumber (Refused k)) ≡ Refused k
+  read-refusal k r = simp (lt-ltb k acceptedFrom (omega (arith, small k r)))
+    where
+      small : (k : ℕ) → RuleRefused file work rule k → k ≤ 15
+      small k (too-long l) = omega arith
+      small k (short-work fits short) = omega arith
+      small k (turned-back fits room read) =
+          admitted-small file (ltb work workSize) k (admitted-read file (ltb work workSize) (le-ltb work workSize room) ∙ read)
+      small k (other-length room read other) = omega arith
+
+  answer-read : (a : Answer) → ruleAnswer file work rule ≡ a → ruledRead (ruleNumber (ruledOf a)) ≡ ruledOf a
+  answer-read (accepted j) e = read-numbers (j .rule) (rule-well-formed file work rule j e)
+  answer-read (turned k) e = read-refusal k (refused-so k e)
+
+-- the refusals and the accepted answers
+pub rule-answer-says : RuleAnswerSays
+rule-answer-says =
+    record {
+      refused = λ file work rule k. (refused-so file work rule k, so-refused file work rule k);
+      accepts = λ file work rule j. (rule-reads file work rule j, so-accepted file work rule j);
+    }
+
+-- a caller reads back the answer
+pub ruled-by-number : RuledByNumber
+ruled-by-number file work rule = answer-read file work rule (ruleAnswer file work rule) refl
+
+-- ---- by value
+
+-- no byte of a list of zeros is another
+zeros-get : (n i : ℕ) → getD (replicate {A = ℕ} n 0) i 0 ≡ 0
+zeros-get zero i = refl
+zeros-get (suc n) zero = refl
+zeros-get (suc n) (suc i) = zeros-get n i
+
+-- the table beside the answer
+pub rule-value-says : RuleValueSays
+rule-value-says =
+    record {
+      answer = answer;
+      table = λ file work j e. rule-written (j .rule) (rule-well-formed file work ruleSize j e);
+      none = λ k i. zeros-get ruleSize i;
+      rule = λ file work j e. rule-bytes-same (j .rule) (rule-well-formed file work ruleSize j e);
+    }
+  where
+    answer : (a : Answer) → ruleValue a .answer ≡ ruledOf a
+    answer (accepted j) = refl
+    answer (turned k) = refl

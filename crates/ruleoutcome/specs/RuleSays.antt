@@ -1,0 +1,72 @@
+-- What a caller of the rule call has: the rule's cells in its buffer, each refusal in its order, the answer read back from the number, and
+-- the job's rule in the table by value. Statements, with a theorem for each in `proofs/`.
+-- Assumes nothing.
+use mathlib.Core.Path.{_≡_}
+use mathlib.Core.Logic.{_≢_, _↔_}
+use mathlib.Core.Bool.{cond}
+use mathlib.Core.List.{List}
+use Prim.Native.Nat.{ℕ, _+_, _*_, _/_, _%_, _^_, _≤_, _<_}
+use lib.Dec.{ltb}
+use lib.ListN.{length, getD}
+use Rattle.callnumber.specs.CallNumber.{acceptedFrom}
+use Rattle.automaton.specs.Automaton.{Automaton, automatonOf, next, SameRule}
+use Rattle.automaton.specs.Table.{tableOf}
+use Rattle.job.specs.Job.{Job}
+use Rattle.jobfile.specs.File.{Answer, accepted, turned, maxFile, readJob}
+use Rattle.buffer.specs.Buffer.{workSize}
+use Rattle.ruleoutcome.specs.declared.rule.RuleAnswer.{RuleAnswer}
+use Rattle.ruleoutcome.specs.declared.rule.RuleAnswer.the-variants.{Rule, Refused}
+use Rattle.ruleoutcome.specs.RuleCall.{ruleSize, ruleAnswer, ruledOf, ruleAfter, ruleValue, ruleNumber}
+
+-- the bytes of a rule: 256 in row order, a next state for each state and symbol, and zero past S or A
+pub record RuleWritten (m : Automaton) (bytes : List ℕ) : Type 0 where
+  pub count : length bytes ≡ ruleSize
+  pub cells : (q a : ℕ) → q < m .states → a < m .symbols → getD bytes (q * 16 + a) 0 ≡ next m q a
+  pub past-states : (q a : ℕ) → m .states ≤ q → q < 16 → a < 16 → getD bytes (q * 16 + a) 0 ≡ 0
+  pub past-symbols : (q a : ℕ) → q < 16 → m .symbols ≤ a → a < 16 → getD bytes (q * 16 + a) 0 ≡ 0
+
+-- the rule buffer after the call, for an answer: the job's rule, or as it was
+pub data RuleLeft (before after : List ℕ) : Answer → Type 0 where
+  handed-over : {j : Job} → RuleWritten (j .rule) after → RuleLeft before after (accepted j)
+  unchanged : {k : ℕ} → after ≡ before → RuleLeft before after (turned k)
+
+-- the statement: the bytes that are left are those
+abbrev pub RuleBytesSay : Type 0
+RuleBytesSay =
+    (file rule : List ℕ) (work : ℕ)
+    → RuleLeft rule (ruleAfter (ruleAnswer file work (length rule)) rule) (ruleAnswer file work (length rule))
+
+-- the refusals of the call: 1, 2 for the work buffer, those of the file, and 13 for a rule buffer of another length than 256
+pub data RuleRefused (file : List ℕ) (work rule : ℕ) : ℕ → Type 0 where
+  too-long : maxFile < length file → RuleRefused file work rule 1
+  short-work : length file ≤ maxFile → work < workSize → RuleRefused file work rule 2
+  turned-back : {k : ℕ} → length file ≤ maxFile → workSize ≤ work → readJob file ≡ turned k → RuleRefused file work rule k
+  other-length : {j : Job} → workSize ≤ work → readJob file ≡ accepted j → rule ≢ ruleSize → RuleRefused file work rule 13
+
+-- the statement: it refuses so and no other way, and accepts with the job that the file spells
+pub record RuleAnswerSays : Type 0 where
+  pub refused : (file : List ℕ) (work rule k : ℕ) → (ruleAnswer file work rule ≡ turned k) ↔ RuleRefused file work rule k
+  pub accepts
+      : (file : List ℕ) (work rule : ℕ) (j : Job)
+      → (ruleAnswer file work rule ≡ accepted j) ↔ ((workSize ≤ work) × (rule ≡ ruleSize) × (readJob file ≡ accepted j))
+
+-- the answer that a number tells: below 2^48 a refusal, from there on S, A and the final set
+abbrev pub ruledRead : ℕ → RuleAnswer
+ruledRead n =
+    cond (ltb n acceptedFrom) (Refused n)
+    (Rule (record { states = n / 2 ^ 32 % 2 ^ 16; symbols = n / 2 ^ 16 % 2 ^ 16; finals = n % 2 ^ 16 }))
+
+-- the statement: a caller reads back the numbers or the refusal
+abbrev pub RuledByNumber : Type 0
+RuledByNumber =
+    (file : List ℕ) (work rule : ℕ) → ruledRead (ruleNumber (ruledOf (ruleAnswer file work rule))) ≡ ruledOf (ruleAnswer file work rule)
+
+-- the statement: the table by value has the same bytes, and what `table_of` makes of it is the job's rule
+pub record RuleValueSays : Type 0 where
+  pub answer : (a : Answer) → ruleValue a .answer ≡ ruledOf a
+  pub table : (file : List ℕ) (work : ℕ) (j : Job) → ruleAnswer file work ruleSize ≡ accepted j → RuleWritten (j .rule) (ruleValue (accepted j) .table)
+  pub none : (k i : ℕ) → getD (ruleValue (turned k) .table) i 0 ≡ 0
+  pub rule
+      : (file : List ℕ) (work : ℕ) (j : Job) → ruleAnswer file work ruleSize ≡ accepted j
+      → SameRule (j .rule)
+      (automatonOf (tableOf (ruleValue (accepted j) .table)) (j .rule .states) (j .rule .symbols) (j .rule .finals))
