@@ -17,7 +17,7 @@ fn main() {
     println!("cargo:rerun-if-changed={}", archive.display());
     if !archive.is_file() {
         eprintln!(
-            "{} is missing: run `rt staticlib dapohiru` at the top of the repository",
+            "{} is missing: run `tools/built library` at the top of the repository",
             archive.display()
         );
         process::exit(1);

@@ -1,11 +1,34 @@
 // What a day's events cost: the volume file read, and the sum over the watched points.
 ghost use mathlib.Core.Path.{_≡_};
-ghost use Rattle.pricing.specs.Inner.{CostFit, Fit, Summed, costIn};
+ghost use Prim.Native.Nat.{_*_, _≤_};
+ghost use lib.ListN.{length, drop};
+ghost use Rattle.lines.specs.Line.{lineOf};
+ghost use Rattle.pricing.specs.Inner.{CostFit, Fit, Summed, costIn, numberDue};
+use duelines::due_line;
 use framing::refused;
 use lines::field::Field;
 use lines::line::Collected;
 use nodereads::symbol_at;
-use numberedline::numbered_line;
+
+// The number of the V line of node n, if it is there, names its node and is within its limit. This is `numbered_line` for V lines alone: a
+// function with one caller is compiled into its caller's loop.
+fn volume_line(volumes: &[u8], n: usize) -> Field
+    requires { ⌜ n * 14 ≤ length (now volumes) ⌝ }
+    ensures { λ r. ⌜ r ≡ numberDue 999999 n (lineOf 86 2 (drop (n * 14) (now (volumes .entry)))) ⌝ }
+{
+    let mut numbers = [0u64; 2];
+    let status = due_line(volumes, n * 14, 86, 2, &mut numbers);
+    if status != 0 {
+        return Field::Malformed;
+    }
+    if numbers[0] != n as u64 {
+        return Field::Malformed;
+    }
+    if 999999 < numbers[1] {
+        return Field::Malformed;
+    }
+    Field::Number(numbers[1])
+}
 
 // What a day's events at node n cost, in thousandths of a cent: nothing where it is not watched.
 fn cost_at(work: &[u8], plan: &[u8], n: usize, volume: u64, prices: &[u64; 16]) -> u64
@@ -37,7 +60,7 @@ pub fn day_cost(
     let mut sum: u64 = 0;
     let mut n = 0;
     while n < nodes {
-        let Field::Number(volume) = numbered_line(volumes, n * 14, 86, n as u64, 999999) else {
+        let Field::Number(volume) = volume_line(volumes, n) else {
             return refused(16);
         };
         sum = sum + cost_at(work, plan, n, volume, prices);

@@ -1,17 +1,22 @@
 //! Wrong readings of documents 01 and 02 that the second implementation can be given.
 
-/// Declares the slips, with a list for each group of them.
+/// Declares the slips, with a list for each group of them. Names and comments are kept, to be shown.
 #[macro_export]
 macro_rules! slips {
-    ($($(#[$about:meta])* $group:ident { $($(#[$words:meta])* $name:ident,)* })*) => {
+    ($($(#[doc = $about:literal])* $group:ident { $($(#[doc = $words:literal])* $name:ident,)* })*) => {
         /// A wrong reading of document 01 or 02.
         #[derive(Clone, Copy, Debug, PartialEq, Eq)]
         pub enum Slip {
-            $($($(#[$words])* $name,)*)*
+            $($($(#[doc = $words])* $name,)*)*
         }
 
         impl Slip {
-            $($(#[$about])* pub const $group: &[Slip] = &[$(Slip::$name,)*];)*
+            $($(#[doc = $about])* pub const $group: &[Slip] = &[$(Slip::$name,)*];)*
+
+            /// The groups in words, each with the names of its slips and what these take for right.
+            pub const IN_WORDS: &[(&str, &[(&str, &str)])] = &[
+                $((concat!($($about),*), &[$((stringify!($name), concat!($($words),*)),)*]),)*
+            ];
 
             /// The slip that has this name.
             pub fn named(name: &str) -> Option<Slip> {

@@ -10,7 +10,7 @@ pub enum Answer {
 }
 
 crate::slips! {
-    /// Every slip.
+    /// Slips of the event step.
     ALL {
         /// The alarm total goes from 2^64-1 to 0.
         TotalWraps,

@@ -4,10 +4,11 @@ use std::ffi::OsString;
 use std::ops::Range;
 
 pub const USAGE: &str = "\
-usage: dapohiru-selftest SEED N
-       dapohiru-selftest again SEED NUMBER
+usage: dapohiru-selftest SEED N [--slip NAME]
+       dapohiru-selftest again SEED NUMBER [--slip NAME]
        dapohiru-selftest memory SEED N
        dapohiru-selftest soak EVENTS
+       dapohiru-selftest slips | help | --version
 
 SEED N       makes N rounds of random and damaged calls of planning, listing, the plan check, pricing
              and the event step, and walks with two monitors, and compares every answer and every lent
@@ -17,6 +18,12 @@ memory       makes calls on N damaged files and on buffers of all lengths around
              buffer an allocation of its own size, for valgrind to watch (tools/fuzz).
 soak         takes EVENTS events, compares reports and records with a plain step after each batch,
              and gives the events per second.
+slips        lists the wrong readings of the documents that --slip can give the second implementation,
+             by name and in words.
+--slip NAME  gives it one of them, so that a difference must be found.
+help         prints this, as --help and -h do anywhere; --version and -V print the version.
+
+SEED, N, NUMBER and EVENTS are decimal numbers below 2^64; N rounds and EVENTS are at least 1.
 
 Exit status: 0 no difference, 1 a difference, 2 wrong arguments or an output that cannot be written.
 ";
@@ -24,6 +31,8 @@ Exit status: 0 no difference, 1 a difference, 2 wrong arguments or an output tha
 /// What a command line asks for.
 pub enum Asked {
     Help,
+    Version,
+    Slips,
     Rounds(Rounds),
     Memory { seed: u64, files: u64 },
     Soak { events: u64 },
@@ -48,12 +57,22 @@ pub fn read(arguments: impl Iterator<Item = OsString>) -> Result<Asked, String> 
     let mut words = Vec::new();
     for argument in arguments {
         let word = argument.into_string();
-        words.push(word.map_err(|word| format!("{} is no text", word.display()))?);
+        words.push(word.map_err(|word| format!("{word:?} is no text"))?);
+    }
+    if words.iter().any(|word| word == "--help" || word == "-h") {
+        return Ok(Asked::Help);
     }
     let slips = take_slip(&mut words)?;
     let words: Vec<_> = words.iter().map(String::as_str).collect();
     let asked = match words[..] {
-        ["--help" | "-h" | "help"] => Asked::Help,
+        ["memory" | "soak" | "slips" | "help" | "--version" | "-V", ..]
+            if slips.words().is_some() =>
+        {
+            return Err("--slip goes with SEED N and again only".to_string());
+        }
+        ["help"] => Asked::Help,
+        ["--version" | "-V"] => Asked::Version,
+        ["slips"] => Asked::Slips,
         ["again", seed, number] => {
             let number = numeral(number, "NUMBER")?;
             let past = number.checked_add(1).ok_or("NUMBER is too large")?;
@@ -62,9 +81,6 @@ pub fn read(arguments: impl Iterator<Item = OsString>) -> Result<Asked, String> 
                 numbers: number..past,
                 slips,
             })
-        }
-        ["memory", ..] | ["soak", ..] if slips.words().is_some() => {
-            return Err("--slip goes with SEED N and again only".to_string());
         }
         ["memory", seed, files] => Asked::Memory {
             seed: numeral(seed, "SEED")?,
@@ -79,15 +95,25 @@ pub fn read(arguments: impl Iterator<Item = OsString>) -> Result<Asked, String> 
             slips,
         }),
         [] => return Err("SEED and N are missing".to_string()),
-        _ => return Err(format!("'{}' asks for nothing known", words.join(" "))),
+        _ => {
+            let words = words.join(" ").escape_debug().to_string();
+            return Err(format!("'{words}' asks for nothing known"));
+        }
     };
     Ok(asked)
 }
 
 /// A decimal number.
 fn numeral(word: &str, what: &str) -> Result<u64, String> {
-    word.parse()
-        .map_err(|_| format!("{what} is a decimal number, and '{word}' is none"))
+    let digits = !word.is_empty() && word.bytes().all(|byte| byte.is_ascii_digit());
+    let shown = word.escape_debug();
+    match (digits, word.parse()) {
+        (true, Ok(number)) => Ok(number),
+        (true, Err(_)) => Err(format!(
+            "{what} is a number below 2^64, and '{shown}' is none"
+        )),
+        (false, _) => Err(format!("{what} is a decimal number, and '{shown}' is none")),
+    }
 }
 
 /// A decimal number from 1 on: of nothing nothing can be said.
@@ -100,7 +126,7 @@ fn count(word: &str, what: &str) -> Result<u64, String> {
     }
 }
 
-/// Takes `--slip NAME` out of the words. It is for the tests of this program.
+/// Takes `--slip NAME` out of the words.
 fn take_slip(words: &mut Vec<String>) -> Result<Slips, String> {
     let mut slips = Slips::default();
     if let Some(place) = words.iter().position(|word| word == "--slip") {
@@ -111,7 +137,10 @@ fn take_slip(words: &mut Vec<String>) -> Result<Slips, String> {
             step: step::Slip::named(name),
         };
         if slips.words().is_none() {
-            return Err(format!("'{name}' is no slip"));
+            let name = name.escape_debug();
+            return Err(format!(
+                "'{name}' is no slip; `dapohiru-selftest slips` lists them"
+            ));
         }
     }
     Ok(slips)

@@ -7,6 +7,7 @@ mod memory;
 mod progress;
 mod rounds;
 mod run;
+mod slips;
 mod soak;
 mod tally;
 
@@ -15,10 +16,15 @@ use found::Found;
 use std::io::{self, Write};
 use std::process::ExitCode;
 
+/// The program's name and version, as `--version` prints them.
+const VERSION: &str = concat!("dapohiru-selftest ", env!("CARGO_PKG_VERSION"), "\n");
+
 /// Does what is asked, and writes what it found.
 fn answer(asked: &Asked, out: &mut impl Write) -> io::Result<Found> {
     match asked {
         Asked::Help => out.write_all(USAGE.as_bytes()).map(|()| Found::Nothing),
+        Asked::Version => out.write_all(VERSION.as_bytes()).map(|()| Found::Nothing),
+        Asked::Slips => slips::list(out).map(|()| Found::Nothing),
         Asked::Rounds(rounds) => run::run(rounds, out),
         Asked::Memory { seed, files } => memory::run(*seed, *files, out),
         Asked::Soak { events } => soak::run(*events, out),

@@ -70,8 +70,8 @@ fn same_seed_makes_the_same_rounds() {
     assert_ne!(one, without_time(said(&["6", "200"]).1));
 }
 
-#[test]
-fn every_slip_of_the_second_implementation_is_a_difference_that_can_be_seen_again() {
+/// The names of the slips that the rounds can notice.
+fn every_slip() -> Vec<String> {
     let of_walks = [
         slip::Slip::of_check(),
         slip::Slip::of_planning(),
@@ -82,7 +82,12 @@ fn every_slip_of_the_second_implementation_is_a_difference_that_can_be_seen_agai
     let of_walks = of_walks.concat();
     let of_walks = of_walks.iter().map(|slip| format!("{slip:?}"));
     let of_step = step::Slip::ALL.iter().map(|slip| format!("{slip:?}"));
-    for slip in of_walks.chain(of_step) {
+    of_walks.chain(of_step).collect()
+}
+
+#[test]
+fn every_slip_of_the_second_implementation_is_a_difference_that_can_be_seen_again() {
+    for slip in every_slip() {
         let (status, text) = said(&["11", "20000", "--slip", &slip]);
         assert_eq!(status, Some(1), "{slip}: {text}");
         assert!(text.contains("\ndifference in round "), "{text}");
@@ -115,7 +120,7 @@ fn calls_on_exact_allocations_find_no_difference() {
 
 #[test]
 fn wrong_arguments_are_status_2_with_the_usage() {
-    let wrong: [&[&str]; 15] = [
+    let wrong: [&[&str]; 20] = [
         &[],
         &["1"],
         &["1", "x"],
@@ -131,6 +136,11 @@ fn wrong_arguments_are_status_2_with_the_usage() {
         &["memory", "1", "2", "--slip", "AlwaysQuiet"],
         &["soak", "5", "--slip", "AlwaysQuiet"],
         &["--slip", "AlwaysQuiet", "soak", "5"],
+        &["slips", "--slip", "AlwaysQuiet"],
+        &["slips", "1"],
+        &["--version", "1"],
+        &["+1", "5"],
+        &["1", "18446744073709551616"],
     ];
     for arguments in wrong {
         let output = run(arguments);
@@ -150,6 +160,18 @@ fn wrong_arguments_are_status_2_with_the_usage() {
             "EVENTS is a decimal number, and 'x' is none",
         ),
         (
+            &["1", "18446744073709551616"],
+            "N is a number below 2^64, and '18446744073709551616' is none",
+        ),
+        (
+            &["\u{1b}[31m", "1"],
+            "SEED is a decimal number, and '\\u{1b}[31m' is none",
+        ),
+        (
+            &["1", "2", "--slip", "Nothing"],
+            "'Nothing' is no slip; `dapohiru-selftest slips` lists them",
+        ),
+        (
             &["memory", "1", "2", "--slip", "AlwaysQuiet"],
             "--slip goes with SEED N and again only",
         ),
@@ -162,8 +184,68 @@ fn wrong_arguments_are_status_2_with_the_usage() {
         let begins = format!("dapohiru-selftest: {why}\n");
         assert!(text.starts_with(&begins), "{text}");
     }
+}
+
+#[test]
+fn help_tells_of_every_word_and_is_printed_wherever_it_is_asked_for() {
     let text = printed(&["--help"]);
-    assert!(text.starts_with("usage: dapohiru-selftest"));
+    assert!(text.starts_with("usage: dapohiru-selftest SEED N"));
+    for word in [
+        "again",
+        "memory",
+        "soak",
+        "slips",
+        "--slip NAME",
+        "--version",
+    ] {
+        let tells = |line: &str| line.starts_with(word) || line.contains(&format!("{word} "));
+        assert!(text.lines().skip(6).any(tells), "{word}");
+    }
+    let ways: [&[&str]; 4] = [&["-h"], &["help"], &["soak", "--help"], &["1", "-h"]];
+    for arguments in ways {
+        assert_eq!(printed(arguments), text, "{arguments:?}");
+    }
+}
+
+#[test]
+fn version_is_that_of_the_workspace() {
+    let version = format!("dapohiru-selftest {}\n", env!("CARGO_PKG_VERSION"));
+    assert_eq!(printed(&["--version"]), version);
+    assert_eq!(printed(&["-V"]), version);
+    let manifest = include_str!("../../Cargo.toml");
+    let one = format!(
+        "[workspace.package]\nversion = \"{}\"\n",
+        env!("CARGO_PKG_VERSION")
+    );
+    assert!(manifest.contains(&one) && manifest.contains("\nversion.workspace = true\n"));
+}
+
+#[test]
+fn every_slip_is_listed_once_in_words_and_taken_by_its_name() {
+    let text = printed(&["slips"]);
+    let lines = text.lines().filter_map(|line| line.strip_prefix("  "));
+    let listed: Vec<_> = lines.map(|line| line.split_once(": ").unwrap()).collect();
+    for (name, words) in &listed {
+        assert!(words.ends_with('.'), "{name}");
+        let status = said(&["again", "1", "0", "--slip", name]).0;
+        assert!(matches!(status, Some(0 | 1)), "{name}: {status:?}");
+    }
+    let mut names: Vec<_> = listed.iter().map(|(name, _)| *name).collect();
+    names.sort_unstable();
+    names.dedup();
+    assert_eq!(names.len(), listed.len());
+    for slip in every_slip() {
+        assert!(names.contains(&slip.as_str()), "{slip}");
+    }
+}
+
+#[test]
+fn list_of_slips_begins_as_the_service_page_shows() {
+    let page = include_str!("../../../docs/SERVICE.md");
+    let shown = page.split_once("$ ./dapohiru-selftest slips\n").unwrap().1;
+    let shown = shown.split_once("[..]\n").unwrap().0;
+    assert!(shown.lines().count() > 1);
+    assert!(printed(&["slips"]).starts_with(shown), "{shown}");
 }
 
 #[test]

@@ -31,11 +31,8 @@ loop-holds c =
     let x = c .before .before .before .before .args in
     (search needs, sum-start (x .volumes .now) (x .prices .now) (x .work .now) (x .plan .now))
 
-mul-numbered-line : tie.Need-mul-numbered-line Inv-loop μ-loop
-mul-numbered-line c = search needs
-
-numbered-line-requires : tie.Need-numbered-line-requires Inv-loop μ-loop
-numbered-line-requires c κs = omega (arith, c .before .before .if1 .left, c .loop-test .taken)
+volume-line-requires : tie.Need-volume-line-requires Inv-loop μ-loop
+volume-line-requires c κs = omega (arith, c .before .before .if1 .left, c .loop-test .taken)
 
 enum-known-volume : tie.Need-enum-known-volume Inv-loop μ-loop
 enum-known-volume c = search needs
@@ -50,7 +47,7 @@ returns-2 : tie.Need-returns-2 Inv-loop μ-loop
 returns-2 c =
     let x = c .before .before .before .before .before .before .before .before .before .before .args in
     let l = c .before .before .before .before .before .loop in
-    let f = c .before .before .before .numbered-line in
+    let f = c .before .before .before .volume-line in
     sum-stop (x .volumes .now) (x .prices .now) (x .work .now) (x .plan .now) (l .sum) (x .nodes) (l .n) (f .result) (c .refused2 .result)
     (c .refused2 .ensures) (c .before .before .before .before .loop-test .taken) (l .inv .1) (f .ensures) (c .before .enum-told .given .1)
 
@@ -59,7 +56,7 @@ cost-at-requires c κs =
     let start = c .before .before .before .before .before .before .before .before .before .before in
     let x = start .args in
     let l = c .before .before .before .before .before .loop in
-    let f = c .before .before .before .numbered-line in
+    let f = c .before .before .before .volume-line in
     let below = c .before .before .before .before .loop-test .taken in
     let few = volume-few (x .volumes .now) (x .prices .now) (x .work .now) (x .plan .now) (l .n) _ (f .result) (f .ensures) (c .before .volume .given .1) in
     record {
@@ -76,7 +73,7 @@ add-sum c =
     let start = c .before .before .before .before .before .before .before .before .before .before .before in
     let x = start .args in
     let l = c .before .before .before .before .before .before .loop in
-    let f = c .before .before .before .before .numbered-line in
+    let f = c .before .before .before .before .volume-line in
     let more =
     sum-next (x .volumes .now) (x .prices .now) (x .work .now) (x .plan .now) (l .sum) (l .n) _ (f .result) (c .cost-at .result)
     (start .pre .prices-fit) (l .inv .1) (f .ensures) (c .before .before .volume .given .1) (c .cost-at .ensures) in
@@ -93,7 +90,7 @@ loop-again c =
     let start = c .before .before .before .before .before .before .before .before .before .before .before in
     let x = start .args in
     let l = c .before .before .before .before .before .before .loop in
-    let f = c .before .before .before .before .numbered-line in (
+    let f = c .before .before .before .before .volume-line in (
       search needs,
       sum-next (x .volumes .now) (x .prices .now) (x .work .now) (x .plan .now) (l .sum) (l .n) _ (f .result) (c .cost-at .result)
           (start .pre .prices-fit) (l .inv .1) (f .ensures) (c .before .before .volume .given .1) (c .cost-at .ensures),
@@ -116,8 +113,7 @@ day-cost-spec =
     refused-requires
     returns
     loop-holds
-    mul-numbered-line
-    numbered-line-requires
+    volume-line-requires
     enum-known-volume
     enum-told
     refused-requires-2
