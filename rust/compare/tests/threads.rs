@@ -24,15 +24,17 @@ fn answers(files: &Files, work: &mut [u8]) -> (Vec<u64>, Vec<u8>) {
         volumes,
         prices,
     } = files;
-    let (mut plan, mut listing) = (vec![7; 512], vec![7; 32_768]);
+    let (mut plan, mut listing, mut rule) = (vec![7; 512], vec![7; 32_768], [7; 256]);
     let mut numbers = vec![
         (WRAPPER.plan)(file, work, &mut plan),
         (WRAPPER.list)(file, work, &mut listing),
         (WRAPPER.check)(file, &job.plan_of(&[]), work),
         (WRAPPER.price)(file, &job.all_watched(), volumes),
         (WRAPPER.price_by)(file, &job.all_watched(), volumes, prices),
+        (WRAPPER.rule)(file, work, &mut rule),
+        (WRAPPER.rule)(file, work, &mut [7; 255]),
     ];
-    let (rule, mut record) = (job.table(), [0; 16]);
+    let mut record = [0; 16];
     let (states, symbols, finals) = (job.states() as u64, job.symbols, job.final_set());
     for event in 0..200 {
         let symbol = event % (symbols + 1);
@@ -45,7 +47,7 @@ fn answers(files: &Files, work: &mut [u8]) -> (Vec<u64>, Vec<u8>) {
             &mut record,
         ));
     }
-    (numbers, [&plan[..], &listing, &record].concat())
+    (numbers, [&plan[..], &listing, &rule, &record].concat())
 }
 
 #[test]
