@@ -16,7 +16,7 @@ use dapohiru_second::job::members;
 /// is no `Job`. So a batch that begins by [`start`](Job::start) and whose events are all reported by
 /// [`report`](Job::report) and [`other`](Job::other) has the alarms of a monitor that is given every event.
 ///
-/// The two constructors allocate; no other function does, and none panics.
+/// The two constructors and a clone allocate; no other function does, and none panics.
 ///
 /// ```
 /// use dapohiru::{Counts, Job, Point, Record, Report};

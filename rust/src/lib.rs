@@ -13,9 +13,8 @@
 //! [`numbers`] are the C calls as they are; those of [`planfile`] read and write plans as files.
 //!
 //! The calls keep nothing between them and share nothing: any number of threads may be in them, each
-//! with buffers and a record of its own. No function here panics. [`Job::new`], [`Job::with_plan`],
-//! [`planfile::read`] and [`planfile::write`] allocate, and so does what turns an error into text; nothing
-//! else does.
+//! with buffers and a record of its own. No function here panics. [`Job::new`], [`Job::with_plan`], a clone
+//! of a [`Job`], [`planfile::read`] and [`planfile::write`] allocate; nothing else does.
 //!
 //! # One job from plan to alarm
 //! The procedure PAIR seals a batch, seals it again and writes to it; a write to a sealed batch is an
