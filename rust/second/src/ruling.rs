@@ -95,7 +95,7 @@ impl Ruling {
         let refused = match self.slip {
             Some(Slip::LongerRuleAccepted) => len < RULE,
             Some(Slip::ShorterRuleAccepted) => len > RULE,
-            Some(Slip::RuleLengthCutTo8Bits) => len % 256 != 0,
+            Some(Slip::RuleLengthCutTo8Bits) => !len.is_multiple_of(RULE),
             Some(Slip::RuleLengthCutTo16Bits) => len % 65_536 != RULE,
             _ => len != RULE,
         };

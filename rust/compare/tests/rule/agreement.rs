@@ -40,7 +40,7 @@ impl Calls {
 /// A job: a small one, one of any sizes, one with 512 nodes or one with the longest file.
 pub fn job(random: &mut Random, number: usize) -> Job {
     match number % 4 {
-        0 if number % 400 == 0 => mixed::full_job(random, number / 400, 2),
+        0 if number.is_multiple_of(400) => mixed::full_job(random, number / 400, 2),
         0 => mixed::small_job(random),
         1 => {
             // every count of states and of symbols
