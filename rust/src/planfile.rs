@@ -24,23 +24,24 @@ pub struct PlanFileError {
     pub found: u8,
 }
 
+impl PlanFileError {
+    /// What is expected there, in words.
+    pub fn expected(self) -> &'static str {
+        match self.found {
+            b'\n' => "one line of 0 and 1, a digit for each node and nothing after it",
+            _ => "one line of 0 and 1, a digit for each node",
+        }
+    }
+}
+
 impl fmt::Display for PlanFileError {
     fn fmt(&self, f: &mut fmt::Formatter<'_>) -> fmt::Result {
         write!(f, "line 1, column {}: found ", self.column)?;
-        let ending = match self.found {
-            b'\n' => {
-                f.write_str("the end of the line")?;
-                " and nothing after it"
-            }
-            byte => {
-                write!(f, "`{}`", byte.escape_ascii())?;
-                ""
-            }
-        };
-        write!(
-            f,
-            "\n  expected: one line of 0 and 1, a digit for each node{ending}"
-        )
+        match self.found {
+            b'\n' => f.write_str("the end of the line")?,
+            byte => write!(f, "`{}`", byte.escape_ascii())?,
+        }
+        write!(f, "\n  expected: {}", self.expected())
     }
 }
 
