@@ -79,7 +79,7 @@ extern "C" {
 #define DAPOHIRU_NO_ENTRY 10         /* no node is an entry */
 #define DAPOHIRU_BAD_PLAN_LENGTH 11  /* a plan to be checked or priced is not exactly one byte for each node */
 #define DAPOHIRU_BAD_PLAN_BYTE 12    /* a plan byte is above 1, or is 1 at a node that is no event */
-#define DAPOHIRU_BAD_RULE 13         /* the rule of the event step: its length, S, A, a next or a final state; the length of a rule buffer */
+#define DAPOHIRU_BAD_RULE 13         /* the event step's rule: its length, S, A, a next or a final state; a rule buffer's length */
 #define DAPOHIRU_BAD_SYMBOL 14       /* the event's symbol is A or more */
 #define DAPOHIRU_BAD_RECORD 15       /* the record's length is not 16, or its state is S or more */
 #define DAPOHIRU_BAD_VOLUMES 16      /* the volume file is not exactly one V line for each node, in order */

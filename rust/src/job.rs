@@ -13,8 +13,9 @@ use dapohiru_second::job::members;
 /// [`list`](crate::list()). These calls are proved. The entries with their admitted states are read by
 /// `dapohiru_second`, the second implementation, which is tested against the proved calls and not proved:
 /// it reads a file that they have accepted, and where it has another rule, other nodes or other points, there
-/// is no `Job`. So a batch that begins by [`start`](Job::start) and whose events are all reported by
-/// [`report`](Job::report) and [`other`](Job::other) has the alarms of a monitor that is given every event.
+/// is no `Job`. So on every walk of the job a batch that begins by [`start`](Job::start) and whose events are
+/// all reported, by [`report`](Job::report) and [`other`](Job::other), has the alarms of a monitor that is given
+/// every event.
 ///
 /// The two constructors and a clone allocate; no other function does, and none panics.
 ///
