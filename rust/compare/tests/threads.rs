@@ -1,5 +1,5 @@
-//! The calls in many threads at once answer as they do alone.
-
+//! The calls in many threads at once answer as they do alone, and so does a job that they share.
+use dapohiru::{Job as Shared, Record, Report};
 use dapohiru_compare::wrapper::WRAPPER;
 use dapohiru_generators::random::Random;
 use dapohiru_generators::zeros::filled;
@@ -83,4 +83,46 @@ fn many_threads_get_the_answers_that_one_gets() {
             });
         }
     });
+}
+
+/// The reports of a batch that has its events in this order, and its record afterwards.
+fn reports(job: &Shared, events: &[(bool, u64)]) -> (Vec<Report>, Record) {
+    let entry = job.entries()[0];
+    let state = entry.states().next().expect("an entry admits a state");
+    let mut record = job.start(entry.node, state).expect("it is admitted");
+    let points: Vec<_> = job.points().collect();
+    let mut report = |&(at_point, number): &(bool, u64)| {
+        let point = points.get(number as usize % points.len().max(1));
+        match point {
+            Some(point) if at_point => job.report(point.node, &mut record).expect("it is taken"),
+            _ => {
+                let symbol = number % job.rule().symbols;
+                job.other(symbol, &mut record).expect("it is taken")
+            }
+        }
+    };
+    let reports = events.iter().map(&mut report).collect();
+    (reports, record)
+}
+
+#[test]
+fn one_job_serves_many_threads_each_with_its_own_records() {
+    let mut random = Random::fixed(27);
+    for number in 0..40 {
+        let job = Shared::new(&small::job(&mut random).file()).expect("the file is a job");
+        let batches: Vec<Vec<_>> = (0..8)
+            .map(|_| {
+                (0..500)
+                    .map(|_| (random.once_in(2), random.number()))
+                    .collect()
+            })
+            .collect();
+        let alone: Vec<_> = batches.iter().map(|batch| reports(&job, batch)).collect();
+        thread::scope(|scope| {
+            for (batch, alone) in batches.iter().zip(&alone) {
+                let job = &job;
+                scope.spawn(move || assert_eq!(&reports(job, batch), alone, "job {number}"));
+            }
+        });
+    }
 }
