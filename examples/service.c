@@ -1,6 +1,7 @@
 /*
- * A service in C: plans a job, prices the plan, by a price file if it is given one, then takes the events of one walk
- * on two records, one with all points watched and one under the plan.
+ * A service in C: plans a job, prices the plan, by a price file if it is given one, takes the job's rule and the symbols
+ * of its points, then takes the events of one walk on two records, one with all points watched and one under the plan.
+ * Nothing of the job is written here, but the walk's nodes: those of PAIR.
  *
  *     cc -std=c99 -Iinclude examples/service.c target/staticlib/libdapohiru.a -o service
  *     ./service examples/pair.job examples/pair.volumes
@@ -12,16 +13,44 @@
 #include <stdio.h>
 #include <string.h>
 
-/* PAIR's rule: seal, reopen and write are 0, 1 and 2; state 2 is final. */
-static const uint8_t rule[DAPOHIRU_RULE_LEN] = {
-    [0] = 1,  [1] = 0,  [2] = 0,  /* open */
-    [16] = 1, [17] = 0, [18] = 2, /* sealed */
-    [32] = 1, [33] = 0, [34] = 2, /* written to while sealed */
-};
+/* The rule of the job, with the answer that has its numbers. */
+static uint8_t rule[DAPOHIRU_RULE_LEN];
+static uint64_t numbers;
+
+/* The W and T lines of the job. */
+static uint8_t listing[DAPOHIRU_LISTING_LEN];
+static size_t listing_len;
 
 static uint64_t take(uint64_t symbol, uint8_t *rec)
 {
-    return dapohiru_event(rule, sizeof rule, 3, 3, 1u << 2, symbol, rec, DAPOHIRU_RECORD_LEN);
+    return dapohiru_event(rule, sizeof rule, DAPOHIRU_STATES(numbers), DAPOHIRU_SYMBOLS(numbers), DAPOHIRU_FINALS(numbers),
+                          symbol, rec, DAPOHIRU_RECORD_LEN);
+}
+
+/* The number in a field of six columns. */
+static uint64_t field(const uint8_t *columns)
+{
+    uint64_t number = 0;
+    int k;
+    for (k = 0; k < 6; k++)
+        if (columns[k] != ' ')
+            number = 10 * number + (uint64_t)(columns[k] - '0');
+    return number;
+}
+
+/* The symbol of a point, from its W line: node and symbol are its first fields. Whether the node is a point. */
+static int symbol_of(size_t node, uint64_t *symbol)
+{
+    size_t at = 0;
+    while (at < listing_len && listing[at] == 'W') {
+        if (field(listing + at + 1) == node) {
+            *symbol = field(listing + at + 7);
+            return 1;
+        }
+        while (at < listing_len && listing[at++] != '\n')
+            ;
+    }
+    return 0;
 }
 
 /* The alarm total of a record. */
@@ -64,7 +93,8 @@ int main(int argc, char **argv)
     /* one byte more than the longest file, so that a longer one is refused and not cut */
     static uint8_t job[DAPOHIRU_JOB_LEN + 1], volumes[DAPOHIRU_VOLUMES_LEN + 1], prices[DAPOHIRU_PRICES_LEN + 1];
     static uint8_t work[DAPOHIRU_WORK_LEN], plan[DAPOHIRU_PLAN_LEN];
-    static const struct { size_t node; uint64_t symbol; } walk[] = {{0, 0}, {1, 0}, {2, 2}};
+    static const size_t walk[] = {0, 1, 2};
+    /* PAIR's entry admits state 0 */
     uint8_t full[DAPOHIRU_RECORD_LEN] = {0}, planned[DAPOHIRU_RECORD_LEN] = {0};
     uint64_t answer;
     size_t job_len, volumes_len, prices_len = 0, nodes, k;
@@ -94,13 +124,26 @@ int main(int argc, char **argv)
     if (is_refused(answer))
         return 2;
     printf("%" PRIu64 " cents a day\n", DAPOHIRU_CENTS(answer));
+    numbers = dapohiru_rule(job, job_len, work, sizeof work, rule, sizeof rule);
+    answer = dapohiru_list(job, job_len, work, sizeof work, listing, sizeof listing);
+    if (is_refused(numbers) || is_refused(answer))
+        return 2;
+    listing_len = (size_t)DAPOHIRU_LENGTH(answer);
     for (k = 0; k < sizeof walk / sizeof *walk; k++) {
-        uint64_t report = take(walk[k].symbol, full), under_plan = DAPOHIRU_QUIET;
-        if (plan[walk[k].node] == 1)
-            under_plan = take(walk[k].symbol, planned);
-        printf("node %zu, symbol %" PRIu64 ": full %s, under the plan %s%s\n", walk[k].node, walk[k].symbol,
+        uint64_t symbol, report, under_plan = DAPOHIRU_QUIET;
+        const size_t node = walk[k];
+        if (!symbol_of(node, &symbol)) {
+            fprintf(stderr, "service: node %zu of the walk is no point of %s\n", node, argv[1]);
+            return 2;
+        }
+        report = take(symbol, full);
+        if (plan[node] == 1)
+            under_plan = take(symbol, planned);
+        if (is_refused(report) || is_refused(under_plan))
+            return 2;
+        printf("node %zu, symbol %" PRIu64 ": full %s, under the plan %s%s\n", node, symbol,
                report == DAPOHIRU_ALARM ? "alarm" : "quiet", under_plan == DAPOHIRU_ALARM ? "alarm" : "quiet",
-               plan[walk[k].node] == 1 ? "" : " (not told)");
+               plan[node] == 1 ? "" : " (not told)");
     }
     printf("alarm totals %" PRIu64 " and %" PRIu64 "\n", alarms(full), alarms(planned));
     return 0;

@@ -1,6 +1,7 @@
 /*
- * Planning, listing, the plan check, the journal price of a plan by the house table and by a price file, and the
- * event step of the monitor: the six calls of the static library libdapohiru.a, for C (from C99 on) and C++.
+ * Planning, listing, the plan check, the journal price of a plan by the house table and by a price file, the rule of a
+ * job, and the event step of the monitor: the seven calls of the static library libdapohiru.a, for C (from C99 on) and
+ * C++.
  *
  * Each call gets byte buffers, each as a pointer and a length, and returns one 64-bit number. A number
  * from 1 to 16, or 28, is a refusal. Every other answer has DAPOHIRU_ACCEPTED added.
@@ -56,6 +57,11 @@ extern "C" {
 /* The price in the answer of accepted pricing. */
 #define DAPOHIRU_CENTS(answer) ((answer) - DAPOHIRU_ACCEPTED)
 
+/* The numbers in the answer of dapohiru_rule, when it is accepted: the states, symbols and finals of dapohiru_event. */
+#define DAPOHIRU_STATES(answer) ((answer) >> 32 & 0xffff)
+#define DAPOHIRU_SYMBOLS(answer) ((answer) >> 16 & 0xffff)
+#define DAPOHIRU_FINALS(answer) ((answer) & 0xffff)
+
 /*
  * Refusals. The lowest that applies is returned; the lines of a file are tested in turn, 3 to 8 on each.
  * A field is a number in six columns: spaces or none, then digits, of which the first may be zeros.
@@ -73,7 +79,7 @@ extern "C" {
 #define DAPOHIRU_NO_ENTRY 10         /* no node is an entry */
 #define DAPOHIRU_BAD_PLAN_LENGTH 11  /* a plan to be checked or priced is not exactly one byte for each node */
 #define DAPOHIRU_BAD_PLAN_BYTE 12    /* a plan byte is above 1, or is 1 at a node that is no event */
-#define DAPOHIRU_BAD_RULE 13         /* the rule of the event step: its length, S, A, a next or a final state */
+#define DAPOHIRU_BAD_RULE 13         /* the event step's rule: its length, S, A, a next or a final state; a rule buffer's length */
 #define DAPOHIRU_BAD_SYMBOL 14       /* the event's symbol is A or more */
 #define DAPOHIRU_BAD_RECORD 15       /* the record's length is not 16, or its state is S or more */
 #define DAPOHIRU_BAD_VOLUMES 16      /* the volume file is not exactly one V line for each node, in order */
@@ -118,10 +124,29 @@ uint64_t dapohiru_price(const uint8_t *job, size_t job_len, const uint8_t *plan,
 uint64_t dapohiru_price_by(const uint8_t *job, size_t job_len, const uint8_t *plan, size_t plan_len, const uint8_t *volumes, size_t volumes_len, const uint8_t *prices, size_t prices_len);
 
 /*
+ * Takes the rule of the job, for dapohiru_event: writes all DAPOHIRU_RULE_LEN bytes of rule, the next state of state q
+ * on symbol a at 16 * q + a, and 0 past the job's states and symbols. Returns DAPOHIRU_ACCEPTED plus states times 2^32,
+ * symbols times 2^16, and the set of final states. Refusals 1 to 10, and then 13 where rule_len is not
+ * DAPOHIRU_RULE_LEN, leave rule as it was.
+ */
+uint64_t dapohiru_rule(const uint8_t *job, size_t job_len, uint8_t *work, size_t work_len, uint8_t *rule, size_t rule_len);
+
+/*
  * Takes one event: moves the record to the next state, and raises its alarm total by one at an alarm; the total
  * stays at 2^64-1 once there. The next state of state q on symbol a is rule[16 * q + a]; bytes past S rows and A
  * columns have no meaning. finals has bit q for a final state q. Returns DAPOHIRU_QUIET or DAPOHIRU_ALARM. Refusals 13
  * to 15 leave the record as it was.
+ *
+ * Where each argument comes from, so that the events are those of the job that was planned:
+ *   rule     the bytes that dapohiru_rule writes for the job file
+ *   states   DAPOHIRU_STATES of its answer: answer >> 32 & 0xffff
+ *   symbols  DAPOHIRU_SYMBOLS of its answer: answer >> 16 & 0xffff
+ *   finals   DAPOHIRU_FINALS of its answer: answer & 0xffff
+ *   symbol   for a point the second field of its W line (dapohiru_list); for an event of a call word or an after word
+ *            the symbol that is reported
+ *   rec      DAPOHIRU_RECORD_LEN bytes: at first a state of the entry set (the fourth field of a P line) of the node
+ *            where the procedure is entered, and any alarm total, 0 for a new one; then what the call before left
+ * A rule and numbers of dapohiru_rule are never refused as 13.
  */
 uint64_t dapohiru_event(const uint8_t *rule, size_t rule_len, uint64_t states, uint64_t symbols, uint64_t finals, uint64_t symbol, uint8_t *rec, size_t rec_len);
 

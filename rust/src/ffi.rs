@@ -63,4 +63,14 @@ extern "C" {
         prices: *const u8,
         prices_len: usize,
     ) -> u64;
+
+    /// `#[no_mangle] pub extern "C" fn dapohiru_rule(job: &[u8], work: &mut [u8], rule: &mut [u8]) -> u64`
+    pub fn dapohiru_rule(
+        job: *const u8,
+        job_len: usize,
+        work: *mut u8,
+        work_len: usize,
+        rule: *mut u8,
+        rule_len: usize,
+    ) -> u64;
 }

@@ -1,26 +1,30 @@
-//! Planning, listing, the plan check, the journal price of a plan and the event step of the monitor, for
-//! Rust: safe forms of the C calls in the proved static library.
+//! Planning, listing, the plan check, the journal price of a plan, the rule of a job and the event step of
+//! the monitor, for Rust: safe forms of the C calls in the proved static library.
 //!
-//! A job file holds a rule over events and the flow graph of a procedure. [`plan`] says which points of
-//! the graph must stay watched, [`list`] what was found at each, [`check`] whether somebody else's plan
-//! is faithful, [`price`] what the journal lines of a plan's watched points cost a day, [`price_by`] what
-//! they cost by an association's own prices, and [`event`] (or [`Rule::event`]) takes one event on the
-//! record of a running monitor.
+//! A job file holds a rule over events and the flow graph of a procedure. [`Job`] is what a service makes of
+//! it: the plan, the rule, the points and the entries, with functions that take the procedure's events.
+//!
+//! Below it are the proved calls. [`plan`] says which points of the graph must stay watched, [`list`] what
+//! was found at each, [`check`] whether somebody else's plan is faithful, [`price()`] what the journal lines of
+//! a plan's watched points cost a day, [`price_by`] what they cost by an association's own prices; [`rule()`]
+//! takes the rule out of the file, and [`event`] (or [`Rule::event`]) takes one event on the record of a
+//! running monitor.
 //! A refusal carries its number, 1 to 16 or 28, as documents 01 and 02 list it. The functions of
-//! [`numbers`] are the C calls as they are.
+//! [`numbers`] are the C calls as they are; those of [`planfile`] read and write plans as files.
 //!
 //! The calls keep nothing between them and share nothing: any number of threads may be in them, each
-//! with buffers and a record of its own. No function here panics or allocates.
+//! with buffers and a record of its own. No function here panics. [`Job::new`], [`Job::with_plan`], a clone
+//! of a [`Job`], [`planfile::read`] and [`planfile::write`] allocate; nothing else does.
 //!
 //! # One job from plan to alarm
 //! The procedure PAIR seals a batch, seals it again and writes to it; a write to a sealed batch is an
 //! alarm. Either seal may go unwatched, not both.
 //!
 //! ```
-//! use dapohiru::{check, plan, Counts, Record, Report, Rule, Verdict, PLAN_LEN, WORK_LEN};
+//! use dapohiru::{check, plan, rule, Counts, Job, Record, Report, Verdict, PLAN_LEN, WORK_LEN};
 //!
-//! # fn main() -> Result<(), dapohiru::Refusal> {
-//! let job = b"\
+//! # fn main() -> Result<(), Box<dyn std::error::Error>> {
+//! let file = b"\
 //! J     3     3     3     2
 //! R     0     0     1     0     0
 //! R     1     0     1     0     2
@@ -31,25 +35,30 @@
 //! F     0     1
 //! F     1     2
 //! ";
-//! let mut work = vec![0; WORK_LEN];
 //!
-//! // The plan: one byte for each node, here 0 to 2.
+//! // A service: the walk seal, seal, write of a batch that comes in at node 0 in state 0.
+//! let job = Job::new(file)?;
+//! let mut record = job.start(0, 0)?;
+//! let mut reports = Vec::new();
+//! for node in [0, 1, 2] {
+//!     reports.push(job.report(node, &mut record)?);
+//! }
+//! assert_eq!(reports, [Report::Quiet, Report::Quiet, Report::Alarm]);
+//!
+//! // The calls by themselves. The plan: one byte for each node, here 0 to 2.
+//! let mut work = vec![0; WORK_LEN];
 //! let mut bytes = [0; PLAN_LEN];
-//! let counts = plan(job, &mut work, &mut bytes)?;
+//! let counts = plan(file, &mut work, &mut bytes)?;
 //! assert_eq!(counts, Counts { points: 3, watched: 2, passes: 2 });
 //! let plan = &bytes[..3];
 //! assert_eq!(plan, [0, 1, 1]);
 //!
 //! // Plans of one's own: without the second seal, and without both.
-//! assert_eq!(check(job, &[1, 0, 1], &mut work)?, Verdict::Faithful);
-//! assert_eq!(check(job, &[0, 0, 1], &mut work)?, Verdict::Different);
+//! assert_eq!(check(file, &[1, 0, 1], &mut work)?, Verdict::Faithful);
+//! assert_eq!(check(file, &[0, 0, 1], &mut work)?, Verdict::Different);
 //!
-//! // Two monitors on the walk seal, seal, write: one has all points watched, one is under the plan.
-//! let mut table = [0; 256];
-//! table[..3].copy_from_slice(&[1, 0, 0]);
-//! table[16..19].copy_from_slice(&[1, 0, 2]);
-//! table[32..35].copy_from_slice(&[1, 0, 2]);
-//! let rule = Rule { table, states: 3, symbols: 3, finals: 0b100 };
+//! // Two monitors on that walk: one has all points watched, one is under the plan.
+//! let rule = rule(file, &mut work)?;
 //! let (mut full, mut planned) = (Record::default(), Record::default());
 //! for (node, symbol) in [(0, 0), (1, 0), (2, 2)] {
 //!     let report = rule.event(symbol, &mut full)?;
@@ -88,12 +97,20 @@
 //! assert!(batches.iter().all(|record| record.alarms == 1_000));
 //! ```
 mod answer;
+mod error;
 mod ffi;
+mod job;
 pub mod numbers;
+pub mod planfile;
+mod price;
+mod readers;
 mod record;
 
 pub use answer::{Counts, Refusal, Report, Verdict};
-pub use record::{Record, Rule};
+pub use error::{JobError, NoPoint, NotAdmitted, ReportError};
+pub use job::{Entry, Job, Point};
+pub use price::{price, price_by};
+pub use record::{rule, Record, Rule};
 
 /// The Rust code of docs/SERVICE.md, to be compiled with the examples.
 #[cfg(doctest)]
@@ -224,97 +241,6 @@ pub fn check(job: &[u8], plan: &[u8], work: &mut [u8]) -> Result<Verdict, Refusa
         numbers::DIFFERENT => Ok(Verdict::Different),
         number => Err(Refusal(number)),
     }
-}
-
-/// Prices a plan: what the journal lines of its watched points cost a day, in cents.
-///
-/// `plan` is one byte for each node, 1 at a watched point and 0 at all else. `volumes` is a volume file:
-/// a V line for each node in order, with the node and its events a day, 0 to 999,999, in fields as those
-/// of a job file. A thousand events of symbol s cost 20 + 5 s cents; a part of a cent in the sum over the
-/// watched points counts as a cent.
-///
-/// Refused are 1, 3 to 12, and 16, which comes last. No work buffer is lent, so that there is no 2: the
-/// call takes less than 73,728 bytes of the stack.
-///
-/// ```
-/// use dapohiru::{price, Refusal};
-///
-/// // PAIR: two points of symbol 0, at 20 cents, and one of symbol 2, at 30
-/// let job = b"\
-/// J     3     3     3     2
-/// R     0     0     1     0     0
-/// R     1     0     1     0     2
-/// R     2     1     1     0     2
-/// P     0     1     0     1     0     0
-/// P     1     1     0     0     0     0
-/// P     2     1     2     0     1     0
-/// F     0     1
-/// F     1     2
-/// ";
-/// let volumes = b"\
-/// V     0  1000
-/// V     1  1000
-/// V     2  1000
-/// ";
-/// assert_eq!(price(job, &[0, 1, 1], volumes), Ok(50));
-/// assert_eq!(price(job, &[1, 1, 1], volumes), Ok(70));
-///
-/// // the last line is missing
-/// assert_eq!(price(job, &[1, 1, 1], &volumes[..28]), Err(Refusal(16)));
-/// ```
-#[inline]
-pub fn price(job: &[u8], plan: &[u8], volumes: &[u8]) -> Result<u64, Refusal> {
-    cents(numbers::price(job, plan, volumes))
-}
-
-/// Prices a plan by a price file: as [`price`], with an association's own prices.
-///
-/// `prices` is a price file: a B line for each symbol from 0 to 15 in order, however many the job has,
-/// with the symbol and what a thousand events of it cost, 0 to 9,999 cents, in fields as those of a job
-/// file. With 20 + 5 s cents at symbol s the answer is that of [`price`].
-///
-/// Refused are those of [`price`], and after them 28. The call takes less than 73,728 bytes of the stack.
-///
-/// ```
-/// use dapohiru::{price_by, Refusal, PRICES_LEN};
-///
-/// // PAIR: two points of symbol 0 and one of symbol 2
-/// let job = b"\
-/// J     3     3     3     2
-/// R     0     0     1     0     0
-/// R     1     0     1     0     2
-/// R     2     1     1     0     2
-/// P     0     1     0     1     0     0
-/// P     1     1     0     0     0     0
-/// P     2     1     2     0     1     0
-/// F     0     1
-/// F     1     2
-/// ";
-/// let volumes = b"\
-/// V     0  1000
-/// V     1  1000
-/// V     2  1000
-/// ";
-/// // symbol 0 costs 12 cents, symbol 2 costs 150, all others are free
-/// let price = |symbol| [12, 0, 150].get(symbol).copied().unwrap_or(0);
-/// let lines = (0..16).map(|symbol| format!("B{symbol:6}{:6}\n", price(symbol)));
-/// let prices = lines.collect::<String>().into_bytes();
-/// assert_eq!(prices.len(), PRICES_LEN);
-/// assert_eq!(price_by(job, &[0, 1, 1], volumes, &prices), Ok(162));
-/// assert_eq!(price_by(job, &[1, 1, 1], volumes, &prices), Ok(174));
-///
-/// // the last line is missing
-/// assert_eq!(price_by(job, &[1, 1, 1], volumes, &prices[..210]), Err(Refusal(28)));
-/// ```
-#[inline]
-pub fn price_by(job: &[u8], plan: &[u8], volumes: &[u8], prices: &[u8]) -> Result<u64, Refusal> {
-    cents(numbers::price_by(job, plan, volumes, prices))
-}
-
-/// The answer of pricing that has this number.
-#[inline]
-fn cents(number: u64) -> Result<u64, Refusal> {
-    number.checked_sub(numbers::ACCEPTED).ok_or(Refusal(number))
 }
 
 /// Takes one event: moves the record to the next state, and raises its alarm total at an alarm.

@@ -2,7 +2,8 @@
 //!
 //! A refusal is its number, 1 to 16 or 28. Every other answer has 2^48 added: planning returns event
 //! nodes times 2^32, watched points times 2^16 and passes, listing the length of its lines, the check 0
-//! for faithful and 1 for different, pricing the cents, the event step 0 for quiet and 1 for alarm.
+//! for faithful and 1 for different, pricing the cents, the event step 0 for quiet and 1 for alarm, and
+//! the call for a job's rule the states times 2^32, the symbols times 2^16 and the set of final states.
 //!
 //! ```
 //! use dapohiru::numbers::{event, ALARM};
@@ -100,6 +101,42 @@ pub fn price_by(job: &[u8], plan: &[u8], volumes: &[u8], prices: &[u8]) -> u64 {
             volumes.len(),
             prices.as_ptr(),
             prices.len(),
+        )
+    }
+}
+
+/// The number of [`crate::rule`]; the table is written to `rule`, which is exactly 256 bytes, or else the
+/// call is refused as 13, after 1 to 10. A refusal leaves `rule` as it was.
+///
+/// ```
+/// use dapohiru::numbers::{rule, ACCEPTED};
+///
+/// // two states, the second of them final, and one symbol, which leads to the other state
+/// let job = b"\
+/// J     2     1     1     0
+/// R     0     0     1
+/// R     1     1     0
+/// P     0     1     0     1     0     0
+/// ";
+/// let (mut work, mut table) = (vec![0; 65_536], [7; 256]);
+/// assert_eq!(rule(job, &mut work, &mut table[1..]), 13);
+/// assert_eq!(table, [7; 256]);
+/// assert_eq!(rule(job, &mut work, &mut table), ACCEPTED + (2 << 32) + (1 << 16) + 0b10);
+/// assert_eq!((table[0], table[16]), (1, 0));
+/// assert_eq!(table.iter().sum::<u8>(), 1);
+/// ```
+#[inline]
+pub fn rule(job: &[u8], work: &mut [u8], rule: &mut [u8]) -> u64 {
+    // SAFETY: each pointer and length are of one slice, `job` is only read, and nothing else holds
+    // `work` and `rule` during the call.
+    unsafe {
+        ffi::dapohiru_rule(
+            job.as_ptr(),
+            job.len(),
+            work.as_mut_ptr(),
+            work.len(),
+            rule.as_mut_ptr(),
+            rule.len(),
         )
     }
 }

@@ -7,7 +7,7 @@ use std::process::Command;
 /// The program that calls every function.
 const CALLS: &str = "rust/tests/c/calls.c";
 /// What it prints.
-const ALL_HOLD: &str = "500 tests, 0 failed\n";
+const ALL_HOLD: &str = "685 tests, 0 failed\n";
 /// The service of the examples.
 const SERVICE: &str = "examples/service.c";
 /// What the C compiler is told.
@@ -33,6 +33,24 @@ fn library() -> PathBuf {
     folder.join("libdapohiru.a")
 }
 
+/// Builds a C program with this compiler; nothing without the compiler.
+fn built(program: &Path, source: &str, compiler: &str, options: &[&str]) -> Option<()> {
+    let built = Command::new(compiler)
+        .args(options)
+        .args(["-Wall", "-Wextra", "-Werror", "-I"])
+        .arg(top("include"))
+        .arg(top(source))
+        .args(["-x", "none"])
+        .arg(library())
+        .arg("-o")
+        .arg(program)
+        .output()
+        .ok()?;
+    let errors = String::from_utf8_lossy(&built.stderr);
+    assert!(built.status.success(), "{compiler}: {errors}");
+    Some(())
+}
+
 /// Builds a C program of this name with this compiler and runs it; says what it prints, or nothing without
 /// the compiler.
 fn run(
@@ -43,19 +61,7 @@ fn run(
     arguments: &[PathBuf],
 ) -> Option<String> {
     let program = Path::new(env!("CARGO_TARGET_TMPDIR")).join(name);
-    let built = Command::new(compiler)
-        .args(options)
-        .args(["-Wall", "-Wextra", "-Werror", "-I"])
-        .arg(top("include"))
-        .arg(top(source))
-        .args(["-x", "none"])
-        .arg(library())
-        .arg("-o")
-        .arg(&program)
-        .output()
-        .ok()?;
-    let errors = String::from_utf8_lossy(&built.stderr);
-    assert!(built.status.success(), "{compiler}: {errors}");
+    built(&program, source, compiler, options)?;
     let ran = Command::new(&program)
         .args(arguments)
         .output()
@@ -104,6 +110,50 @@ fn service_of_the_examples_prices_by_a_price_file_that_is_given() {
     let files = [job, volumes, prices];
     let said = run("service-own-prices", SERVICE, "cc", C99, &files).expect("cc is installed");
     assert!(said.contains(&wanted), "{said}");
+}
+
+#[test]
+fn service_of_the_examples_takes_the_rule_of_the_job_that_it_is_given() {
+    // the same walk of other jobs: one without a final state, one with another symbol, one with a node that is no point
+    let pair = fs::read_to_string(top("examples/pair.job")).expect("the job is there");
+    let volumes = top("examples/pair.volumes");
+    let folder = Path::new(env!("CARGO_TARGET_TMPDIR"));
+    let service = |name: &str, job: String| {
+        let path = folder.join(format!("{name}.job"));
+        fs::write(&path, job).expect("the job is written");
+        let program = folder.join(format!("service-{name}"));
+        built(&program, SERVICE, "cc", C99).expect("cc is installed");
+        let ran = Command::new(&program).arg(path).arg(&volumes).output();
+        ran.expect("the program runs")
+    };
+    for (name, from, to, wanted) in [
+        (
+            "no-final",
+            "R     2     1",
+            "R     2     0",
+            "symbol 2: full quiet",
+        ),
+        (
+            "reopen",
+            "P     2     1     2",
+            "P     2     1     1",
+            "symbol 1: full quiet",
+        ),
+    ] {
+        let ran = service(name, pair.replace(from, to));
+        let said = String::from_utf8_lossy(&ran.stdout).into_owned();
+        assert!(ran.status.success(), "{said}");
+        let wanted = format!("\nnode 2, {wanted}, under the plan quiet (not told)\n");
+        assert!(said.contains(&wanted), "{said}");
+        assert!(said.ends_with("\nalarm totals 0 and 0\n"), "{said}");
+    }
+    let ran = service("no-point", pair.replace("P     1     1", "P     1     0"));
+    assert_eq!(ran.status.code(), Some(2));
+    let said = String::from_utf8_lossy(&ran.stderr).into_owned();
+    assert!(
+        said.contains("service: node 1 of the walk is no point of "),
+        "{said}"
+    );
 }
 
 /// A call as a source declares it: its name, and its arguments with their C types.
@@ -167,7 +217,7 @@ fn header_and_wrapper_declare_the_same_calls() {
     wrapper.sort();
     header.sort();
     assert_eq!(header, wrapper);
-    assert_eq!(header.len(), 6);
+    assert_eq!(header.len(), 7);
 }
 
 #[test]
@@ -201,7 +251,7 @@ fn wrapper_names_the_signatures_of_the_rattle_source() {
         let of_call = declared.into_iter().find(|call| call.0 == name);
         assert_eq!(of_call.expect("it is declared").1, flat, "{name}");
     }
-    assert_eq!(signatures.len(), 6);
+    assert_eq!(signatures.len(), 7);
 }
 
 /// A Rattle argument as C has it.
@@ -252,6 +302,12 @@ fn lengths_and_answers_of_the_header_are_those_of_the_wrapper() {
     ] {
         assert_eq!(number, dapohiru::numbers::ACCEPTED + 1);
         is_defined(name, "(DAPOHIRU_ACCEPTED + 1)");
+    }
+    for (name, shift) in [("STATES", " >> 32"), ("SYMBOLS", " >> 16"), ("FINALS", "")] {
+        let definition = format!("#define DAPOHIRU_{name}(answer) ((answer){shift} & 0xffff) ");
+        assert!(header.contains(&definition), "{definition}");
+        let from = format!("DAPOHIRU_{name} of its answer: answer{shift} & 0xffff");
+        assert!(header.contains(&from), "{from}");
     }
     let refusals: Vec<_> = between(&header, "#define DAPOHIRU_", " /*")
         .filter_map(|definition| definition.split_once(' '))

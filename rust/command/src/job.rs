@@ -65,9 +65,7 @@ pub fn rule(job: &Job) -> Rule {
 
 /// A plan as a line of digits.
 pub fn line(plan: &[u8]) -> String {
-    let mut line: String = plan.iter().map(|byte| char::from(b'0' + byte)).collect();
-    line.push('\n');
-    line
+    dapohiru::planfile::write(plan)
 }
 
 /// A set in braces, by its members.

@@ -9,6 +9,7 @@ pub mod on_file;
 pub mod pricing;
 pub mod promise;
 pub mod records;
+pub mod ruling;
 pub mod serving;
 pub mod step;
 pub mod wrapper;

@@ -10,7 +10,7 @@ pub type Event = fn(&[u8], u64, u64, u64, u64, &mut [u8]) -> u64;
 /// Pricing by a price file: job, plan, volume file, price file.
 pub type PriceBy = fn(&[u8], &[u8], &[u8], &[u8]) -> u64;
 
-/// The six calls. Each returns the number of its answer.
+/// The seven calls. Each returns the number of its answer.
 #[derive(Clone, Copy)]
 pub struct Library {
     /// Job, work buffer, plan buffer.
@@ -22,6 +22,8 @@ pub struct Library {
     /// Job, plan, volume file.
     pub price: fn(&[u8], &[u8], &[u8]) -> u64,
     pub price_by: PriceBy,
+    /// Job, work buffer, rule buffer.
+    pub rule: fn(&[u8], &mut [u8], &mut [u8]) -> u64,
     pub event: Event,
 }
 
@@ -42,6 +44,7 @@ pub const CALLS: Library = Library {
     check: numbers::check,
     price: numbers::price,
     price_by: numbers::price_by,
+    rule: numbers::rule,
     event: numbers::event,
 };
 
@@ -71,6 +74,11 @@ pub const GUARDED: Library = Library {
         let read = [job, plan, volumes, prices];
         lend(read, [], |[job, plan, volumes, prices], []| {
             numbers::price_by(job, plan, volumes, prices)
+        })
+    },
+    rule: |job, work, rule| {
+        lend([job], [work, rule], |[job], [work, rule]| {
+            numbers::rule(job, work, rule)
         })
     },
     event: |rule, states, symbols, finals, symbol, record| {

@@ -24,8 +24,13 @@ pub struct Lent {
 impl Lent {
     /// Buffers of at most this length, filled with random bytes that are at least `lowest`.
     pub fn new(random: &mut Random, most: usize, lowest: u8) -> Self {
+        Lent::new_between(random, most, lowest, 255)
+    }
+
+    /// Buffers of at most this length, filled with random bytes from `lowest` to `highest`.
+    pub fn new_between(random: &mut Random, most: usize, lowest: u8, highest: u8) -> Self {
         let fill = (0..most + 2 * MARGIN + 256)
-            .map(|_| random.between(lowest.into(), 255) as u8)
+            .map(|_| random.between(lowest.into(), highest.into()) as u8)
             .collect();
         Lent {
             fill,

@@ -1,9 +1,12 @@
 //! The third promise on real walks: two records, one under a plan (document 01, "Two monitors on one
-//! walk").
+//! walk"). Their events are taken by the rule that the library takes from the job's file.
 use crate::library::Library;
 use crate::records::{Records, Tally};
+use crate::ruling::taken;
+use dapohiru::Rule;
 use dapohiru_generators::random::Random;
 use dapohiru_generators::walker::Walker;
+use dapohiru_generators::zeros::filled;
 use dapohiru_second::job::Job;
 use dapohiru_second::search::{difference, Difference};
 use dapohiru_second::walk::{Place, Walks};
@@ -31,6 +34,11 @@ pub struct Walked {
     pub differs: bool,
 }
 
+/// The rule that the library takes from a job's file, which has any zeros.
+pub fn rule_of(library: Library, random: &mut Random, job: &Job) -> Result<Rule, String> {
+    taken(library, &filled(random, job.file()))
+}
+
 /// Takes one random walk of at most so many events, with refused calls between, and ends at the first
 /// difference of the reports; says in words what else is wrong.
 pub fn walk(
@@ -40,9 +48,10 @@ pub fn walk(
     plan: &[u8],
     most: u64,
 ) -> Result<Walked, String> {
+    let rule = rule_of(library, random, walks.job)?;
     let mut walker = Walker::begin(random, walks);
     let alarms = first_total(random);
-    let mut records = Records::new(library, walks.job, plan, walker.start, alarms);
+    let mut records = Records::new(library, walks.job, &rule, plan, walker.start, alarms);
     let mut left = most;
     let differs = records.first_difference(random, |random| {
         left = left.checked_sub(1)?;
@@ -79,6 +88,7 @@ pub fn needed(
     plan: &[u8],
     one_in: u64,
 ) -> Result<Needed, String> {
+    let rule = rule_of(library, random, walks.job)?;
     let mut needed = Needed::default();
     for point in (0..plan.len()).filter(|&node| plan[node] == 1) {
         if !random.once_in(one_in) {
@@ -94,7 +104,7 @@ pub fn needed(
         // the walk's last event shows it, and with the byte at 1 nothing does
         let last = found.events.len() as u64 - 1;
         for (plan, wanted) in [(&fewer[..], Some(last)), (plan, None)] {
-            let mut records = Records::new(library, walks.job, plan, state, alarms);
+            let mut records = Records::new(library, walks.job, &rule, plan, state, alarms);
             let mut events = found.events.iter().copied();
             let place = records.first_difference(random, |_| events.next())?;
             if place != wanted {

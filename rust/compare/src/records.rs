@@ -1,6 +1,7 @@
 //! Two records on one walk, altered by the event step alone (document 01, "Two monitors on one walk").
 use crate::library::Library;
 use dapohiru::numbers::{ACCEPTED, ALARM};
+use dapohiru::Rule;
 use dapohiru_generators::random::Random;
 use dapohiru_second::job::Job;
 use dapohiru_second::walk::Event;
@@ -39,29 +40,36 @@ impl Tally {
 /// The full and the planned record of one walk.
 pub struct Records<'a> {
     library: Library,
+    job: &'a Job,
+    /// The state that full is in, by the job that the walk is one of.
+    state: usize,
+    rule: &'a Rule,
     plan: &'a [u8],
-    rule: [u8; 256],
-    states: u64,
-    symbols: u64,
-    finals: u64,
     full: Room,
     planned: Room,
     pub tally: Tally,
 }
 
 impl<'a> Records<'a> {
-    /// Two records in the same state and with the same alarm total.
-    pub fn new(library: Library, job: &Job, plan: &'a [u8], state: usize, alarms: u64) -> Self {
+    /// Two records in the same state and with the same alarm total, whose events are taken by this rule: the
+    /// job's, as the library takes it from a file.
+    pub fn new(
+        library: Library,
+        job: &'a Job,
+        rule: &'a Rule,
+        plan: &'a [u8],
+        state: usize,
+        alarms: u64,
+    ) -> Self {
         let mut room = [0xa5; 40];
         room[..8].copy_from_slice(&(state as u64).to_le_bytes());
         room[8..16].copy_from_slice(&alarms.to_le_bytes());
         Records {
             library,
+            job,
+            state,
+            rule,
             plan,
-            rule: job.table(),
-            states: job.states() as u64,
-            symbols: job.symbols,
-            finals: job.final_set(),
             full: room,
             planned: room,
             tally: Tally::default(),
@@ -71,11 +79,16 @@ impl<'a> Records<'a> {
     /// Gives an event to the full record, and to the planned one unless the plan has its point
     /// unwatched. Says whether the reports are the same, or in words what else is wrong.
     fn take(&mut self, of: Event) -> Result<bool, String> {
-        let (rule, states, symbols, finals) = (&self.rule, self.states, self.symbols, self.finals);
+        let Rule {
+            table,
+            states,
+            symbols,
+            finals,
+        } = self.rule;
         let symbol = of.symbol() as u64;
         let take = |room: &mut Room| {
             let event = self.library.event;
-            match event(rule, states, symbols, finals, symbol, &mut room[..16]) {
+            match event(table, *states, *symbols, *finals, symbol, &mut room[..16]) {
                 ACCEPTED => Ok(false),
                 ALARM => Ok(true),
                 number => Err(format!("{number} for {of:?}, an event of a walk")),
@@ -83,6 +96,15 @@ impl<'a> Records<'a> {
         };
         let highest = self.full[8..16] == [0xff; 8];
         let full = take(&mut self.full)?;
+        self.state = self.job.next[self.state][of.symbol()] as usize;
+        let alarms = self.job.finals[self.state] == 1;
+        if full != alarms || self.full[..8] != (self.state as u64).to_le_bytes() {
+            return Err(format!(
+                "after {of:?} the record is {:?}, and by the job's rule the state is {} and alarm {alarms}",
+                &self.full[..16],
+                self.state
+            ));
+        }
         let given = match of {
             Event::Point(node, _) => self.plan[node] == 1,
             Event::Call(_) | Event::After(_) => true,
@@ -110,9 +132,14 @@ impl<'a> Records<'a> {
             _ => &mut self.planned,
         };
         let state = u64::from(room[0]);
-        let (mut rule, mut rule_len, mut record_len) = (self.rule, 256, 16);
-        let (mut states, mut symbols, mut finals) = (self.states, self.symbols, self.finals);
-        let mut symbol = random.below(self.symbols);
+        let (mut rule_len, mut record_len) = (256, 16);
+        let Rule {
+            table: mut rule,
+            mut states,
+            mut symbols,
+            mut finals,
+        } = *self.rule;
+        let mut symbol = random.below(symbols);
         let wanted = match random.below(10) {
             0 => {
                 rule_len = random.pick(&[0, 1, 255]);

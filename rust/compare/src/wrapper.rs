@@ -1,9 +1,9 @@
 //! The wrapper's functions with every buffer guarded, and as the calls that the second implementation
 //! is compared with: each answer is taken back to its number.
 use crate::guarded::lend;
-use crate::library::Library;
+use crate::library::{Library, GUARDED};
 use dapohiru::numbers::ACCEPTED;
-use dapohiru::{Counts, Refusal, Report, Verdict};
+use dapohiru::{Counts, Refusal, Report, Rule, Verdict, RULE_LEN};
 
 /// [`dapohiru::plan`], on guarded buffers too.
 pub fn plan(job: &[u8], work: &mut [u8], plan: &mut [u8]) -> Result<Counts, Refusal> {
@@ -41,6 +41,11 @@ pub fn price_by(job: &[u8], plan: &[u8], volumes: &[u8], prices: &[u8]) -> Resul
     })
 }
 
+/// [`dapohiru::rule`], on guarded buffers too.
+pub fn rule(job: &[u8], work: &mut [u8]) -> Result<Rule, Refusal> {
+    lend([job], [work], |[job], [work]| dapohiru::rule(job, work))
+}
+
 /// [`dapohiru::event`], on guarded buffers too.
 pub fn event(
     rule: &[u8],
@@ -72,6 +77,16 @@ pub const WRAPPER: Library = Library {
     },
     price: |job, plan, volumes| number(price(job, plan, volumes)),
     price_by: |job, plan, volumes, prices| number(price_by(job, plan, volumes, prices)),
+    rule: |job, work, buffer| {
+        // the wrapper has a table of its own; one of another length is lent to the C call
+        if buffer.len() != RULE_LEN {
+            return (GUARDED.rule)(job, work, buffer);
+        }
+        number(rule(job, work).map(|taken| {
+            buffer.copy_from_slice(&taken.table);
+            (taken.states << 32) + (taken.symbols << 16) + taken.finals
+        }))
+    },
     event: |rule, states, symbols, finals, symbol, record| {
         let report = event(rule, states, symbols, finals, symbol, record);
         number(report.map(|report| match report {

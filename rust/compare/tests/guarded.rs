@@ -94,10 +94,10 @@ fn longer_than_it_is(room: &mut Room, len: usize, missing: usize, flush: Flush) 
     unsafe { slice::from_raw_parts_mut(first, len) }
 }
 
-/// Makes all six calls, with the named buffer shorter than it is said to be.
+/// Makes all seven calls, with the named buffer shorter than it is said to be.
 fn call_with_short(name: &str, flush: Flush) {
     let (file, thousands, house) = (pair().file(), volumes::file(&[1_000; 3]), prices::house());
-    let mut rooms: Vec<_> = (0..11).map(|_| Room::new(1 << 17)).collect();
+    let mut rooms: Vec<_> = (0..12).map(|_| Room::new(1 << 17)).collect();
     let mut rooms = rooms.iter_mut();
     let mut lent = |of: &str, len: usize, missing: usize| {
         let missing = if of == name { missing } else { 0 };
@@ -116,6 +116,7 @@ fn call_with_short(name: &str, flush: Flush) {
     let priced = lent("priced", 3, 1);
     let volumes = lent("volumes", thousands.len(), 1);
     let prices = lent("prices", house.len(), 1);
+    let taken = lent("taken", 256, 1);
     let rule = lent("rule", 256, 1);
     let record = lent("record", 16, 1);
     for (of, lent, bytes) in [
@@ -136,6 +137,7 @@ fn call_with_short(name: &str, flush: Flush) {
         dapohiru::numbers::check(job, checked, work),
         dapohiru::numbers::price(job, priced, volumes),
         dapohiru::numbers::price_by(job, priced, volumes, prices),
+        dapohiru::numbers::rule(job, work, taken),
         dapohiru::numbers::event(rule, 16, 16, 0, 15, record),
     ];
     black_box(numbers);
@@ -143,9 +145,9 @@ fn call_with_short(name: &str, flush: Flush) {
 
 #[test]
 fn library_that_is_told_a_longer_buffer_dies_where_its_bytes_end() {
-    const NAMES: [&str; 11] = [
+    const NAMES: [&str; 12] = [
         "nothing", "job", "work", "plan", "listing", "checked", "priced", "volumes", "prices",
-        "rule", "record",
+        "taken", "rule", "record",
     ];
     if let Ok(task) = env::var(TASK) {
         let (name, flush) = task.split_once(' ').expect("a name and a place");

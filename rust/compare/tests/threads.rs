@@ -1,5 +1,5 @@
-//! The calls in many threads at once answer as they do alone.
-
+//! The calls in many threads at once answer as they do alone, and so does a job that they share.
+use dapohiru::{Job as Shared, Record, Report};
 use dapohiru_compare::wrapper::WRAPPER;
 use dapohiru_generators::random::Random;
 use dapohiru_generators::zeros::filled;
@@ -24,15 +24,17 @@ fn answers(files: &Files, work: &mut [u8]) -> (Vec<u64>, Vec<u8>) {
         volumes,
         prices,
     } = files;
-    let (mut plan, mut listing) = (vec![7; 512], vec![7; 32_768]);
+    let (mut plan, mut listing, mut rule) = (vec![7; 512], vec![7; 32_768], [7; 256]);
     let mut numbers = vec![
         (WRAPPER.plan)(file, work, &mut plan),
         (WRAPPER.list)(file, work, &mut listing),
         (WRAPPER.check)(file, &job.plan_of(&[]), work),
         (WRAPPER.price)(file, &job.all_watched(), volumes),
         (WRAPPER.price_by)(file, &job.all_watched(), volumes, prices),
+        (WRAPPER.rule)(file, work, &mut rule),
+        (WRAPPER.rule)(file, work, &mut [7; 255]),
     ];
-    let (rule, mut record) = (job.table(), [0; 16]);
+    let mut record = [0; 16];
     let (states, symbols, finals) = (job.states() as u64, job.symbols, job.final_set());
     for event in 0..200 {
         let symbol = event % (symbols + 1);
@@ -45,7 +47,7 @@ fn answers(files: &Files, work: &mut [u8]) -> (Vec<u64>, Vec<u8>) {
             &mut record,
         ));
     }
-    (numbers, [&plan[..], &listing, &record].concat())
+    (numbers, [&plan[..], &listing, &rule, &record].concat())
 }
 
 #[test]
@@ -81,4 +83,46 @@ fn many_threads_get_the_answers_that_one_gets() {
             });
         }
     });
+}
+
+/// The reports of a batch that has its events in this order, and its record afterwards.
+fn reports(job: &Shared, events: &[(bool, u64)]) -> (Vec<Report>, Record) {
+    let entry = job.entries()[0];
+    let state = entry.states().next().expect("an entry admits a state");
+    let mut record = job.start(entry.node, state).expect("it is admitted");
+    let points: Vec<_> = job.points().collect();
+    let mut report = |&(at_point, number): &(bool, u64)| {
+        let point = points.get(number as usize % points.len().max(1));
+        match point {
+            Some(point) if at_point => job.report(point.node, &mut record).expect("it is taken"),
+            _ => {
+                let symbol = number % job.rule().symbols;
+                job.other(symbol, &mut record).expect("it is taken")
+            }
+        }
+    };
+    let reports = events.iter().map(&mut report).collect();
+    (reports, record)
+}
+
+#[test]
+fn one_job_serves_many_threads_each_with_its_own_records() {
+    let mut random = Random::fixed(27);
+    for number in 0..40 {
+        let job = Shared::new(&small::job(&mut random).file()).expect("the file is a job");
+        let batches: Vec<Vec<_>> = (0..8)
+            .map(|_| {
+                (0..500)
+                    .map(|_| (random.once_in(2), random.number()))
+                    .collect()
+            })
+            .collect();
+        let alone: Vec<_> = batches.iter().map(|batch| reports(&job, batch)).collect();
+        thread::scope(|scope| {
+            for (batch, alone) in batches.iter().zip(&alone) {
+                let job = &job;
+                scope.spawn(move || assert_eq!(&reports(job, batch), alone, "job {number}"));
+            }
+        });
+    }
 }

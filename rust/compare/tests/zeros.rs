@@ -1,5 +1,5 @@
-//! A file with zeros before its numbers and the same file without: planning, listing and the check return the
-//! same number for both and leave the same bytes. Pricing has tests of its own.
+//! A file with zeros before its numbers and the same file without: planning, listing, the check and the call for
+//! the rule return the same number for both and leave the same bytes. Pricing has tests of its own.
 use dapohiru::numbers::ACCEPTED;
 use dapohiru_compare::checking;
 use dapohiru_compare::library::{Library, CALLS};
@@ -27,10 +27,14 @@ struct Lent {
     listing: Vec<u8>,
     /// A plan to be checked.
     checked: Vec<u8>,
+    rule: Vec<u8>,
 }
 
+/// The calls that are made, by what they are lent beside the file and the work buffer.
+const CALL_NAMES: [&str; 4] = ["plan", "list", "check", "rule"];
+
 impl Lent {
-    /// Buffers that are long enough and some bytes more, and hold any bytes.
+    /// Buffers that are long enough and some bytes more, the rule's as long as it must be, and hold any bytes.
     fn any(random: &mut Random, checked: &[u8]) -> Self {
         let mut bytes = |least: usize, most: usize| {
             let mut bytes = vec![0; random.between(least as u64, most as u64) as usize];
@@ -42,12 +46,13 @@ impl Lent {
             plan: bytes(513, 600),
             listing: bytes(32_769, 33_000),
             checked: checked.to_vec(),
+            rule: bytes(256, 256),
         }
     }
 
-    /// The numbers that planning, listing and the check return for a file, and every byte that was lent as
-    /// each of them leaves it.
-    fn left(&self, library: Library, file: &[u8]) -> [(u64, Vec<u8>, Vec<u8>); 3] {
+    /// The numbers that planning, listing, the check and the call for the rule return for a file, and every byte that
+    /// was lent as each of them leaves it.
+    fn left(&self, library: Library, file: &[u8]) -> [(u64, Vec<u8>, Vec<u8>); 4] {
         let call = |call: &dyn Fn(&mut [u8], &mut [u8]) -> u64, lent: &[u8]| {
             let (mut work, mut lent) = (self.work.clone(), lent.to_vec());
             let number = call(&mut work, &mut lent);
@@ -63,11 +68,12 @@ impl Lent {
                 &|work, plan| (library.check)(file, plan, work),
                 &self.checked,
             ),
+            call(&|work, rule| (library.rule)(file, work, rule), &self.rule),
         ]
     }
 
     /// Asks that the library leaves the same for all of these files, and gives the numbers.
-    fn are_left_alike(&self, library: Library, files: &[Vec<u8>]) -> [u64; 3] {
+    fn are_left_alike(&self, library: Library, files: &[Vec<u8>]) -> [u64; 4] {
         let left = self.left(library, &files[0]);
         for file in &files[1..] {
             for (one, other) in left.iter().zip(self.left(library, file)) {
@@ -112,7 +118,7 @@ fn refusal(number: u64) -> u64 {
 /// Calls of which the files are alike, with counts of the answers of each call; accepted ones are 0.
 struct Calls {
     random: Random,
-    counts: [Counts<u64>; 3],
+    counts: [Counts<u64>; 4],
     /// Files that have zeros.
     zeros: u64,
 }
@@ -142,7 +148,7 @@ impl Calls {
 
     /// Says the counts.
     fn print(&self) {
-        for (counts, call) in self.counts.iter().zip(["plan", "list", "check"]) {
+        for (counts, call) in self.counts.iter().zip(CALL_NAMES) {
             counts.print(call);
         }
         println!("{} files with zeros", self.zeros);
@@ -207,6 +213,7 @@ fn zeros_change_no_refusal_and_no_byte_after_it() {
             lent.plan.truncate(random.place(512));
             lent.listing.truncate(random.place(32_768));
             lent.checked.push(0);
+            lent.rule.resize(random.pick(&[0, 255, 257, 512]), 7);
         };
         calls.agree(&job.file(), short, &plan);
         let place = calls.random.place(plan.len());
@@ -218,6 +225,7 @@ fn zeros_change_no_refusal_and_no_byte_after_it() {
         counts.came(1..=10);
     }
     calls.counts[2].came(11..=12);
+    calls.counts[3].came([13]);
     // twelve calls of each job, on three files beside the one with spaces
     assert!(calls.zeros > 2 * 12 * JOBS as u64);
 }
@@ -257,7 +265,7 @@ fn zero_before_a_space_is_refused_as_4_in_every_field() {
                 lent.are_left_alike(CALLS, &[pair.clone(), file]);
                 alike += 1;
             } else {
-                let before = [&lent.plan, &lent.listing, &lent.checked];
+                let before = [&lent.plan, &lent.listing, &lent.checked, &lent.rule];
                 for ((number, work, after), before) in
                     lent.left(CALLS, &file).into_iter().zip(before)
                 {
@@ -408,7 +416,7 @@ fn files_that_are_alike_and_cut_at_the_same_byte_get_the_same_answer() {
                 let numbers = lent.are_left_alike(library, &cuts);
                 assert_eq!(
                     numbers.map(refusal),
-                    [wanted; 3],
+                    [wanted; 4],
                     "cut at {cut}: {}",
                     start_of(&files[0])
                 );

@@ -133,3 +133,20 @@ pub fn points(symbol: u64, nodes: usize) -> Job {
         edges: vec![],
     }
 }
+
+/// A job with sixteen states and symbols: state q goes to 3 q + 5 a + 1, modulo 16, on symbol a; states 0, 3 and 15 are
+/// final. Its one node reports symbol 15.
+pub fn sixteen() -> Job {
+    let next = |state: u64| (0..16).map(move |symbol| (3 * state + 5 * symbol + 1) % 16);
+    let mut node = event(15);
+    node.entry = 1;
+    Job {
+        symbols: 16,
+        finals: (0..16)
+            .map(|state| u64::from([0, 3, 15].contains(&state)))
+            .collect(),
+        next: (0..16).map(|state| next(state).collect()).collect(),
+        nodes: vec![node],
+        edges: vec![],
+    }
+}

@@ -1,4 +1,4 @@
-//! Jobs, job files, walks, plans, listings, prices and the event step a second time, written from documents
+//! Jobs, job files, walks, plans, listings, prices, rules and the event step a second time, written from documents
 //! 01 and 02 alone. It links nothing and shares nothing with the library: places of a walk are explicit,
 //! two real monitors take the walk's events, and a search ends when no new place and pair of states is
 //! left. Wrong readings of the documents ("slips") can be switched on, to see that a comparison notices
@@ -14,6 +14,7 @@ pub mod planning;
 pub mod pricing;
 pub mod reading;
 mod reentry;
+pub mod ruling;
 pub mod search;
 pub mod serving;
 pub mod slip;

@@ -43,6 +43,11 @@ impl Slip {
         [Slip::PLANS, Slip::PRICES, Slip::VOLUMES, Slip::PRICE_FILE].concat()
     }
 
+    /// The slips that taking the rule of a job can make.
+    pub fn of_rule() -> Vec<Slip> {
+        [Slip::BUFFERS, Slip::RULE].concat()
+    }
+
     /// The slips that planning and listing can make.
     pub fn of_planning() -> Vec<Slip> {
         [
@@ -432,5 +437,86 @@ slips! {
         AcceptedLeavesWork,
         /// The bytes of nodes that are no points are not written.
         OtherNodesNotWritten,
+    }
+
+    /// Slips of the rule that is taken from a job, and of the rule buffer.
+    RULE {
+        // its refusal
+        /// 13 is tested before 1.
+        RuleBeforeLength,
+        /// 13 is tested before 2.
+        RuleBeforeWork,
+        /// 13 is tested before 3 to 10.
+        RuleBeforeFile,
+        /// 13 is tested before 10.
+        RuleBeforeEntry,
+        /// A rule buffer of another length is 2.
+        RuleAsBuffer,
+        /// A rule buffer of another length is 15.
+        RuleAsRecord,
+        /// A rule buffer of more than 256 bytes is accepted, and its first 256 are written.
+        LongerRuleAccepted,
+        /// A rule buffer of less than 256 bytes is accepted, and written to its end.
+        ShorterRuleAccepted,
+        /// Of the rule buffer's length the lowest 8 bits are tested.
+        RuleLengthCutTo8Bits,
+        /// Of the rule buffer's length the lowest 16 bits are tested.
+        RuleLengthCutTo16Bits,
+
+        // its numbers
+        /// The counts of states and symbols are swapped.
+        StatesAndSymbolsSwapped,
+        /// The final set and the count of symbols are swapped.
+        FinalsBeforeSymbols,
+        /// Of both counts the lowest 4 bits are there, so that 16 is 0.
+        CountsCutTo4Bits,
+        /// Bit q + 1 of the final set stands for state q.
+        FinalsShifted,
+        /// The lowest bit of the final set stands for the last state.
+        FinalsFromTheHighest,
+        /// The last state is not in the final set.
+        LastFinalLeftOut,
+        /// The final set has the states that are not final.
+        OthersFinal,
+
+        // its table
+        /// The table stands in column order.
+        ColumnsForTableRows,
+        /// A row has as many places as there are symbols.
+        RowsOfSymbolsOnly,
+        /// A row has fifteen places.
+        RowsOfFifteen,
+        /// The row of the last state is as it was.
+        LastStateNotWritten,
+        /// The column of the last symbol is as it was.
+        LastSymbolNotWritten,
+        /// Next states are counted from 1.
+        NextStatesFromOne,
+        /// Cells past the states or the symbols are as they were.
+        CellsPastLeft,
+        /// Cells past the states are as they were.
+        RowsPastLeft,
+        /// Cells past the symbols are as they were, in the rows of states.
+        ColumnsPastLeft,
+        /// Cells past the states or the symbols are 255.
+        CellsPastAreOfNoState,
+        /// Cells past the states or the symbols lead back to their row.
+        CellsPastAreStates,
+
+        // what is left
+        /// A refusal clears the rule buffer.
+        RefusalClearsRule,
+        /// A refusal by what the file holds clears the rule.
+        FileRefusalClearsRule,
+        /// Refusal 13 writes as much of the rule as fits.
+        WrongLengthWritten,
+        /// Refusal 2 writes the rule.
+        ShortWorkWritesRule,
+        /// Refusals by what the file holds leave the work buffer as it is.
+        RuleOfNoJobLeavesWork,
+        /// Refusal 13 leaves the work buffer as it is.
+        WrongLengthLeavesWork,
+        /// An accepted call leaves the work buffer as it is.
+        TakenRuleLeavesWork,
     }
 }

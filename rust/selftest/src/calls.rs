@@ -3,7 +3,7 @@ use crate::tally::Tally;
 use dapohiru::numbers::ACCEPTED;
 use dapohiru_compare::library::CALLS;
 use dapohiru_compare::pricing::{By, Case};
-use dapohiru_compare::{checking, serving};
+use dapohiru_compare::{checking, ruling, serving};
 use dapohiru_generators::random::Random;
 use dapohiru_generators::samples::pair;
 use dapohiru_generators::{prices, volumes};
@@ -22,15 +22,18 @@ pub fn filled(len: usize, byte: u8) -> Box<[u8]> {
     vec![byte; len].into_boxed_slice()
 }
 
+/// What stands in a rule buffer before a call; no next state is as high.
+const UNWRITTEN: u8 = 99;
+
 /// Calls, with the answers counted.
 pub struct Calls {
-    /// Makes the volume files and price files; all else is made without it.
+    /// Makes the volume files, price files and lengths of rule buffers; all else is made without it.
     lines: Random,
     pub tally: Tally,
 }
 
 impl Calls {
-    /// No call so far, and volume files and price files from this seed on.
+    /// No call so far, and volume files, price files and lengths of rule buffers from this seed on.
     pub fn new(seed: u64) -> Self {
         Calls {
             lines: Random(seed),
@@ -52,6 +55,40 @@ impl Calls {
         let number = (CALLS.check)(&file, &plan, &mut work);
         self.tally.add_checked(checking::Said::of(number));
         number
+    }
+
+    /// Takes the rule of this job, or of a file that deserves this refusal, with buffers of these lengths, as the
+    /// second implementation does; gives the number.
+    pub fn rule(
+        &mut self,
+        file: &[u8],
+        held: Result<&Job, u64>,
+        work: usize,
+        rule: usize,
+    ) -> Result<u64, String> {
+        let case = ruling::Case {
+            file: file.to_vec(),
+            unread: held.err(),
+            work_len: work,
+            rule_len: rule,
+            ..ruling::Case::of(held.unwrap_or(&pair()))
+        };
+        let wanted = case.wanted(None);
+        let (file, mut work, mut rule) = (exact(file), filled(work, 9), filled(rule, UNWRITTEN));
+        let number = (CALLS.rule)(&file, &mut work, &mut rule);
+        self.tally.add_taken(ruling::Said::of(number));
+        let mut bytes = filled(rule.len(), UNWRITTEN);
+        for (byte, written) in bytes.iter_mut().zip(wanted.written) {
+            *byte = written.unwrap_or(UNWRITTEN);
+        }
+        if (number, &rule) == (wanted.number, &bytes) {
+            return Ok(number);
+        }
+        Err(format!(
+            "{number:#x} with rule {rule:?}, and {:#x} with rule {bytes:?} wanted; {}",
+            wanted.number,
+            case.words()
+        ))
     }
 
     /// Prices a plan, by a price file if there is one, each buffer an allocation of its own size; gives the number.
@@ -76,8 +113,8 @@ impl Calls {
         number
     }
 
-    /// A file in the five calls that take a job file, of which each is refused as it should be, or accepted; a price
-    /// is the one of the second implementation.
+    /// A file in the six calls that take a job file, of which each is refused as it should be, or accepted; a rule and
+    /// a price are those of the second implementation.
     pub fn file(&mut self, random: &mut Random, file: &[u8]) -> Result<(), String> {
         let read = reading::job(file);
         let (plan, of_plan) = match &read {
@@ -93,6 +130,8 @@ impl Calls {
         let wanted = [refusal, refusal, refusal.or(of_plan)];
         let seen = numbers.map(|number| (number < ACCEPTED).then_some(number));
         if seen == wanted {
+            let len = self.lines.pick(&[256, 256, 256, 255, 257, 0]);
+            self.rule(file, read.as_ref().map_err(|&number| number), WORK, len)?;
             return self.priced(file, read, plan);
         }
         Err(format!(

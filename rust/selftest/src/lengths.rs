@@ -1,11 +1,11 @@
 //! Buffers of all lengths around the limits, in every place of every call.
 use crate::calls::{exact, filled, Calls};
 use dapohiru::numbers::ACCEPTED;
-use dapohiru::PRICES_LEN;
+use dapohiru::{PRICES_LEN, RULE_LEN};
 use dapohiru_compare::library::CALLS;
 use dapohiru_generators::events::Call;
 use dapohiru_generators::random::Random;
-use dapohiru_generators::samples::pair;
+use dapohiru_generators::samples::{pair, sixteen};
 use dapohiru_generators::zeros::zero_filled;
 use dapohiru_generators::{prices, volumes};
 use dapohiru_second::numbered::PRICES;
@@ -37,6 +37,7 @@ pub fn run(calls: &mut Calls, random: &mut Random) -> Result<(), String> {
     price_files(calls)?;
     files(calls, &pair().file())?;
     files(calls, &zero_filled(pair().file()))?;
+    rule_buffers(calls)?;
     rules_and_records(calls)?;
     events(calls, random, Second { slip: None })
 }
@@ -125,6 +126,27 @@ fn price_files(calls: &mut Calls) -> Result<(), String> {
     Ok(())
 }
 
+/// Rule buffers of the call that takes a job's rule, with work buffers; and of lengths that are taken for the right one
+/// where their high bits are lost.
+fn rule_buffers(calls: &mut Calls) -> Result<(), String> {
+    for job in [pair(), sixteen()] {
+        let past = HIGH.map(|high| RULE_LEN + high);
+        for rule in LENGTHS.into_iter().chain(past) {
+            for work in LENGTHS {
+                let number = calls.rule(&job.file(), Ok(&job), work, rule)?;
+                let wanted = match rule {
+                    _ if work < WORK => 2,
+                    RULE_LEN => ACCEPTED,
+                    _ => 13,
+                };
+                let what = format!("rule buffer of {rule} and {work} bytes");
+                same(number.min(ACCEPTED), wanted, &what)?;
+            }
+        }
+    }
+    Ok(())
+}
+
 /// A file of PAIR, cut short or with bytes past its last line.
 fn files(calls: &mut Calls, whole: &[u8]) -> Result<(), String> {
     let around = LONGEST - 1..=LONGEST + 1;
@@ -145,6 +167,17 @@ fn files(calls: &mut Calls, whole: &[u8]) -> Result<(), String> {
         }
         let number = calls.check(&file, &[1, 1, 1], WORK);
         same(number, wanted, &format!("check of {len} bytes"))?;
+        let job = pair();
+        let held = match wanted {
+            ACCEPTED => Ok(&job),
+            refused => Err(refused),
+        };
+        let number = calls.rule(&file, held, WORK, RULE_LEN)?;
+        same(
+            number.min(ACCEPTED),
+            wanted,
+            &format!("rule of {len} bytes"),
+        )?;
         for prices in [None, Some(&prices::house()[..])] {
             let number = calls.price(&file, &[0, 0, 0], &volumes::file(&[1_000; 3]), prices);
             same(number, wanted, &format!("price of {len} bytes"))?;

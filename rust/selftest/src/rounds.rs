@@ -7,6 +7,7 @@ use dapohiru_compare::library::GUARDED;
 use dapohiru_compare::on_file::OnFile;
 use dapohiru_compare::pricing;
 use dapohiru_compare::promise;
+use dapohiru_compare::ruling;
 use dapohiru_compare::serving;
 use dapohiru_compare::step::compare;
 use dapohiru_generators::damage::Damaged;
@@ -32,6 +33,7 @@ pub struct Rounds {
     serving: serving::Memory,
     checking: checking::Memory,
     pricing: pricing::Memory,
+    ruling: ruling::Memory,
     /// Makes the volume files and price files of a round and what is priced with them; the other calls are made
     /// without it.
     lines: Random,
@@ -47,6 +49,7 @@ impl Rounds {
             serving: serving::Memory::new(GUARDED),
             checking: checking::Memory::new(GUARDED),
             pricing: pricing::Memory::new(GUARDED),
+            ruling: ruling::Memory::new(GUARDED),
             lines: Random(0),
             tally: Tally::default(),
         }
@@ -58,16 +61,19 @@ impl Rounds {
         self.lines = Random(!random.0);
         self.serving.begin(random.number());
         self.checking.begin(random.number());
+        self.ruling.begin(random.number());
         let random = &mut random;
         match number % 8 {
             0 | 4 => {
                 let job = mixed::small_job(random);
-                self.serve(random, &job)
+                self.serve(random, &job)?;
+                self.rule(random, &job)
             }
             1 | 5 => {
                 let job = small::job(random);
                 self.check(random, &job)?;
-                self.price(&job)
+                self.price(&job)?;
+                self.rule(random, &job)
             }
             2 => self.damaged(random),
             3 => self.step(random),
@@ -135,11 +141,27 @@ impl Rounds {
         self.price_cases(&[by_house, by_file])
     }
 
-    /// A damaged file in the five calls that take a job file; the second reader says what it deserves.
+    /// Compares calls for the rule of a job.
+    fn rule_cases(&mut self, cases: &[ruling::Case]) -> Result<(), String> {
+        for case in cases {
+            let seen = case.compare(&mut self.ruling, self.slips.walks)?;
+            self.tally.add_taken(ruling::Said::of(seen.number));
+        }
+        Ok(())
+    }
+
+    /// The rule of a job, with buffers of several lengths, some of the calls with faults.
+    fn rule(&mut self, random: &mut Random, job: &Job) -> Result<(), String> {
+        let cases = ruling::cases(random, job);
+        self.rule_cases(&cases)
+    }
+
+    /// A damaged file in the six calls that take a job file; the second reader says what it deserves.
     fn damaged(&mut self, random: &mut Random) -> Result<(), String> {
         for _ in 0..8 {
             let damaged = Damaged::random(random);
             let cases = Service::BOTH.map(|service| serving::Case::of_damaged(service, &damaged));
+            self.rule_cases(&[ruling::Case::of_damaged(&damaged)])?;
             let Damaged { file, unread, job } = damaged;
             self.serve_cases(&job, &cases)?;
             let plan = match random.below(2) {
@@ -170,7 +192,7 @@ impl Rounds {
         Ok(())
     }
 
-    /// Both halves of the third promise on the plan that the library writes.
+    /// Both halves of the third promise on the plan that the library writes, by the rule that it takes from the file.
     fn walk(&mut self, random: &mut Random) -> Result<(), String> {
         let job = mixed::job(random);
         let file = filled(random, job.file());
@@ -195,7 +217,7 @@ impl Rounds {
         Ok(())
     }
 
-    /// A small job spread over up to 512 nodes, in the five calls that take a job file.
+    /// A small job spread over up to 512 nodes, in the six calls that take a job file.
     fn spread(&mut self, random: &mut Random) -> Result<(), String> {
         let small = small::job(random);
         let nodes = random.pick(&[16, 17, 64, 65, 255, 256, 257, 511, 512]);
@@ -203,7 +225,7 @@ impl Rounds {
         self.whole(random, &job)
     }
 
-    /// A job of 512 nodes with long loops, or of the longest file, in the five calls that take a job file; and the
+    /// A job of 512 nodes with long loops, or of the longest file, in the six calls that take a job file; and the
     /// greatest price.
     fn large(&mut self, random: &mut Random) -> Result<(), String> {
         let job = match random.below(4) {
@@ -215,7 +237,7 @@ impl Rounds {
         self.price_cases(&[pricing::Case::greatest()])
     }
 
-    /// Planning, listing, the check of the plan and of two others, and their prices.
+    /// Planning, listing, the check of the plan and of two others, their prices, and the rule.
     fn whole(&mut self, random: &mut Random, job: &Job) -> Result<(), String> {
         let both = Service::BOTH.map(|service| serving::Case::of(service, job).with_zeros(random));
         let given = self.serve_cases(job, &both)?;
@@ -229,6 +251,6 @@ impl Rounds {
             self.price_both(checking, any)?;
             self.price_both(checking, most.clone())?;
         }
-        Ok(())
+        self.rule(random, job)
     }
 }

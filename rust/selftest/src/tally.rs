@@ -3,6 +3,7 @@ use dapohiru_compare::checking;
 use dapohiru_compare::pricing::By;
 use dapohiru_compare::promise::{Needed, Walked};
 use dapohiru_compare::records;
+use dapohiru_compare::ruling;
 use dapohiru_compare::serving;
 use dapohiru_second::pricing;
 use dapohiru_second::step::Answer;
@@ -17,6 +18,7 @@ pub struct Tally {
     pub different: u64,
     pub priced: u64,
     pub priced_by: u64,
+    taken: u64,
     pub quiet: u64,
     pub alarm: u64,
     /// By number, up to 28.
@@ -48,7 +50,7 @@ const MEANINGS: [(usize, &str); 17] = [
         12,
         "a plan byte is above 1, or is 1 at a node that is no event",
     ),
-    (13, "a rule"),
+    (13, "a rule, or a rule buffer that is not 256 bytes"),
     (14, "a symbol"),
     (15, "a record"),
     (
@@ -96,6 +98,14 @@ impl Tally {
         }
     }
 
+    /// Counts an answer of the call for a job's rule.
+    pub fn add_taken(&mut self, said: ruling::Said) {
+        match said {
+            ruling::Said::Taken => self.taken += 1,
+            ruling::Said::Refused(number) => self.add_refused(number, 1),
+        }
+    }
+
     /// Counts an answer of the event step.
     pub fn add_stepped(&mut self, answer: Answer) {
         match answer {
@@ -105,17 +115,19 @@ impl Tally {
         }
     }
 
-    /// Counts a walk.
+    /// Counts a walk, and the rule that was taken for it.
     pub fn add_walk(&mut self, walked: &Walked) {
         self.walks += 1;
+        self.taken += 1;
         self.came_in += u64::from(walked.came_in > 0);
         self.returned += u64::from(walked.returned > 0);
         self.add_told(walked.tally);
     }
 
-    /// Counts the walks that need a plan's watched points.
+    /// Counts the walks that need a plan's watched points, and the rule that was taken for them.
     pub fn add_needed(&mut self, needed: &Needed) {
         self.walks += 2 * needed.points as u64;
+        self.taken += 1;
         self.came_in += 2 * needed.came_in as u64;
         self.returned += 2 * needed.returned as u64;
         self.needed += needed.points as u64;
@@ -133,7 +145,7 @@ impl Tally {
     pub fn calls(&self) -> u64 {
         let checked = self.faithful + self.different;
         let priced = self.priced + self.priced_by;
-        let accepted = self.planned + self.listed + checked + priced;
+        let accepted = self.planned + self.listed + checked + priced + self.taken;
         let on_walks = 2 * self.told.events - self.told.skipped;
         let refused: u64 = self.refused.iter().sum();
         accepted + self.quiet + self.alarm + on_walks + refused
@@ -150,6 +162,7 @@ impl fmt::Display for Tally {
             (self.different, "plans different"),
             (self.priced, "plans priced by the house table"),
             (self.priced_by, "plans priced by a price file"),
+            (self.taken, "rules taken from jobs"),
             (self.quiet, "events quiet"),
             (self.alarm, "events with an alarm"),
             (self.walks, "walks with two monitors"),

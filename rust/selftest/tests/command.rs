@@ -50,6 +50,7 @@ fn rounds_find_no_difference_and_every_answer_comes() {
         "plans different",
         "plans priced by the house table",
         "plans priced by a price file",
+        "rules taken from jobs",
         "events quiet",
         "events with an alarm",
         "walks that came in again",
@@ -76,8 +77,9 @@ fn every_slip() -> Vec<String> {
         slip::Slip::of_check(),
         slip::Slip::of_planning(),
         slip::Slip::of_pricing(),
-        // those of plans and volume files are among the ones above
+        // those of plans, volume files and the work buffer are among the ones above
         slip::Slip::PRICE_FILE.to_vec(),
+        slip::Slip::RULE.to_vec(),
     ];
     let of_walks = of_walks.concat();
     let of_walks = of_walks.iter().map(|slip| format!("{slip:?}"));

@@ -31,6 +31,7 @@ static uint8_t plan[DAPOHIRU_PLAN_LEN + PAST];
 static uint8_t listing[DAPOHIRU_LISTING_LEN + PAST];
 static uint8_t volumes[DAPOHIRU_VOLUMES_LEN + PAST];
 static uint8_t prices[DAPOHIRU_PRICES_LEN + PAST];
+static uint8_t rule[DAPOHIRU_RULE_LEN + PAST];
 
 static int all(const uint8_t *bytes, size_t len, uint8_t value)
 {
@@ -64,6 +65,7 @@ static void fresh(void)
     memset(work, FILL, sizeof work);
     memset(plan, FILL, sizeof plan);
     memset(listing, FILL, sizeof listing);
+    memset(rule, FILL, sizeof rule);
 }
 
 /* Whether the work buffer is as a call with this answer leaves it. */
@@ -136,7 +138,14 @@ static void refused(uint64_t number, size_t file_len, size_t work_len)
     memset(work, FILL, sizeof work);
     HOLD(dapohiru_check(file, file_len, own, 3, work, work_len) == number);
     HOLD(work_after(number));
-    HOLD(all(plan, sizeof plan, FILL) && all(listing, sizeof listing, FILL));
+    memset(work, FILL, sizeof work);
+    HOLD(dapohiru_rule(file, file_len, work, work_len, rule, DAPOHIRU_RULE_LEN) == number);
+    HOLD(work_after(number));
+    /* the length of the rule buffer is tested last */
+    memset(work, FILL, sizeof work);
+    HOLD(dapohiru_rule(file, file_len, work, work_len, rule, DAPOHIRU_RULE_LEN + 1) == number);
+    HOLD(work_after(number));
+    HOLD(all(plan, sizeof plan, FILL) && all(listing, sizeof listing, FILL) && all(rule, sizeof rule, FILL));
     /* pricing gets no work buffer, and no 2 */
     if (number != DAPOHIRU_BUFFER_TOO_SHORT) {
         HOLD(dapohiru_price(file, file_len, own, 3, volumes, VOLUMES_LEN) == number);
@@ -202,6 +211,74 @@ static void plans_are_refused_by_number(void)
     checked(DAPOHIRU_BAD_PLAN_BYTE, own, 3);
     HOLD(own[0] == 1 && own[1] == 0 && own[2] == 2 && own[3] == 0);
     HOLD(memcmp(file, PAIR, PAIR_LEN) == 0);
+}
+
+/* Whether the rule buffer holds PAIR's rule, and what it held past it. */
+static int is_rule_of_pair(void)
+{
+    static const uint8_t rows[3][3] = {{1, 0, 0}, {1, 0, 2}, {1, 0, 2}};
+    size_t q, a;
+
+    for (q = 0; q < 16; q++)
+        for (a = 0; a < 16; a++)
+            if (rule[16 * q + a] != (q < 3 && a < 3 ? rows[q][a] : 0))
+                return 0;
+    return all(rule + DAPOHIRU_RULE_LEN, PAST, FILL);
+}
+
+static void rule_of_pair_is_taken(void)
+{
+    static const size_t others[] = {0, 1, 255, 257, 256 + PAST};
+    uint64_t answer;
+    size_t k;
+
+    fresh();
+    answer = dapohiru_rule(file, PAIR_LEN, work, sizeof work, rule, DAPOHIRU_RULE_LEN);
+    HOLD(answer == DAPOHIRU_ACCEPTED + (UINT64_C(3) << 32) + (UINT64_C(3) << 16) + 4);
+    HOLD(!DAPOHIRU_IS_REFUSAL(answer));
+    HOLD(DAPOHIRU_STATES(answer) == 3 && DAPOHIRU_SYMBOLS(answer) == 3 && DAPOHIRU_FINALS(answer) == 4);
+    HOLD(is_rule_of_pair());
+    HOLD(work_after(answer));
+    for (k = 0; k < sizeof others / sizeof *others; k++) {
+        fresh();
+        HOLD(dapohiru_rule(file, PAIR_LEN, work, sizeof work, rule, others[k]) == DAPOHIRU_BAD_RULE);
+        HOLD(all(rule, sizeof rule, FILL));
+        HOLD(work_after(DAPOHIRU_BAD_RULE));
+    }
+}
+
+/* The rule of the only state, with two symbols; and with sixteen states and symbols, of which state 15 is final. */
+static void rules_of_other_sizes_are_taken(void)
+{
+    static const char one[] = "J     1     2     1     0\n"
+                              "R     0     1     0     0\n"
+                              "P     0     0     0     1     0     0\n";
+    uint64_t answer;
+    size_t at, q, a;
+    int same = 1;
+
+    fresh();
+    spell(file, one, sizeof one - 1);
+    answer = dapohiru_rule(file, sizeof one - 1, work, sizeof work, rule, DAPOHIRU_RULE_LEN);
+    HOLD(answer == DAPOHIRU_ACCEPTED + (UINT64_C(1) << 32) + (UINT64_C(2) << 16) + 1);
+    HOLD(all(rule, DAPOHIRU_RULE_LEN, 0) && all(rule + DAPOHIRU_RULE_LEN, PAST, FILL));
+
+    fresh();
+    at = (size_t)sprintf((char *)file, "J    16    16     1     0\n");
+    for (q = 0; q < 16; q++) {
+        at += (size_t)sprintf((char *)file + at, "R%6u%6u", (unsigned)q, q == 15 ? 1u : 0u);
+        for (a = 0; a < 16; a++)
+            at += (size_t)sprintf((char *)file + at, "%6u", (unsigned)((3 * q + 5 * a + 1) % 16));
+        file[at++] = '\n';
+    }
+    at += (size_t)sprintf((char *)file + at, "P     0     1    15     1     0     0\n");
+    answer = dapohiru_rule(file, at, work, sizeof work, rule, DAPOHIRU_RULE_LEN);
+    HOLD(answer == DAPOHIRU_ACCEPTED + (UINT64_C(16) << 32) + (UINT64_C(16) << 16) + 0x8000);
+    for (q = 0; q < 16; q++)
+        for (a = 0; a < 16; a++)
+            same = same && rule[16 * q + a] == (3 * q + 5 * a + 1) % 16;
+    HOLD(same && all(rule + DAPOHIRU_RULE_LEN, PAST, FILL));
+    HOLD(work_after(answer));
 }
 
 /* The files as they were. */
@@ -318,17 +395,38 @@ static int is_record(uint8_t state, uint8_t lowest, uint8_t others)
            all(room + DAPOHIRU_RECORD_LEN, PAST, FILL);
 }
 
+/* Events under the rule and the numbers that were taken from PAIR. */
+static void events_are_taken_by_the_rule_of_the_job(void)
+{
+    uint64_t answer;
+
+    fresh();
+    answer = dapohiru_rule(file, PAIR_LEN, work, sizeof work, rule, DAPOHIRU_RULE_LEN);
+#define TAKE(symbol) dapohiru_event(rule, DAPOHIRU_RULE_LEN, DAPOHIRU_STATES(answer), DAPOHIRU_SYMBOLS(answer), \
+                                    DAPOHIRU_FINALS(answer), symbol, room, DAPOHIRU_RECORD_LEN)
+    put_record(0, 0);
+    HOLD(TAKE(2) == DAPOHIRU_QUIET && is_record(0, 0, 0));
+    HOLD(TAKE(0) == DAPOHIRU_QUIET && is_record(1, 0, 0));
+    HOLD(TAKE(2) == DAPOHIRU_ALARM && is_record(2, 1, 0));
+    HOLD(TAKE(1) == DAPOHIRU_QUIET && is_record(0, 1, 0));
+    HOLD(TAKE(3) == DAPOHIRU_BAD_SYMBOL && is_record(0, 1, 0));
+    put_record(3, 0);
+    HOLD(TAKE(0) == DAPOHIRU_BAD_RECORD && is_record(3, 0, 0));
+    HOLD(is_rule_of_pair());
+#undef TAKE
+}
+
 static void events_move_the_record_and_count_alarms(void)
 {
-    uint8_t rule[DAPOHIRU_RULE_LEN], kept[DAPOHIRU_RULE_LEN];
+    uint8_t own[DAPOHIRU_RULE_LEN], kept[DAPOHIRU_RULE_LEN];
     const uint64_t finals = 4;
 
-    memset(rule, 255, sizeof rule);
-    memcpy(rule, "\1\0\0", 3);
-    memcpy(rule + 16, "\1\0\2", 3);
-    memcpy(rule + 32, "\1\0\2", 3);
-    memcpy(kept, rule, sizeof rule);
-#define TAKE(symbol) dapohiru_event(rule, sizeof rule, 3, 3, finals, symbol, room, DAPOHIRU_RECORD_LEN)
+    memset(own, 255, sizeof own);
+    memcpy(own, "\1\0\0", 3);
+    memcpy(own + 16, "\1\0\2", 3);
+    memcpy(own + 32, "\1\0\2", 3);
+    memcpy(kept, own, sizeof own);
+#define TAKE(symbol) dapohiru_event(own, sizeof own, 3, 3, finals, symbol, room, DAPOHIRU_RECORD_LEN)
     put_record(0, 0);
     HOLD(TAKE(0) == DAPOHIRU_QUIET && is_record(1, 0, 0));
     HOLD(TAKE(2) == DAPOHIRU_ALARM && is_record(2, 1, 0));
@@ -339,17 +437,17 @@ static void events_move_the_record_and_count_alarms(void)
 
     put_record(2, 0);
     HOLD(TAKE(3) == DAPOHIRU_BAD_SYMBOL);
-    HOLD(dapohiru_event(rule, 255, 3, 3, finals, 0, room, DAPOHIRU_RECORD_LEN) == DAPOHIRU_BAD_RULE);
-    HOLD(dapohiru_event(rule, sizeof rule, 17, 3, finals, 0, room, DAPOHIRU_RECORD_LEN) == DAPOHIRU_BAD_RULE);
-    HOLD(dapohiru_event(rule, sizeof rule, 3, 0, finals, 0, room, DAPOHIRU_RECORD_LEN) == DAPOHIRU_BAD_RULE);
-    HOLD(dapohiru_event(rule, sizeof rule, 3, 3, 8, 0, room, DAPOHIRU_RECORD_LEN) == DAPOHIRU_BAD_RULE);
-    HOLD(dapohiru_event(rule, sizeof rule, 3, 4, finals, 0, room, DAPOHIRU_RECORD_LEN) == DAPOHIRU_BAD_RULE);
-    HOLD(dapohiru_event(rule, sizeof rule, 3, 3, finals, 0, room, DAPOHIRU_RECORD_LEN - 1) == DAPOHIRU_BAD_RECORD);
-    HOLD(dapohiru_event(rule, sizeof rule, 3, 3, finals, 0, room, DAPOHIRU_RECORD_LEN + 1) == DAPOHIRU_BAD_RECORD);
+    HOLD(dapohiru_event(own, 255, 3, 3, finals, 0, room, DAPOHIRU_RECORD_LEN) == DAPOHIRU_BAD_RULE);
+    HOLD(dapohiru_event(own, sizeof own, 17, 3, finals, 0, room, DAPOHIRU_RECORD_LEN) == DAPOHIRU_BAD_RULE);
+    HOLD(dapohiru_event(own, sizeof own, 3, 0, finals, 0, room, DAPOHIRU_RECORD_LEN) == DAPOHIRU_BAD_RULE);
+    HOLD(dapohiru_event(own, sizeof own, 3, 3, 8, 0, room, DAPOHIRU_RECORD_LEN) == DAPOHIRU_BAD_RULE);
+    HOLD(dapohiru_event(own, sizeof own, 3, 4, finals, 0, room, DAPOHIRU_RECORD_LEN) == DAPOHIRU_BAD_RULE);
+    HOLD(dapohiru_event(own, sizeof own, 3, 3, finals, 0, room, DAPOHIRU_RECORD_LEN - 1) == DAPOHIRU_BAD_RECORD);
+    HOLD(dapohiru_event(own, sizeof own, 3, 3, finals, 0, room, DAPOHIRU_RECORD_LEN + 1) == DAPOHIRU_BAD_RECORD);
     HOLD(is_record(2, 0, 0));
     put_record(3, 0);
     HOLD(TAKE(0) == DAPOHIRU_BAD_RECORD && is_record(3, 0, 0));
-    HOLD(memcmp(rule, kept, sizeof rule) == 0);
+    HOLD(memcmp(own, kept, sizeof own) == 0);
 }
 
 int main(void)
@@ -358,15 +456,20 @@ int main(void)
     pair_is_planned_listed_and_checked();
     calls_that_may_come_back_in_are_planned_and_checked();
     files_and_buffers_are_refused_by_number();
+    rule_of_pair_is_taken();
+    rules_of_other_sizes_are_taken();
     plans_are_priced_or_refused_by_number();
     plans_are_priced_by_a_file_or_refused_by_number();
     lead = ' ';
     pair_is_planned_listed_and_checked();
     calls_that_may_come_back_in_are_planned_and_checked();
     files_and_buffers_are_refused_by_number();
+    rule_of_pair_is_taken();
+    rules_of_other_sizes_are_taken();
     plans_are_refused_by_number();
     plans_are_priced_or_refused_by_number();
     plans_are_priced_by_a_file_or_refused_by_number();
+    events_are_taken_by_the_rule_of_the_job();
     events_move_the_record_and_count_alarms();
     printf("%d tests, %d failed\n", tests, failures);
     return failures == 0 && tests > 0 ? EXIT_SUCCESS : EXIT_FAILURE;

@@ -1,6 +1,6 @@
 /*
  * Lends one buffer that is a byte or more shorter than the call is told, so that valgrind must see the library
- * reach past it: past job | work | plan | listing | checked | priced | volumes | prices | rule | record.
+ * reach past it: past job | work | plan | listing | checked | priced | volumes | prices | taken | rule | record.
  */
 #include "dapohiru.h"
 #include "pair.h"
@@ -31,6 +31,7 @@ int main(int argc, char **argv)
     uint8_t *priced = lent(name, "priced", 3, 2);
     uint8_t *volumes = lent(name, "volumes", VOLUMES_LEN, VOLUMES_LEN - 1);
     uint8_t *prices = lent(name, "prices", PRICES_LEN, PRICES_LEN - 1);
+    uint8_t *taken = lent(name, "taken", DAPOHIRU_RULE_LEN, DAPOHIRU_RULE_LEN - 1);
     uint8_t *rule = lent(name, "rule", DAPOHIRU_RULE_LEN, DAPOHIRU_RULE_LEN - 1);
     uint8_t *rec = lent(name, "record", DAPOHIRU_RECORD_LEN, DAPOHIRU_RECORD_LEN - 1);
 
@@ -42,6 +43,7 @@ int main(int argc, char **argv)
     dapohiru_check(job, PAIR_LEN, checked, 3, work, DAPOHIRU_WORK_LEN);
     dapohiru_price(job, PAIR_LEN, priced, 3, volumes, VOLUMES_LEN);
     dapohiru_price_by(job, PAIR_LEN, priced, 3, volumes, VOLUMES_LEN, prices, PRICES_LEN);
+    dapohiru_rule(job, PAIR_LEN, work, DAPOHIRU_WORK_LEN, taken, DAPOHIRU_RULE_LEN);
     dapohiru_event(rule, DAPOHIRU_RULE_LEN, 16, 16, 0, 15, rec, DAPOHIRU_RECORD_LEN);
     free(job);
     free(work);
@@ -51,6 +53,7 @@ int main(int argc, char **argv)
     free(priced);
     free(volumes);
     free(prices);
+    free(taken);
     free(rule);
     free(rec);
     return 0;

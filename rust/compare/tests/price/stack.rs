@@ -158,7 +158,7 @@ fn calls_take_less_of_the_stack_than_the_header_says() {
     // for each call, and on the page for both at once
     let both = ["`dapohiru_price`", "`dapohiru_price_by`"];
     let said = said_by("include/dapohiru.h", 2, &[]);
-    assert_eq!(said, said_by("rust/src/lib.rs", 2, &[]));
+    assert_eq!(said, said_by("rust/src/price.rs", 2, &[]));
     assert_eq!(said, said_by("docs/SERVICE.md", 1, &both));
     // where the loader binds `memset` at the first call, that takes some 3,000 bytes more
     let right = said - ROOM..said - 4_096;

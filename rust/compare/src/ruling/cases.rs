@@ -1,0 +1,177 @@
+//! Random calls: jobs with buffers of the right lengths, and calls with faults.
+use super::memory::{Memory, Seen, MOST_RULE};
+use crate::memory::{start_of, MOST_WORK};
+use crate::on_file::OnFile;
+use dapohiru_generators::damage::Damaged;
+use dapohiru_generators::faults::{lengthen, possible, refused, short_work, NUMBERS};
+use dapohiru_generators::random::Random;
+use dapohiru_second::job::Job;
+use dapohiru_second::reading::WORK;
+use dapohiru_second::ruling::{take, Call, RULE};
+use dapohiru_second::slip::Slip;
+
+/// Lengths of rule buffers that are refused: near the right one, none, and such as are taken for the right one where
+/// high bits are lost.
+pub const LENGTHS: [usize; 11] = [
+    0,
+    1,
+    16,
+    255,
+    257,
+    272,
+    512,
+    WORK - 1,
+    WORK,
+    WORK + 1,
+    MOST_RULE,
+];
+
+/// One call: a job, its file or one like it with a fault, and the lengths of the buffers.
+#[derive(Clone, Debug)]
+pub struct Case {
+    pub job: Job,
+    pub file: Vec<u8>,
+    /// The refusal, 3 to 10, that the file deserves.
+    pub unread: Option<u64>,
+    pub work_len: usize,
+    pub rule_len: usize,
+}
+
+impl OnFile for Case {
+    fn file(&mut self) -> &mut Vec<u8> {
+        &mut self.file
+    }
+}
+
+impl Case {
+    /// A job, with buffers of the right lengths.
+    pub fn of(job: &Job) -> Self {
+        Case {
+            job: job.clone(),
+            file: job.file(),
+            unread: None,
+            work_len: WORK,
+            rule_len: RULE,
+        }
+    }
+
+    /// A damaged file, with buffers of the right lengths.
+    pub fn of_damaged(damaged: &Damaged) -> Self {
+        Case {
+            file: damaged.file.clone(),
+            unread: damaged.unread,
+            ..Case::of(&damaged.job)
+        }
+    }
+
+    /// Gives the call the fault that this refusal names: 1 to 10, or 13; 8 asks for a job with an edge. A fault of the
+    /// file makes another file, so it comes before 1.
+    pub fn with_fault(mut self, random: &mut Random, number: u64) -> Self {
+        match number {
+            1 => {
+                lengthen(random, &mut self.file);
+                self.unread = self.unread.or(Some(9));
+            }
+            2 => self.work_len = short_work(random),
+            13 => {
+                // as many bytes as the rule of the job has, too
+                let cells = self.job.states() * self.job.symbols as usize;
+                let near = random.pick(&[RULE - 1, RULE + 1, cells, 16 * self.job.states()]);
+                let any = random.pick(&LENGTHS);
+                let len = random.pick(&[near, any, any]);
+                self.rule_len = if len == RULE { RULE + 1 } else { len };
+            }
+            _ => {
+                self.file = refused(random, &self.job, number);
+                self.unread = Some(number);
+            }
+        }
+        self
+    }
+
+    /// What the second implementation wants to be seen, with one slip or with none.
+    pub fn wanted(&self, slip: Option<Slip>) -> Seen {
+        let call = Call {
+            file_len: self.file.len(),
+            held: self.unread.map_or(Ok(&self.job), Err),
+            work_len: self.work_len,
+            rule_len: self.rule_len,
+        };
+        Seen::wanted(take(&call, slip))
+    }
+
+    /// What is seen of the library, or in words how it differs from the second implementation with this slip or with
+    /// none.
+    pub fn compare(&self, memory: &mut Memory, slip: Option<Slip>) -> Result<Seen, String> {
+        let wanted = self.wanted(slip);
+        match memory.call(&self.file, self.work_len, self.rule_len) {
+            Ok(seen) if seen == wanted => Ok(seen),
+            Ok(seen) => Err(format!(
+                "of the rule the library leaves\n{}\nand the second implementation\n{}\n{}",
+                leaves(&seen),
+                leaves(&wanted),
+                self.words()
+            )),
+            Err(why) => Err(format!("{why}; {}", self.words())),
+        }
+    }
+
+    /// The call in words; of a long file only its start.
+    pub fn words(&self) -> String {
+        format!(
+            "rule buffer of {} and work buffer of {} bytes, file of {} bytes:\n{}",
+            self.rule_len,
+            self.work_len,
+            self.file.len(),
+            start_of(&self.file)
+        )
+    }
+}
+
+/// What a call leaves, in words: the rule by rows, a byte that is as it was as a dot.
+fn leaves(seen: &Seen) -> String {
+    let Seen {
+        number,
+        written,
+        cleared,
+    } = seen;
+    let shown = |byte: &Option<u8>| byte.map_or(" .".to_string(), |byte| format!("{byte:2}"));
+    let rows: Vec<_> = written
+        .chunks(16)
+        .map(|row| row.iter().map(shown).collect::<Vec<_>>().join(" "))
+        .collect();
+    format!(
+        "number {number:#x}, {cleared} bytes cleared, written {} bytes\n{}",
+        written.len(),
+        rows.join("\n")
+    )
+}
+
+/// The calls of one job: with work buffers of several lengths, and some with one fault or more.
+pub fn cases(random: &mut Random, job: &Job) -> Vec<Case> {
+    let mut cases = vec![
+        Case::of(job).with_zeros(random),
+        Case::of(job).with_zeros(random),
+    ];
+    cases[1].work_len = random.pick(&[WORK + 1, WORK + 64, MOST_WORK]);
+    cases.push(Case::of(job).with_zeros(random).with_fault(random, 13));
+    for _ in 0..3 {
+        let case = Case::of(job).with_zeros(random);
+        cases.push(faulty_case(random, case));
+    }
+    cases
+}
+
+/// A call with one fault or two, now and then three.
+fn faulty_case(random: &mut Random, mut case: Case) -> Case {
+    for _ in 0..random.pick(&[1, 2, 2, 3]) {
+        let number = match random.below(6) {
+            0 => 1,
+            1 => 2,
+            2..=3 if case.unread.is_none() => possible(&case.job, random.pick(&NUMBERS)),
+            _ => 13,
+        };
+        case = case.with_fault(random, number);
+    }
+    case
+}
