@@ -1,4 +1,5 @@
 //! What a plan costs, point by point, beside what all points watched would cost.
+use crate::explain::plan_word;
 use crate::names::Names;
 use crate::table::{table, Side};
 use crate::tariff::Tariff;
@@ -50,7 +51,7 @@ impl Point {
             names.symbol(self.symbol),
             self.volume.to_string(),
             self.rate.to_string(),
-            if self.watched { "watched" } else { "unwatched" }.to_string(),
+            plan_word(self.watched).to_string(),
             cost,
             watched,
         ]
@@ -86,7 +87,7 @@ impl Bill<'_> {
         rows.extend(self.points.iter().map(|point| point.row(names)));
         rows.push(["sum", "", "", "", "", &under, &full].map(str::to_string));
         let (left, right) = (Side::Left, Side::Right);
-        let sides = [right, left, right, right, left, right, right];
+        let sides = [names.node_side(), left, right, right, left, right, right];
         let words = format!(
             "\nA part of a cent counts as a cent once, in the sum.\n\
              {}The plan costs {}.\n\

@@ -38,6 +38,11 @@ impl Json {
     }
 }
 
+/// A document of these fields, as a line.
+pub fn document(fields: Vec<(&'static str, Json)>) -> String {
+    format!("{}\n", Json::Object(fields))
+}
+
 impl Display for Json {
     /// All of it on one line.
     fn fmt(&self, out: &mut Formatter) -> fmt::Result {
