@@ -1,33 +1,64 @@
-//! Pictures by Graphviz.
+//! Pictures by Graphviz's program `dot`.
 use crate::child::{self, End};
-use crate::{progress, shown};
+use crate::{output, progress, shown};
 use std::io::ErrorKind;
 use std::process::{Command, Output};
 use std::time::Duration;
 
-/// How long a picture may take.
-const MOST: Duration = Duration::from_secs(60);
+/// The edges up to which `dot` takes seconds with its own layout; with four times as many it takes minutes.
+const MOST_EDGES: usize = 400;
+/// The layout of larger graphs, in which no node covers another.
+const LARGE: [&str; 2] = ["-Ksfdp", "-Goverlap=prism"];
 
-/// The picture of a graph in a format of Graphviz.
-pub fn picture(format: &str, graph: String) -> Result<Vec<u8>, String> {
-    let mut command = Command::new("dot");
-    command.arg(format!("-T{format}"));
-    let run = || child::run(&mut command, graph.into_bytes(), MOST);
-    let ended = progress::during("drawing", run).map_err(|why| match why.kind() {
-        ErrorKind::NotFound => format!(
-            "graph: --{format} needs the program dot, which is not installed (Debian's package graphviz); \
-             without --{format} the graph is printed as text"
-        ),
-        _ => format!("dot: {why}"),
-    })?;
-    match ended {
-        End::Itself(done, true) if done.status.success() => Ok(done.stdout),
-        End::Itself(done, _) => Err(failed(&done)),
-        End::Stopped => Err("graph: stopped; dot is ended too, and nothing is written".to_string()),
-        End::Late => Err(format!(
-            "graph: dot has not drawn it in {} seconds, and is ended; without --{format} the graph is printed as text",
-            MOST.as_secs()
-        )),
+/// What is asked of a picture.
+pub struct Picture {
+    /// A format of `dot`.
+    pub format: &'static str,
+    /// How many edges the graph has.
+    pub edges: usize,
+    /// How long it may take.
+    pub most: Duration,
+}
+
+impl Picture {
+    /// The picture of a graph.
+    pub fn of(&self, graph: String) -> Result<Vec<u8>, String> {
+        let mut command = Command::new("dot");
+        command.arg(format!("-T{}", self.format));
+        if self.edges > MOST_EDGES {
+            command.args(LARGE);
+            output::note(&format!(
+                "note: with {} edges the picture is laid out by sfdp; its nodes are not ordered by the flow\n",
+                self.edges
+            ))?;
+        }
+        let run = || child::run(&mut command, graph.into_bytes(), self.most);
+        let ended = progress::during("drawing", run);
+        match ended.map_err(|why| self.unstarted(why.kind(), &why.to_string()))? {
+            End::Itself(done, true) if done.status.success() => Ok(done.stdout),
+            End::Itself(done, _) => Err(failed(&done)),
+            End::Stopped => {
+                Err("graph: stopped; dot is ended too, and nothing is written".to_string())
+            }
+            End::Late => Err(format!(
+                "graph: dot has not drawn it in {} seconds, and is ended; --seconds gives it longer, and without --{} \
+                 the graph is printed as text",
+                self.most.as_secs(),
+                self.format
+            )),
+        }
+    }
+
+    /// What is said where the program cannot be run.
+    fn unstarted(&self, kind: ErrorKind, why: &str) -> String {
+        let format = self.format;
+        match kind {
+            ErrorKind::NotFound => format!(
+                "graph: --{format} needs the program dot, which is not installed (Debian's package graphviz); \
+                 without --{format} the graph is printed as text"
+            ),
+            _ => format!("dot: {why}"),
+        }
     }
 }
 

@@ -1,19 +1,23 @@
 //! The command `graph`: the flow graph of a job, with its plan.
 use crate::args::{Command, Given};
+use crate::dot::Picture;
 use crate::drawing::drawn;
 use crate::names::Names;
-use crate::{dot, input, job, output};
+use crate::{input, job, output, shown};
+use std::ffi::OsStr;
 use std::io::{self, IsTerminal};
+use std::time::Duration;
 
 pub const COMMAND: Command = Command {
     name: "graph",
-    usage: "graph JOB [PLAN] [--svg | --png] [--names FILE] [-o FILE]",
+    usage: "graph JOB [PLAN] [--svg | --png] [--seconds S] [--names FILE] [-o FILE]",
     summary: "Draws the flow graph of a job for Graphviz, with the watched points marked.",
     details: "
   JOB           a job file
   PLAN          a file that holds a line of 0 and 1; without it the plan that `plan` makes
   --svg         a picture, made by Graphviz's program dot, which must be installed
   --png         likewise
+  --seconds S   how long the picture may take, 1 to 3600; without it 60
   --names FILE  names for the symbols, nodes and states; `dapohiru help` shows such a file
   -o FILE       writes there and not to standard output; the file is written whole or not at all; - is
                 standard output
@@ -24,12 +28,15 @@ come back in (re-entrant calls) with a double line, plain nodes ellipses. An ent
 its set of start states, an exit one to `exit`. Dashed arrows lead from re-entrant calls by way of
 `comes in again` to the entries, and from exits by way of `returns` to re-entrant calls. A plan that
 is different is drawn too, with a note on standard error.
+A picture of more than 400 edges is laid out by Graphviz's sfdp, which takes seconds where dot takes
+minutes and does not order the nodes by the flow; a note says so. An interrupt ends dot too, and no
+file is written.
 Exit status: 0 drawn; 2 a refused job or plan, or something else that is wrong.
 ",
     names: &["JOB"],
     more: 1,
     flags: &["--svg", "--png"],
-    options: &[("--names", "FILE"), ("-o", "FILE")],
+    options: &[("--seconds", "S"), ("--names", "FILE"), ("-o", "FILE")],
     run,
 };
 
@@ -44,6 +51,7 @@ fn run(given: &Given) -> Result<u8, String> {
     if picture == Some("png") && to.is_none() && io::stdout().is_terminal() {
         return Err("graph: a PNG picture is not for a terminal, take -o FILE".to_string());
     }
+    let most = seconds(given.value("--seconds"))?;
     let names = given.value("--names");
     let files = [
         ("JOB", given.further(0)),
@@ -63,7 +71,28 @@ fn run(given: &Given) -> Result<u8, String> {
     let text = drawn(&job, &plan, &names);
     let bytes = match picture {
         None => text.into_bytes(),
-        Some(picture) => dot::picture(picture, text)?,
+        Some(format) => {
+            let picture = Picture {
+                format,
+                edges: job.edges.len(),
+                most,
+            };
+            picture.of(text)?
+        }
     };
     output::deliver(to, &bytes).map(|()| 0)
+}
+
+/// How long a picture may take.
+fn seconds(asked: Option<&OsStr>) -> Result<Duration, String> {
+    let Some(asked) = asked else {
+        return Ok(Duration::from_secs(60));
+    };
+    match asked.to_str().and_then(|asked| asked.parse().ok()) {
+        Some(seconds @ 1..=3600) => Ok(Duration::from_secs(seconds)),
+        _ => Err(format!(
+            "graph: --seconds is {}, and a picture may take 1 to 3600",
+            shown::name(asked)
+        )),
+    }
 }

@@ -1,5 +1,9 @@
 //! The program that draws the pictures, and how it ends.
-use crate::program::{ended, example, file, folder, names, shell, terminal, Done, PROGRAM};
+use crate::program::{ended, example, file, folder, names, run, shell, terminal, Done, PROGRAM};
+use dapohiru_generators::large::{job_of, Order};
+use dapohiru_generators::random::Random;
+use dapohiru_generators::reentry::Reentry;
+use dapohiru_generators::samples::one_seal;
 use std::fs;
 use std::path::Path;
 use std::process::{Child, Command, Stdio};
@@ -137,7 +141,7 @@ fn dot_that_leaves_its_input_is_told() {
     );
     // and one that reads all gets all
     let (status, printed, _) = with_dot(&folder, "#!/bin/sh\nwc -c\n", &words);
-    let graph = crate::program::run(&["graph", &example("pair.job"), "--names", words[4]], "").1;
+    let graph = run(&["graph", &example("pair.job"), "--names", words[4]], "").1;
     assert_eq!(
         (status, printed.trim()),
         (0, graph.len().to_string().as_str())
@@ -163,4 +167,71 @@ fn drawing_is_said_on_a_terminal_alone() {
     // what goes wrong stands in a line of its own
     let (_, printed, _) = terminal(&["graph", &example("nowhere.job"), "--svg"]);
     assert!(printed.starts_with("dapohiru: "), "{printed}");
+}
+
+#[test]
+fn picture_that_takes_too_long_is_given_up() {
+    let folder = folder("child-late");
+    let picture = folder.join("pair.svg").display().to_string();
+    let job = example("pair.job");
+    let words = ["graph", &job, "--svg", "--seconds", "1", "-o", &picture];
+    let wrong = "dapohiru: graph: dot has not drawn it in 1 seconds, and is ended; --seconds gives it longer, \
+                 and without --svg the graph is printed as text\n";
+    let done = with_dot(&folder, &endless(&folder), &words);
+    assert_eq!(done, (2, String::new(), wrong.to_string()));
+    assert!(!runs(&pid(&folder.join("pid"))));
+    assert_eq!(names(&folder), ["dot", "pid"]);
+    for seconds in ["0", "3601", "x", "-1", "1.5"] {
+        let wrong =
+            format!("dapohiru: graph: --seconds is {seconds}, and a picture may take 1 to 3600\n");
+        let done = run(
+            &["graph", &job, "--svg", &format!("--seconds={seconds}")],
+            "",
+        );
+        assert_eq!(done, (2, String::new(), wrong));
+    }
+}
+
+/// A job of so many edges.
+fn edges(count: u64) -> String {
+    let mut job = one_seal(0);
+    let node = job.nodes[0].clone();
+    job.nodes = vec![node; 64];
+    job.edges = (0..count).map(|edge| (edge / 64, edge % 64)).collect();
+    String::from_utf8(job.file()).unwrap()
+}
+
+#[test]
+fn large_graphs_are_laid_out_by_sfdp() {
+    let folder = folder("child-large");
+    let dot = "#!/bin/sh\ncat > /dev/null; echo \"$@\"\n";
+    let note = "note: with 401 edges the picture is laid out by sfdp; its nodes are not ordered by the flow\n";
+    for (count, words, said) in [
+        (400, "-Tpng\n", ""),
+        (401, "-Tpng -Ksfdp -Goverlap=prism\n", note),
+    ] {
+        let job = file(&folder, "large.job", edges(count).as_bytes());
+        let done = with_dot(&folder, dot, &["graph", &job, "--png"]);
+        assert_eq!(done, (0, words.to_string(), said.to_string()));
+        // as text there is nothing to lay out
+        assert_eq!(run(&["graph", &job], "").2, "");
+    }
+}
+
+#[test]
+fn graph_of_full_size_is_drawn_where_dot_is_installed() {
+    let folder = folder("child-full");
+    let mut random = Random::of_this_run();
+    let mut job = job_of(&mut random, Order::Flow, 512, Reentry::Often);
+    job.edges = (0..2_048)
+        .map(|edge| (edge / 4, random.below(128) + edge % 4 * 128))
+        .collect();
+    let job = file(&folder, "full.job", &job.file());
+    let installed = Command::new("dot").arg("-V").output().is_ok();
+    println!("dot is installed: {installed}");
+    if installed {
+        let (status, printed, wrong) = run(&["graph", &job, "--svg"], "");
+        assert_eq!((status, wrong.lines().count()), (0, 1), "{wrong}");
+        assert_eq!(printed.matches("class=\"node\"").count() >= 512, true);
+    }
 }

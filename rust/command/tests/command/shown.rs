@@ -200,7 +200,7 @@ fn refused_jobs_of_a_release_have_their_lines_each() {
 #[test]
 fn what_is_found_in_a_file_is_escaped() {
     for (found, shown) in [
-        ("\x1b]0;t", "\\u{1b}]0;t"),
+        ("\x1b]0;ti", "\\u{1b}]0;ti"),
         ("\u{202e}\u{202e}", "\\u{202e}\\u{202e}"),
         ("\u{fc}\u{fc}\u{fc}", "\u{fc}\u{fc}\u{fc}"),
         ("a\\n\r\t\0", "a\\\\n\\r\\t\\0"),

@@ -21,6 +21,8 @@ fn unknown_command_is_told_with_the_known_ones() {
         (&["monitor"], "monitor is no command"),
         (&["-"], "- is no command"),
         (&["--quick", "plan"], "--quick is no command"),
+        (&["help", "monitor"], "monitor is no command"),
+        (&["PLAN"], "PLAN is no command"),
     ] {
         let wrong = format!("dapohiru: {why}\n{known}");
         assert_eq!(run(words, ""), (2, String::new(), wrong));
@@ -67,6 +69,16 @@ fn wrong_words_are_told_with_the_usage() {
         (&["release", &job, "-o"], "-o is not followed by OUTDIR"),
         (&["watch", &job, "--state"], "--state is not followed by Q"),
         (&["watch", &job, "--state="], "--state is not followed by Q"),
+        (&["release", &job, "--names=x"], "--names=x is no option"),
+        (&["graph", &job, "--json"], "--json is no option"),
+        (
+            &["check", &job, "b", "--names"],
+            "--names is not followed by FILE",
+        ),
+        (
+            &["graph", &job, "--names", "--svg"],
+            "--names is not followed by FILE",
+        ),
         (
             &["list", &job, "--names"],
             "--names is not followed by FILE",
@@ -157,15 +169,31 @@ fn words_that_do_not_go_together_are_told() {
     for (words, why) in [
         (
             &["list", &job, "--names", "x"][..],
-            "list: --names is only of use with --explain",
+            "list: --names is only of use with --explain or --json",
         ),
         (
             &["list", "-", "--explain", "--names=-"],
             "list: JOB and the names cannot both be standard input",
         ),
         (
+            &["list", &job, "--explain", "--json"],
+            "list: --explain and --json are two forms, take one",
+        ),
+        (
             &["check", "-", "-"],
             "check: JOB and PLAN cannot both be standard input",
+        ),
+        (
+            &["check", &job, "-", "--names=-"],
+            "check: PLAN and the names cannot both be standard input",
+        ),
+        (
+            &["check", &job, "b", "--json", "--explain"],
+            "check: --explain and --json are two forms, take one",
+        ),
+        (
+            &["graph", "-", "--names", "-"],
+            "graph: JOB and the names cannot both be standard input",
         ),
         (
             &["graph", "-", "-"],
@@ -282,7 +310,12 @@ fn help_is_printed_for_all_and_for_each() {
             assert!(printed.contains(&line), "{printed}");
         }
     }
+    let all = run(&["--help"], "");
+    for words in [&["help"][..], &["help", "help"], &["help", "--help"]] {
+        assert_eq!(run(words, ""), all);
+    }
     for name in COMMANDS {
+        assert_eq!(run(&["help", name], ""), run(&[name, "--help"], ""));
         for words in [
             &[name, "--help"][..],
             &[name, "-h"],
@@ -299,4 +332,15 @@ fn help_is_printed_for_all_and_for_each() {
             assert!(printed.contains("\nExit status: 0 "));
         }
     }
+}
+
+#[test]
+fn version_is_printed() {
+    let printed = format!("dapohiru {}\n", env!("CARGO_PKG_VERSION"));
+    for words in [&["--version"][..], &["-V"]] {
+        assert_eq!(run(words, ""), (0, printed.clone(), String::new()));
+    }
+    let wrong = "dapohiru: help: list is one name too many\nusage: dapohiru help [COMMAND]\n";
+    let done = run(&["help", "plan", "list"], "");
+    assert_eq!(done, (2, String::new(), wrong.to_string()));
 }
