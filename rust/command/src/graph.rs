@@ -66,7 +66,7 @@ fn run(given: &Given) -> Result<u8, String> {
     let names = Names::read(names, &job)?;
     let plan = match given.further(1) {
         None => job::planned(&file)?.0,
-        Some(plan) => job::given_plan(&file, input::plan(plan)?, &names)?,
+        Some(plan) => job::named_plan(&file, input::plan(plan)?, &names)?,
     };
     let text = drawn(&job, &plan, &names);
     let bytes = match picture {

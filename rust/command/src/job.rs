@@ -34,7 +34,12 @@ pub fn priced(job: &Input, plan: &Plan, volumes: &Input, tariff: &Tariff) -> Res
 }
 
 /// The bytes of a plan that the proved call accepts; of one that is different a note says so.
-pub fn given_plan(job: &Input, plan: Plan, names: &Names) -> Result<Vec<u8>, String> {
+pub fn given_plan(job: &Input, plan: Plan) -> Result<Vec<u8>, String> {
+    named_plan(job, plan, &Names::default())
+}
+
+/// The same with names for what is said of a refusal.
+pub fn named_plan(job: &Input, plan: Plan, names: &Names) -> Result<Vec<u8>, String> {
     if checked(job, &plan, names)? == Verdict::Different {
         let shown = &plan.shown;
         output::note(&format!(

@@ -68,7 +68,7 @@ fn run(given: &Given) -> Result<u8, String> {
         }
     };
     // writes a note where the plan is different
-    job::given_plan(&file, plan, &Names::default())?;
+    job::given_plan(&file, plan)?;
     output::print(text.as_bytes()).map(|()| 0)
 }
 

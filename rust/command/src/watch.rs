@@ -3,7 +3,6 @@ use crate::args::{Command, Given};
 use crate::events::decimal;
 use crate::job;
 use crate::monitor::Watch;
-use crate::names::Names;
 use crate::{input, output};
 use dapohiru_second::job::Job;
 use std::ffi::OsStr;
@@ -46,7 +45,7 @@ fn run(given: &Given) -> Result<u8, String> {
     let job = job::accepted(&file)?;
     let plan = match plan {
         None => job.all_watched(),
-        Some(plan) => job::given_plan(&file, input::plan(plan)?, &Names::default())?,
+        Some(plan) => job::given_plan(&file, input::plan(plan)?)?,
     };
     let state = start(&job, given.value("--state"))?;
     Watch::begin(&job, plan, state).over(io::stdin().lock())
