@@ -108,7 +108,7 @@ impl Finding {
         match self {
             Finding::Checked { verdict, .. } => check::word(*verdict).to_string(),
             Finding::Missing => "missing".to_string(),
-            Finding::JobRefused(told) => format!("job {}", told.refusal),
+            Finding::JobRefused(_) => "job refused".to_string(),
             Finding::PlanRefused(told) => told.refusal.to_string(),
             Finding::NoPlan(_) => "no plan".to_string(),
             Finding::Failed(_) => "not read".to_string(),
@@ -191,7 +191,7 @@ fn report(findings: &[(&Path, Finding)], all: usize) -> String {
     }
     format!(
         "{}{} of {all} jobs with a faithful plan, {} as planned, {} older than the job\n",
-        table([Side::Left; 4], &rows),
+        table([Side::Name, Side::Left, Side::Left, Side::Left], &rows),
         count(findings, Finding::is_faithful),
         count(findings, Finding::is_as_planned),
         count(findings, Finding::is_older)

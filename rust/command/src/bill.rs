@@ -86,8 +86,9 @@ impl Bill<'_> {
         let mut rows = vec![headings.map(str::to_string)];
         rows.extend(self.points.iter().map(|point| point.row(names)));
         rows.push(["sum", "", "", "", "", &under, &full].map(str::to_string));
-        let (left, right) = (Side::Left, Side::Right);
-        let sides = [names.node_side(), left, right, right, left, right, right];
+        let (name, left, right) = (Side::Name, Side::Left, Side::Right);
+        let nodes = names.node_side();
+        let sides = [nodes, name, right, right, left, right, right];
         let words = format!(
             "\nA part of a cent counts as a cent once, in the sum.\n\
              {}The plan costs {}.\n\

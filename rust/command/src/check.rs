@@ -97,7 +97,6 @@ fn explained(verdict: Verdict, job: &Job, plan: &Plan, own: &[u8], names: &Names
         ]
     };
     rows.extend(points.iter().map(row));
-    let left = Side::Left;
     let watched = |plan: &[u8]| plan.iter().filter(|&&byte| byte == 1).count();
     let means = match verdict {
         Verdict::Faithful => "On every walk the alarms are those of all points watched.",
@@ -105,7 +104,10 @@ fn explained(verdict: Verdict, job: &Job, plan: &Plan, own: &[u8], names: &Names
     };
     format!(
         "{}Of {} event nodes this plan watches {}, and planning's own {}.\n{means}\n",
-        table([names.node_side(), left, left, left], &rows),
+        table(
+            [names.node_side(), Side::Name, Side::Left, Side::Left],
+            &rows
+        ),
         points.len(),
         watched(&plan.bytes),
         watched(own)

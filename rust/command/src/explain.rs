@@ -13,8 +13,8 @@ pub fn explained(listing: &Listing, job: &Job, names: &Names) -> String {
     let words: String = words
         .map(|found| words_of(found, job.states(), names))
         .collect();
-    let (left, right) = (Side::Left, Side::Right);
-    let sides = [names.node_side(), left, left, right, left, left];
+    let (name, left) = (Side::Name, Side::Left);
+    let sides = [names.node_side(), name, name, Side::Right, left, left];
     table(sides, &rows) + &totals(&listing.totals) + &ways_back(job, names) + &words
 }
 

@@ -126,7 +126,7 @@ impl Names {
     /// The side of a column of nodes: the left where nodes have names.
     pub fn node_side(&self) -> Side {
         match self.0[Kind::Node as usize].iter().any(Option::is_some) {
-            true => Side::Left,
+            true => Side::Name,
             false => Side::Right,
         }
     }

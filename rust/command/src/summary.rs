@@ -49,7 +49,7 @@ pub fn summary(outcomes: &[(&Path, Outcome)], elapsed: Duration) -> String {
     let (planned, sum) = totals(outcomes);
     rows.push(row(format!("{planned} planned"), &sum, elapsed));
     let right = Side::Right;
-    table([Side::Left, right, right, right, right], &rows)
+    table([Side::Name, right, right, right, right], &rows)
 }
 
 fn row(name: String, counts: &Counts, time: Duration) -> [String; 5] {

@@ -7,9 +7,11 @@ use std::io;
 pub enum Side {
     Left,
     Right,
+    /// The left, for names, which may be long.
+    Name,
 }
 
-/// The columns that a cell on the left keeps on the narrowest terminal.
+/// The columns that names keep on the narrowest terminal.
 const LEAST: usize = 10;
 /// What stands for the middle of a cell that is too long.
 const CUT: &str = "..";
@@ -19,8 +21,8 @@ pub fn table<const N: usize>(sides: [Side; N], rows: &[[String; N]]) -> String {
     fitted(sides, rows, terminal::columns(&io::stdout()))
 }
 
-/// The rows with two spaces between columns. Where so many columns of a terminal are too few, cells on the left
-/// are cut in the middle, and then one space stands between columns; numbers stay whole.
+/// The rows with two spaces between columns. Where so many columns of a terminal are too few, names are cut in
+/// the middle, and then one space stands between columns; all else stays whole.
 fn fitted<const N: usize>(sides: [Side; N], rows: &[[String; N]], room: Option<usize>) -> String {
     let width = |column: usize| {
         let cells = rows.iter().map(|row| shown::width(&row[column]));
@@ -29,8 +31,8 @@ fn fitted<const N: usize>(sides: [Side; N], rows: &[[String; N]], room: Option<u
     let whole: Vec<_> = (0..N).map(width).collect();
     let widths = |most: usize| -> Vec<_> {
         let cut = |(&width, side): (&usize, Side)| match side {
-            Side::Left => width.min(most),
-            Side::Right => width,
+            Side::Name => width.min(most),
+            Side::Left | Side::Right => width,
         };
         whole.iter().zip(sides).map(cut).collect()
     };
@@ -58,8 +60,8 @@ fn fitted<const N: usize>(sides: [Side; N], rows: &[[String; N]], room: Option<u
 fn padded(cell: &str, width: usize, side: Side) -> String {
     let room = " ".repeat(width.saturating_sub(shown::width(cell)));
     match side {
-        Side::Left => cell.to_string() + &room,
         Side::Right => room + cell,
+        Side::Left | Side::Name => cell.to_string() + &room,
     }
 }
 
@@ -95,7 +97,7 @@ mod tests {
     fn of(name: &str, room: Option<usize>) -> String {
         let rows = [["job", "points"], [name, "3"], ["1 planned", "12345"]];
         let rows = rows.map(|row| row.map(str::to_string));
-        fitted([Side::Left, Side::Right], &rows, room)
+        fitted([Side::Name, Side::Right], &rows, room)
     }
 
     #[test]
@@ -133,5 +135,9 @@ mod tests {
         for room in [1, 10, 16] {
             assert_eq!(of(&name, Some(room)), wanted);
         }
+        // what is no name is never cut
+        let rows = [["plan"; 2], ["refused by its job"; 2]].map(|row| row.map(str::to_string));
+        let printed = fitted([Side::Left; 2], &rows, Some(1));
+        assert_eq!(printed.matches("refused by its job").count(), 2);
     }
 }

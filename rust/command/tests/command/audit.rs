@@ -75,16 +75,16 @@ fn every_plan_is_held_against_its_job() {
     assert_eq!(status, 1);
     assert_eq!(
         printed,
-        "job              plan           as planned  older\n\
-         a-own.job        faithful       yes         no\n\
-         b-other.job      faithful       no          no\n\
-         c-different.job  different      no          no\n\
-         d-older.job      faithful       yes         yes\n\
+        "job              plan         as planned  older\n\
+         a-own.job        faithful     yes         no\n\
+         b-other.job      faithful     no          no\n\
+         c-different.job  different    no          no\n\
+         d-older.job      faithful     yes         yes\n\
          e-short.job      refused 11\n\
          f-digit.job      refused 12\n\
          g-text.job       no plan\n\
          h-missing.job    missing\n\
-         i-refused.job    job refused 4\n\
+         i-refused.job    job refused\n\
          3 of 9 jobs with a faithful plan, 2 as planned, 1 older than the job\n"
     );
     let lines: Vec<_> = wrong
