@@ -7,6 +7,7 @@ use crate::summary::{complain, complain_of_stop, names};
 use crate::table::{table, Side};
 use crate::{check, input, job, output, shown, stop};
 use dapohiru::Verdict;
+use std::collections::HashSet;
 use std::ffi::OsString;
 use std::fs;
 use std::io::ErrorKind;
@@ -47,7 +48,7 @@ pub fn run(found: &Folder, plans: &Path, as_json: bool) -> Result<u8, String> {
 
 /// The plan files that have no job, in order.
 fn orphans(found: &Folder, plans: &Path) -> Result<Vec<OsString>, String> {
-    let owned: Vec<_> = found.jobs.iter().map(|job| plan_of(job, plans)).collect();
+    let owned: HashSet<_> = found.jobs.iter().map(|job| plan_of(job, plans)).collect();
     let is_plan = |path: &Path| {
         let hidden = name_of(path).as_encoded_bytes().starts_with(b".");
         !hidden && path.extension().is_some_and(|ending| ending == "plan")

@@ -40,13 +40,18 @@ impl Picture {
             End::Stopped => {
                 Err("graph: stopped; dot is ended too, and nothing is written".to_string())
             }
-            End::Late => Err(format!(
-                "graph: dot has not drawn it in {} seconds, and is ended; --seconds gives it longer, and without --{} \
-                 the graph is printed as text",
-                self.most.as_secs(),
-                self.format
-            )),
+            End::Late => Err(self.late()),
         }
+    }
+
+    /// What is said where the program has taken too long.
+    fn late(&self) -> String {
+        let (format, seconds) = (self.format, self.most.as_secs());
+        let noun = if seconds == 1 { "second" } else { "seconds" };
+        format!(
+            "graph: dot has not drawn it in {seconds} {noun}, and is ended; --seconds gives it longer, and without \
+             --{format} the graph is printed as text"
+        )
     }
 
     /// What is said where the program cannot be run.

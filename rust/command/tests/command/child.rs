@@ -175,7 +175,7 @@ fn picture_that_takes_too_long_is_given_up() {
     let picture = folder.join("pair.svg").display().to_string();
     let job = example("pair.job");
     let words = ["graph", &job, "--svg", "--seconds", "1", "-o", &picture];
-    let wrong = "dapohiru: graph: dot has not drawn it in 1 seconds, and is ended; --seconds gives it longer, \
+    let wrong = "dapohiru: graph: dot has not drawn it in 1 second, and is ended; --seconds gives it longer, \
                  and without --svg the graph is printed as text\n";
     let done = with_dot(&folder, &endless(&folder), &words);
     assert_eq!(done, (2, String::new(), wrong.to_string()));
