@@ -17,7 +17,7 @@ pub const COMMAND: Command = Command {
   PLAN          a file that holds a line of 0 and 1; without it the plan that `plan` makes
   --svg         a picture, made by Graphviz's program dot, which must be installed
   --png         likewise
-  --seconds S   how long the picture may take, 1 to 3600; without it 60
+  --seconds S   with --svg or --png, how long the picture may take, 1 to 3600; without it 60
   --names FILE  names for the symbols, nodes and states; `dapohiru help` shows such a file
   -o FILE       writes there and not to standard output; the file is written whole or not at all; - is
                 standard output
@@ -50,6 +50,9 @@ fn run(given: &Given) -> Result<u8, String> {
     let to = output::named(given.value("-o"));
     if picture == Some("png") && to.is_none() && io::stdout().is_terminal() {
         return Err("graph: a PNG picture is not for a terminal, take -o FILE".to_string());
+    }
+    if picture.is_none() && given.value("--seconds").is_some() {
+        return Err("graph: --seconds is only of use with --svg or --png".to_string());
     }
     let most = seconds(given.value("--seconds"))?;
     let names = given.value("--names");

@@ -5,6 +5,7 @@ mod child;
 mod docs;
 mod full;
 mod graph;
+mod help;
 mod json;
 mod kinds;
 mod list;

@@ -1,5 +1,5 @@
 //! Tables and the progress bar on terminals of many widths.
-use crate::program::{example, file, folder, narrow, run, PAIR};
+use crate::program::{example, file, folder, narrow, run, shell, PAIR};
 use std::path::PathBuf;
 
 /// A folder of jobs with short and long names.
@@ -92,4 +92,19 @@ fn names_of_symbols_are_cut_in_the_table_alone() {
         printed.contains(&format!("   0  0 {name}  {{0}} ")),
         "{printed}"
     );
+}
+
+#[test]
+fn columns_that_are_asked_for_take_the_place_of_the_terminals() {
+    let folder = jobs("narrow-asked");
+    let script = "SHELL=$BASH script -qec \"stty cols 120; $(printf '%q ' \"$@\")\" /dev/null";
+    let words = ["release", folder.to_str().unwrap()];
+    for (asked, width) in [("50", 50), ("0", 120), ("wide", 120), ("", 120)] {
+        let (_, printed, _) = shell(&format!("COLUMNS={asked} {script}"), &words);
+        let (_, table) = printed.rsplit_once("\r\x1b[K").unwrap();
+        let widest = table.lines().map(columns).max().unwrap();
+        assert_eq!(widest, width, "{asked}: {table}");
+    }
+    let (_, printed, _) = shell("COLUMNS=50 \"$@\"", &words);
+    assert!(printed.contains(&"c".repeat(250)), "{printed}");
 }

@@ -1,4 +1,4 @@
-//! The words of the command line: wrong ones, missing files, and the help.
+//! The words of the command line: wrong ones, and missing files.
 use crate::program::{example, run};
 
 /// The commands, in the order of the help.
@@ -7,7 +7,7 @@ pub const COMMANDS: [&str; 8] = [
 ];
 
 /// A command's name, and what follows it in its usage: words, or for `prices`, which takes none, the line's end.
-fn named(name: &str) -> String {
+pub fn named(name: &str) -> String {
     let end = if name == "prices" { '\n' } else { ' ' };
     format!("{name}{end}")
 }
@@ -256,6 +256,10 @@ fn words_that_do_not_go_together_are_told() {
             "release: -o is -, and plan files go to a folder; one named - is ./-",
         ),
         (
+            &["graph", &job, "--seconds", "5"],
+            "graph: --seconds is only of use with --svg or --png",
+        ),
+        (
             &["graph", &job, "--svg", "--png"],
             "graph: --svg and --png are two pictures, take one",
         ),
@@ -297,50 +301,4 @@ fn missing_file_is_named() {
         (status, wrong.as_str()),
         (2, "dapohiru: /: Is a directory (os error 21)\n")
     );
-}
-
-#[test]
-fn help_is_printed_for_all_and_for_each() {
-    for words in [&["--help"][..], &["-h"]] {
-        let (status, printed, wrong) = run(words, "");
-        assert_eq!((status, wrong.as_str()), (0, ""));
-        assert!(printed.starts_with("usage: dapohiru COMMAND"));
-        for name in COMMANDS {
-            let line = format!("\n  {}", named(name));
-            assert!(printed.contains(&line), "{printed}");
-        }
-    }
-    let all = run(&["--help"], "");
-    for words in [&["help"][..], &["help", "help"], &["help", "--help"]] {
-        assert_eq!(run(words, ""), all);
-    }
-    for name in COMMANDS {
-        assert_eq!(run(&["help", name], ""), run(&[name, "--help"], ""));
-        for words in [
-            &[name, "--help"][..],
-            &[name, "-h"],
-            &[name, "a", "b", "c", "d", "--help"],
-        ] {
-            let (status, printed, wrong) = run(words, "");
-            assert_eq!((status, wrong.as_str()), (0, ""));
-            assert!(printed.starts_with(&format!("usage: dapohiru {}", named(name))));
-            let first = ["\n\n  JOB ", "\n\n  DIR ", "\n\n  dapohiru prices > "];
-            assert!(
-                first.iter().any(|first| printed.contains(first)),
-                "{printed}"
-            );
-            assert!(printed.contains("\nExit status: 0 "));
-        }
-    }
-}
-
-#[test]
-fn version_is_printed() {
-    let printed = format!("dapohiru {}\n", env!("CARGO_PKG_VERSION"));
-    for words in [&["--version"][..], &["-V"]] {
-        assert_eq!(run(words, ""), (0, printed.clone(), String::new()));
-    }
-    let wrong = "dapohiru: help: list is one name too many\nusage: dapohiru help [COMMAND]\n";
-    let done = run(&["help", "plan", "list"], "");
-    assert_eq!(done, (2, String::new(), wrong.to_string()));
 }
