@@ -4,7 +4,7 @@ use crate::json::{self, Json};
 use crate::names::Names;
 use crate::refusal::Told;
 use crate::summary::{complain, complain_of_stop, names};
-use crate::table::{table, Side};
+use crate::table::{table, Side, LEAST};
 use crate::{check, input, job, output, shown, stop};
 use dapohiru::Verdict;
 use std::collections::HashSet;
@@ -192,7 +192,10 @@ fn report(findings: &[(&Path, Finding)], all: usize) -> String {
     }
     format!(
         "{}{} of {all} jobs with a faithful plan, {} as planned, {} older than the job\n",
-        table([Side::Name, Side::Left, Side::Left, Side::Left], &rows),
+        table(
+            [Side::Name(LEAST), Side::Left, Side::Left, Side::Left],
+            &rows
+        ),
         count(findings, Finding::is_faithful),
         count(findings, Finding::is_as_planned),
         count(findings, Finding::is_older)

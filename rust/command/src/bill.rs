@@ -1,7 +1,7 @@
 //! What a plan costs, point by point, beside what all points watched would cost.
 use crate::explain::plan_word;
 use crate::names::Names;
-use crate::table::{table, Side};
+use crate::table::{table, Side, LEAST};
 use crate::tariff::Tariff;
 
 /// A point, and what its events cost.
@@ -86,7 +86,7 @@ impl Bill<'_> {
         let mut rows = vec![headings.map(str::to_string)];
         rows.extend(self.points.iter().map(|point| point.row(names)));
         rows.push(["sum", "", "", "", "", &under, &full].map(str::to_string));
-        let (name, left, right) = (Side::Name, Side::Left, Side::Right);
+        let (name, left, right) = (Side::Name(LEAST), Side::Left, Side::Right);
         let nodes = names.node_side();
         let sides = [nodes, name, right, right, left, right, right];
         let words = format!(

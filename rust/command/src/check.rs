@@ -5,7 +5,7 @@ use crate::input::Plan;
 use crate::json::{self, Json};
 use crate::names::Names;
 use crate::refusal::Told;
-use crate::table::{table, Side};
+use crate::table::{table, Side, LEAST};
 use crate::{input, job, output};
 use dapohiru::Verdict;
 use dapohiru_second::job::Job;
@@ -85,7 +85,7 @@ fn status(verdict: Verdict) -> u8 {
 
 /// The points under the plan and under the one that planning makes, in a table and in words.
 fn explained(verdict: Verdict, job: &Job, plan: &Plan, own: &[u8], names: &Names) -> String {
-    let headings = ["node", "symbol", "this plan", "planning's own"];
+    let headings = ["node", "symbol", "this plan", "planned"];
     let mut rows = vec![headings.map(str::to_string)];
     let points = job.points();
     let row = |&node: &usize| {
@@ -105,7 +105,7 @@ fn explained(verdict: Verdict, job: &Job, plan: &Plan, own: &[u8], names: &Names
     format!(
         "{}Of {} event nodes this plan watches {}, and planning's own {}.\n{means}\n",
         table(
-            [names.node_side(), Side::Name, Side::Left, Side::Left],
+            [names.node_side(), Side::Name(LEAST), Side::Left, Side::Left],
             &rows
         ),
         points.len(),

@@ -1,7 +1,7 @@
 //! A listing as a table with headings, and in words.
 use crate::listing::{Found, Listing, Totals};
 use crate::names::Names;
-use crate::table::{table, Side};
+use crate::table::{table, Side, LEAST};
 use dapohiru_second::job::Job;
 
 /// A listing of a job, in a table and in words.
@@ -13,7 +13,7 @@ pub fn explained(listing: &Listing, job: &Job, names: &Names) -> String {
     let words: String = words
         .map(|found| words_of(found, job.states(), names))
         .collect();
-    let (name, left) = (Side::Name, Side::Left);
+    let (name, left) = (Side::Name(LEAST), Side::Left);
     let sides = [names.node_side(), name, name, Side::Right, left, left];
     table(sides, &rows) + &totals(&listing.totals) + &ways_back(job, names) + &words
 }

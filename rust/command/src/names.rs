@@ -3,7 +3,7 @@ use crate::args::Given;
 use crate::input::{self, Input};
 use crate::json::Json;
 use crate::shown;
-use crate::table::Side;
+use crate::table::{Side, LEAST};
 use dapohiru_second::job::{members, Job};
 use std::ffi::OsStr;
 
@@ -126,7 +126,7 @@ impl Names {
     /// The side of a column of nodes: the left where nodes have names.
     pub fn node_side(&self) -> Side {
         match self.0[Kind::Node as usize].iter().any(Option::is_some) {
-            true => Side::Name,
+            true => Side::Name(LEAST),
             false => Side::Right,
         }
     }

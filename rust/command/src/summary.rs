@@ -47,9 +47,10 @@ pub fn summary(outcomes: &[(&Path, Outcome)], elapsed: Duration) -> String {
         }
     }
     let (planned, sum) = totals(outcomes);
-    rows.push(row(format!("{planned} planned"), &sum, elapsed));
-    let right = Side::Right;
-    table([Side::Name, right, right, right, right], &rows)
+    let all = format!("{planned} planned");
+    let (name, right) = (Side::Name(all.len()), Side::Right);
+    rows.push(row(all, &sum, elapsed));
+    table([name, right, right, right, right], &rows)
 }
 
 fn row(name: String, counts: &Counts, time: Duration) -> [String; 5] {

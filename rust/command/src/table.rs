@@ -7,12 +7,12 @@ use std::io;
 pub enum Side {
     Left,
     Right,
-    /// The left, for names, which may be long.
-    Name,
+    /// The left, for names, which may be long, and keep so many columns on the narrowest terminal.
+    Name(usize),
 }
 
-/// The columns that names keep on the narrowest terminal.
-const LEAST: usize = 10;
+/// The columns that a name needs.
+pub const LEAST: usize = 8;
 /// What stands for the middle of a cell that is too long.
 const CUT: &str = "..";
 
@@ -31,7 +31,7 @@ fn fitted<const N: usize>(sides: [Side; N], rows: &[[String; N]], room: Option<u
     let whole: Vec<_> = (0..N).map(width).collect();
     let widths = |most: usize| -> Vec<_> {
         let cut = |(&width, side): (&usize, Side)| match side {
-            Side::Name => width.min(most),
+            Side::Name(least) => width.min(most.max(least)),
             Side::Left | Side::Right => width,
         };
         whole.iter().zip(sides).map(cut).collect()
@@ -61,7 +61,7 @@ fn padded(cell: &str, width: usize, side: Side) -> String {
     let room = " ".repeat(width.saturating_sub(shown::width(cell)));
     match side {
         Side::Right => room + cell,
-        Side::Left | Side::Name => cell.to_string() + &room,
+        Side::Left | Side::Name(_) => cell.to_string() + &room,
     }
 }
 
@@ -97,7 +97,7 @@ mod tests {
     fn of(name: &str, room: Option<usize>) -> String {
         let rows = [["job", "points"], [name, "3"], ["1 planned", "12345"]];
         let rows = rows.map(|row| row.map(str::to_string));
-        fitted([Side::Name, Side::Right], &rows, room)
+        fitted([Side::Name(10), Side::Right], &rows, room)
     }
 
     #[test]

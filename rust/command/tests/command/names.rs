@@ -85,7 +85,7 @@ fn price_names_nodes() {
 fn check_names_the_points_and_the_node_of_a_refusal() {
     let (job, names) = (example("pair.job"), full());
     let words = ["check", &job, "-", "--explain", "--names", &names];
-    let table = "node           symbol   this plan  planning's own\n\
+    let table = "node           symbol   this plan  planned\n\
                  0 first seal   0 seal   unwatched  unwatched\n\
                  1 second seal  0 seal   unwatched  watched\n\
                  2 write        2 write  watched    watched\n\
