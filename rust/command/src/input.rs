@@ -1,4 +1,5 @@
 //! What is read: job files, plan files, volume files and price files.
+use crate::shown;
 use std::ffi::OsStr;
 use std::fs::File;
 use std::io::{self, Read};
@@ -28,12 +29,22 @@ pub fn job(name: &OsStr) -> Result<Input, String> {
 
 /// Reads a plan file, a line of digits. What a digit above 1 means is for the plan check to say.
 pub fn plan(name: &OsStr) -> Result<Plan, String> {
-    let Input { shown, bytes } = read(name, PLAN_FILE)?;
+    digits(plan_file(name)?)
+}
+
+/// Reads a plan file, whatever stands in it.
+pub fn plan_file(name: &OsStr) -> Result<Input, String> {
+    read(name, PLAN_FILE)
+}
+
+/// The digits of a plan file, which is one line of them.
+pub fn digits(file: Input) -> Result<Plan, String> {
+    let Input { shown, bytes } = file;
     let line = bytes.strip_suffix(b"\n").unwrap_or(&bytes);
     if let Some(place) = line.iter().position(|byte| !byte.is_ascii_digit()) {
         let (found, ending) = match line[place] {
             b'\n' => ("the end of the line".to_string(), " and nothing after it"),
-            byte => (format!("`{}`", byte.escape_ascii()), ""),
+            byte => (format!("`{}`", shown::bytes(&[byte])), ""),
         };
         return Err(format!(
             "{shown}: line 1, column {}: found {found}\n  expected: one line of 0 and 1, a digit for each node{ending}",
@@ -57,7 +68,7 @@ pub fn read(name: &OsStr, most: usize) -> Result<Input, String> {
     let (shown, file): (_, Box<dyn Read>) = if name == "-" {
         ("standard input".to_string(), Box::new(io::stdin().lock()))
     } else {
-        let shown = name.to_string_lossy().into_owned();
+        let shown = shown::name(name);
         let file = File::open(name).map_err(|why| format!("{shown}: {why}"))?;
         (shown, Box::new(file))
     };

@@ -1,4 +1,5 @@
 //! What is written: standard output and error, and files that are written whole or not at all.
+use crate::shown;
 use std::ffi::OsStr;
 use std::fs::{self, File, Metadata, OpenOptions, Permissions};
 use std::io::{self, ErrorKind, Write};
@@ -23,6 +24,14 @@ pub fn complain(why: &str) {
     let _ = note(&format!("dapohiru: {}\n", why.trim_end()));
 }
 
+/// Prints what an answer has of a refusal, and gives what is said of it, and of output that cannot be written.
+pub fn refused(printed: &str, told: String) -> String {
+    match print(printed.as_bytes()) {
+        Ok(()) => told,
+        Err(why) => format!("{told}\n{why}"),
+    }
+}
+
 /// Writes all bytes.
 fn written(mut out: impl Write, bytes: &[u8], shown: &str) -> Result<(), String> {
     let done = out.write_all(bytes).and_then(|()| out.flush());
@@ -44,7 +53,7 @@ pub fn loses_nothing(file: Option<&OsStr>, read: &[&OsStr]) -> Result<(), String
     let Ok(found) = fs::metadata(file) else {
         return Ok(());
     };
-    let shown = Path::new(file).display();
+    let shown = shown::name(file);
     if let Some(stream) = stream(&found) {
         return Err(format!("{shown}: it is {stream}; leave out -o"));
     }
@@ -91,7 +100,7 @@ pub fn deliver(file: Option<&OsStr>, bytes: &[u8]) -> Result<(), String> {
 
 /// Writes a file whole or not at all: a temporary file beside it, then rename.
 pub fn write_file(path: &Path, bytes: &[u8]) -> Result<(), String> {
-    let shown = path.display();
+    let shown = shown::name(path.as_os_str());
     let (place, permissions) = target(path).map_err(|why| format!("{shown}: {why}"))?;
     let (name, file) = temporary(&place)
         .map_err(|why| format!("{shown}: no file can be made beside it: {why}"))?;
@@ -99,10 +108,22 @@ pub fn write_file(path: &Path, bytes: &[u8]) -> Result<(), String> {
     done.map_err(|why| {
         let left = match fs::remove_file(&name) {
             Ok(()) => String::new(),
-            Err(_) => format!(", and {} is left", name.display()),
+            Err(_) => format!(", and {} is left", shown::name(name.as_os_str())),
         };
         format!("{shown} is not written: {why}{left}")
     })
+}
+
+/// Makes a folder where it is missing, and makes sure that files can be written in it.
+pub fn make_folder(folder: &Path) -> Result<(), String> {
+    let shown = shown::name(folder.as_os_str());
+    fs::create_dir_all(folder).map_err(|why| format!("{shown}: {why}"))?;
+    let (name, file) = temporary(&folder.join("plan"))
+        .map_err(|why| format!("{shown}: no file can be made in it: {why}"))?;
+    let done = fill(file, b"\n", None);
+    let gone = fs::remove_file(name);
+    done.and(gone)
+        .map_err(|why| format!("{shown}: no file can be written in it: {why}"))
 }
 
 /// The file that a name stands for, and the permissions of the one that is there.

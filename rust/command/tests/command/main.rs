@@ -1,10 +1,16 @@
 //! The command line, run as a program.
+mod audit;
 mod check;
+mod child;
 mod docs;
 mod full;
 mod graph;
+mod help;
+mod json;
 mod kinds;
 mod list;
+mod names;
+mod narrow;
 mod numbered;
 mod places;
 mod plan;
@@ -12,6 +18,7 @@ mod price;
 mod prices;
 mod program;
 mod release;
+mod shown;
 mod stop;
 mod watch;
 mod words;
