@@ -1,4 +1,5 @@
 //! The words of a command line, taken apart.
+use crate::shown;
 use std::ffi::{OsStr, OsString};
 use std::os::unix::ffi::OsStrExt;
 
@@ -117,7 +118,7 @@ pub fn take(command: &Command, words: &[OsString]) -> Result<Asked, String> {
         return Err(command.wrong(format!("{missing} is missing")));
     }
     if let Some(extra) = given.names.get(command.names.len() + command.more) {
-        let extra = extra.to_string_lossy();
+        let extra = shown::name(extra);
         return Err(command.wrong(format!("{extra} is one name too many")));
     }
     Ok(Asked::Run(given))
@@ -143,7 +144,7 @@ fn option(
     let (begin, joined) = parts(word);
     let known = |(name, _): &&(&str, &str)| name.as_bytes() == begin;
     let Some(&(name, value)) = command.options.iter().find(known) else {
-        let word = word.to_string_lossy();
+        let word = shown::name(word);
         return Err(command.wrong(format!("{word} is no option")));
     };
     let given = match joined {

@@ -46,8 +46,8 @@ impl Point {
     fn row(&self, names: &Names) -> [String; 7] {
         let [cost, watched] = self.costs().map(unrounded);
         [
-            self.node.to_string(),
-            names.of(self.symbol),
+            names.node(self.node),
+            names.symbol(self.symbol),
             self.volume.to_string(),
             self.rate.to_string(),
             if self.watched { "watched" } else { "unwatched" }.to_string(),
@@ -107,7 +107,7 @@ mod tests {
 
     #[test]
     fn sums_that_differ_from_the_proved_prices_are_not_shown() {
-        let names = Names::read(None, 1).unwrap();
+        let names = Names::default();
         let bill = |price, full| {
             let point = |node, watched| Point {
                 node,

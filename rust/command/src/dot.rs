@@ -1,4 +1,5 @@
 //! Pictures by Graphviz's program `dot`.
+use crate::shown;
 use std::io::{ErrorKind, Write};
 use std::process::{Command, Stdio};
 use std::thread;
@@ -26,9 +27,10 @@ pub fn picture(format: &str, graph: String) -> Result<Vec<u8>, String> {
         .map_err(|why| format!("dot: {why}"))?;
     let read = matches!(writer.join(), Ok(Some(Ok(()))));
     if !done.status.success() || !read {
-        let said = String::from_utf8_lossy(&done.stderr);
+        let said = done.stderr.trim_ascii().split(|&byte| byte == b'\n');
+        let said: Vec<_> = said.map(shown::bytes).collect();
         let status = done.status;
-        return Err(format!("dot failed with {status}: {}", said.trim()));
+        return Err(format!("dot failed with {status}: {}", said.join("\n  ")));
     }
     Ok(done.stdout)
 }

@@ -1,5 +1,4 @@
 //! A listing as a table with headings, and in words.
-use crate::job::set;
 use crate::names::Names;
 use crate::table::{table, Side};
 use dapohiru_second::job::Job;
@@ -52,17 +51,18 @@ pub fn explained(listing: &[u8], job: &Job, names: &Names) -> String {
         Side::Left,
         Side::Left,
     ];
-    table(sides, &rows) + &totals + &ways_back(job) + &words
+    table(sides, &rows) + &totals + &ways_back(job, names) + &words
 }
 
 /// What calls that may come back in are for, if the job has any.
-fn ways_back(job: &Job) -> String {
+fn ways_back(job: &Job, names: &Names) -> String {
     let calls = job.reentrant();
     if calls.is_empty() {
         return String::new();
     }
     let is_exit = |&node: &usize| job.nodes[node].exit == 1;
     let exits = (0..job.nodes.len()).filter(is_exit).collect::<Vec<_>>();
+    let nodes = |numbers: &[usize]| nodes(numbers, names);
     let (calls, entries) = (nodes(&calls), nodes(&job.entries()));
     let returns = match exits.is_empty() {
         true => "No node is an exit, so no walk returns.".to_string(),
@@ -80,8 +80,8 @@ fn ways_back(job: &Job) -> String {
 }
 
 /// These nodes, named.
-fn nodes(numbers: &[usize]) -> String {
-    let listed: Vec<_> = numbers.iter().map(usize::to_string).collect();
+fn nodes(numbers: &[usize], names: &Names) -> String {
+    let listed: Vec<_> = numbers.iter().map(|&node| names.node(node)).collect();
     match listed.split_last() {
         Some((last, [])) => format!("node {last}"),
         Some((last, others)) => format!("nodes {} and {last}", others.join(", ")),
@@ -99,9 +99,9 @@ fn numbers(line: &[u8]) -> Vec<usize> {
 impl Found {
     fn row(&self, names: &Names) -> [String; 6] {
         [
-            self.node.to_string(),
-            names.of(self.symbol),
-            set(self.before),
+            names.node(self.node),
+            names.symbol(self.symbol),
+            names.states(self.before),
             self.classes.to_string(),
             if self.nop { "yes" } else { "no" }.to_string(),
             if self.watched { "watched" } else { "unwatched" }.to_string(),
@@ -113,11 +113,11 @@ impl Found {
             0 => "No walk arrives here.".to_string(),
             1 => format!(
                 "With all points watched, walks arrive here in state {} only.",
-                self.before.trailing_zeros()
+                names.state(self.before.trailing_zeros() as usize)
             ),
             _ => format!(
                 "With all points watched, walks arrive here in the states {}.",
-                set(self.before)
+                names.states(self.before)
             ),
         };
         let classes = match self.classes {
@@ -139,11 +139,10 @@ impl Found {
             true => "The plan watches it: with this point alone unwatched too, some walk has other alarms.",
             false => "The plan leaves it unwatched: on every walk the alarms stay the same.",
         };
-        let symbol = names.of(self.symbol);
+        let (node, symbol) = (names.node(self.node), names.symbol(self.symbol));
         let lines = [arrives, classes, nop.to_string(), plan.to_string()];
         format!(
-            "\nNode {}, symbol {symbol}:\n  {}\n",
-            self.node,
+            "\nNode {node}, symbol {symbol}:\n  {}\n",
             lines.join("\n  ")
         )
     }

@@ -1,4 +1,5 @@
 //! A fault of a job file, a volume file, a price file or a plan, with its place; the first fault of a line.
+use crate::shown;
 use dapohiru_second::reading;
 
 /// A fault of a file, or of a plan.
@@ -36,7 +37,7 @@ impl Due<'_> {
             Some(Fault {
                 number: self.number,
                 place: Some((self.line, first, last)),
-                found: shown(bytes.get(first - 1..).unwrap_or_default(), last + 1 - first),
+                found: found(bytes.get(first - 1..).unwrap_or_default(), last + 1 - first),
                 expected,
             })
         };
@@ -110,7 +111,7 @@ impl Due<'_> {
         Some(Fault {
             number: self.number,
             place: Some((self.line, 1, 1)),
-            found: format!("`{}`", self.bytes.first()?.escape_ascii()),
+            found: format!("`{}`", shown::bytes(self.bytes.get(..1)?)),
             expected: "the end of the file".to_string(),
         })
     }
@@ -123,7 +124,7 @@ fn line_len(bytes: &[u8]) -> usize {
 }
 
 /// What stands in so many bytes, for a message; it ends with the line or the file.
-fn shown(bytes: &[u8], most: usize) -> String {
+fn found(bytes: &[u8], most: usize) -> String {
     let within = &bytes[..most.min(bytes.len())];
     let end = within.iter().position(|&byte| byte == b'\n');
     let text = &within[..end.unwrap_or(within.len())];
@@ -134,7 +135,7 @@ fn shown(bytes: &[u8], most: usize) -> String {
     };
     match (text.is_empty(), ending) {
         (true, _) => ending.to_string(),
-        (false, "") => format!("`{}`", text.escape_ascii()),
-        (false, _) => format!("`{}` and then {ending}", text.escape_ascii()),
+        (false, "") => format!("`{}`", shown::bytes(text)),
+        (false, _) => format!("`{}` and then {ending}", shown::bytes(text)),
     }
 }

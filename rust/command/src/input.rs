@@ -1,4 +1,5 @@
 //! What is read: job files, plan files, volume files and price files.
+use crate::shown;
 use std::ffi::OsStr;
 use std::fs::File;
 use std::io::{self, Read};
@@ -33,7 +34,7 @@ pub fn plan(name: &OsStr) -> Result<Plan, String> {
     if let Some(place) = line.iter().position(|byte| !byte.is_ascii_digit()) {
         let (found, ending) = match line[place] {
             b'\n' => ("the end of the line".to_string(), " and nothing after it"),
-            byte => (format!("`{}`", byte.escape_ascii()), ""),
+            byte => (format!("`{}`", shown::bytes(&[byte])), ""),
         };
         return Err(format!(
             "{shown}: line 1, column {}: found {found}\n  expected: one line of 0 and 1, a digit for each node{ending}",
@@ -57,7 +58,7 @@ pub fn read(name: &OsStr, most: usize) -> Result<Input, String> {
     let (shown, file): (_, Box<dyn Read>) = if name == "-" {
         ("standard input".to_string(), Box::new(io::stdin().lock()))
     } else {
-        let shown = name.to_string_lossy().into_owned();
+        let shown = shown::name(name);
         let file = File::open(name).map_err(|why| format!("{shown}: {why}"))?;
         (shown, Box::new(file))
     };

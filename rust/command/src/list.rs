@@ -48,7 +48,7 @@ fn run(given: &Given) -> Result<u8, String> {
     }
     if given.has("--explain") {
         let job = job::accepted(&file)?;
-        let names = Names::read(names, job.symbols as usize)?;
+        let names = Names::read(names, &job)?;
         listing = explained(&listing, &job, &names).into_bytes();
     }
     output::print(&listing).map(|()| 0)

@@ -10,6 +10,7 @@ mod fault;
 mod graph;
 mod input;
 mod job;
+mod json;
 mod list;
 mod monitor;
 mod names;
@@ -22,6 +23,7 @@ mod prices;
 mod progress;
 mod refusal;
 mod release;
+mod shown;
 mod stop;
 mod summary;
 mod table;
@@ -60,12 +62,12 @@ fn run(words: &[OsString]) -> Result<u8, String> {
     let Some((first, words)) = words.split_first() else {
         return Err(format!("no command is given\n{}", known()));
     };
-    let name = first.to_string_lossy();
-    if name == "--help" || name == "-h" {
+    if first == "--help" || first == "-h" {
         return output::print(help().as_bytes()).map(|()| 0);
     }
-    let Some(command) = COMMANDS.into_iter().find(|command| command.name == name) else {
-        return Err(format!("{name} is no command\n{}", known()));
+    let Some(command) = COMMANDS.into_iter().find(|command| first == command.name) else {
+        let first = shown::name(first);
+        return Err(format!("{first} is no command\n{}", known()));
     };
     match args::take(command, words)? {
         Asked::Help => output::print(command.help().as_bytes()).map(|()| 0),

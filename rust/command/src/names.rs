@@ -1,13 +1,32 @@
-//! Names for symbols, from a file.
+//! Names for symbols, nodes and states, from a file.
 use crate::args::Given;
 use crate::input::{self, Input};
+use crate::json::Json;
+use crate::shown;
+use dapohiru_second::job::{members, Job};
 use std::ffi::OsStr;
 
 /// The bytes of a names file that are read.
-const NAMES_FILE: usize = 65_536;
+const NAMES_FILE: usize = 262_144;
 
-/// For each symbol its name, if it has one.
-pub struct Names(Vec<Option<String>>);
+/// What a name is for.
+#[derive(Clone, Copy)]
+enum Kind {
+    Symbol,
+    Node,
+    State,
+}
+
+/// The words for them in a line.
+const KINDS: [(&str, Kind); 3] = [
+    ("symbol", Kind::Symbol),
+    ("node", Kind::Node),
+    ("state", Kind::State),
+];
+
+/// For each symbol, node and state of a job its name, if it has one.
+#[derive(Default)]
+pub struct Names([Vec<Option<String>>; 3]);
 
 /// The file of the names that are asked for, which are shown with `--explain` alone.
 pub fn asked<'a>(given: &'a Given, command: &str) -> Result<Option<&'a OsStr>, String> {
@@ -20,11 +39,12 @@ pub fn asked<'a>(given: &'a Given, command: &str) -> Result<Option<&'a OsStr>, S
 }
 
 impl Names {
-    /// The names in a file, or none: a line for each name, which is a symbol, a space and the name.
-    pub fn read(file: Option<&OsStr>, symbols: usize) -> Result<Self, String> {
-        let mut names = vec![None; symbols];
+    /// The names in a file, or none: a line for each name.
+    pub fn read(file: Option<&OsStr>, job: &Job) -> Result<Self, String> {
+        let counts = [job.symbols as usize, job.nodes.len(), job.states()];
+        let mut names = Names(counts.map(|count| vec![None; count]));
         let Some(file) = file else {
-            return Ok(Names(names));
+            return Ok(names);
         };
         let Input { shown, bytes } = input::read(file, NAMES_FILE + 1)?;
         if bytes.len() > NAMES_FILE {
@@ -32,41 +52,101 @@ impl Names {
         }
         for (place, line) in bytes.split_inclusive(|&byte| byte == b'\n').enumerate() {
             let line = line.strip_suffix(b"\n").unwrap_or(line);
-            let wrong = |why: String| format!("{shown}: line {}: {why}", place + 1);
-            let (symbol, name) = entry(line).ok_or_else(|| {
-                wrong(format!(
-                    "`{}` is not a symbol, a space and a name",
-                    line.escape_ascii()
-                ))
-            })?;
-            match names.get_mut(symbol) {
-                None => {
-                    let last = symbols - 1;
-                    return Err(wrong(format!(
-                        "the symbols of the job are 0 to {last}, and the line names {symbol}"
-                    )));
-                }
-                Some(Some(_)) => return Err(wrong(format!("symbol {symbol} has a name already"))),
-                Some(free) => *free = Some(name),
+            let named = entry(line).ok_or_else(|| {
+                let line = shown::bytes(line);
+                format!("`{line}` gives no name; lines are such as `symbol 0 seal`, `node 2 write` and `state 1 sealed`")
+            });
+            named
+                .and_then(|(kind, number, name)| names.add(kind, number, name))
+                .map_err(|why| format!("{shown}: line {}: {why}", place + 1))?;
+        }
+        Ok(names)
+    }
+
+    /// Gives a name to what has none yet.
+    fn add(&mut self, kind: Kind, number: usize, name: String) -> Result<(), String> {
+        let (word, names) = (KINDS[kind as usize].0, &mut self.0[kind as usize]);
+        let last = names.len().saturating_sub(1);
+        match names.get_mut(number) {
+            None => Err(format!(
+                "the {word}s of the job are 0 to {last}, and the line names {number}"
+            )),
+            Some(Some(_)) => Err(format!("{word} {number} has a name already")),
+            Some(free) => {
+                *free = Some(name);
+                Ok(())
             }
         }
-        Ok(Names(names))
+    }
+
+    /// A number, with its name if it has one.
+    fn of(&self, kind: Kind, number: usize) -> String {
+        match self.0[kind as usize].get(number) {
+            Some(Some(name)) => format!("{number} {}", shown::text(name)),
+            _ => number.to_string(),
+        }
     }
 
     /// A symbol's number, with its name if it has one.
-    pub fn of(&self, symbol: usize) -> String {
-        match self.0.get(symbol) {
-            Some(Some(name)) => format!("{symbol} {name}"),
-            _ => symbol.to_string(),
-        }
+    pub fn symbol(&self, symbol: usize) -> String {
+        self.of(Kind::Symbol, symbol)
+    }
+
+    /// A node's number, with its name if it has one.
+    pub fn node(&self, node: usize) -> String {
+        self.of(Kind::Node, node)
+    }
+
+    /// A state's number, with its name if it has one.
+    pub fn state(&self, state: usize) -> String {
+        self.of(Kind::State, state)
+    }
+
+    /// A set of symbols in braces, by its members.
+    pub fn symbols(&self, set: u64) -> String {
+        self.set(Kind::Symbol, set)
+    }
+
+    /// A set of states in braces, by its members.
+    pub fn states(&self, set: u64) -> String {
+        self.set(Kind::State, set)
+    }
+
+    fn set(&self, kind: Kind, set: u64) -> String {
+        let members: Vec<_> = members(set).map(|member| self.of(kind, member)).collect();
+        format!("{{{}}}", members.join(","))
+    }
+
+    /// The names as they stand in the file: for symbols, nodes and states a list.
+    pub fn json(&self) -> Json {
+        let named = |(number, name): (usize, &Option<String>)| {
+            let name = Json::text(name.as_ref()?);
+            Some(Json::Object(vec![
+                ("number", Json::number(number)),
+                ("name", name),
+            ]))
+        };
+        let [symbols, nodes, states] = &self.0;
+        let list =
+            |names: &Vec<_>| Json::List(names.iter().enumerate().filter_map(named).collect());
+        Json::Object(vec![
+            ("symbols", list(symbols)),
+            ("nodes", list(nodes)),
+            ("states", list(states)),
+        ])
     }
 }
 
-/// The symbol and the name of a line.
-fn entry(line: &[u8]) -> Option<(usize, String)> {
-    let (symbol, name) = std::str::from_utf8(line).ok()?.split_once(' ')?;
-    let digits = symbol.bytes().all(|byte| byte.is_ascii_digit());
-    let name = name.trim();
+/// What a line names, its number and the name.
+fn entry(line: &[u8]) -> Option<(Kind, usize, String)> {
+    let line = std::str::from_utf8(line).ok()?;
+    let (first, rest) = line.split_once(' ')?;
+    let (kind, (number, name)) = match KINDS.iter().find(|(word, _)| *word == first) {
+        Some((_, kind)) => (*kind, rest.split_once(' ')?),
+        None => (Kind::Symbol, (first, rest)),
+    };
+    let digits = number.bytes().all(|byte| byte.is_ascii_digit());
+    let name = name.trim_matches(' ');
     let shows = !name.is_empty() && !name.contains(char::is_control);
-    (digits && shows).then(|| Some((symbol.parse().ok()?, name.to_string())))?
+    (digits && shows).then(|| Some((kind, number.parse().ok()?, name.to_string())))?
 }

@@ -1,4 +1,5 @@
 //! What is written: standard output and error, and files that are written whole or not at all.
+use crate::shown;
 use std::ffi::OsStr;
 use std::fs::{self, File, Metadata, OpenOptions, Permissions};
 use std::io::{self, ErrorKind, Write};
@@ -44,7 +45,7 @@ pub fn loses_nothing(file: Option<&OsStr>, read: &[&OsStr]) -> Result<(), String
     let Ok(found) = fs::metadata(file) else {
         return Ok(());
     };
-    let shown = Path::new(file).display();
+    let shown = shown::name(file);
     if let Some(stream) = stream(&found) {
         return Err(format!("{shown}: it is {stream}; leave out -o"));
     }
@@ -91,7 +92,7 @@ pub fn deliver(file: Option<&OsStr>, bytes: &[u8]) -> Result<(), String> {
 
 /// Writes a file whole or not at all: a temporary file beside it, then rename.
 pub fn write_file(path: &Path, bytes: &[u8]) -> Result<(), String> {
-    let shown = path.display();
+    let shown = shown::name(path.as_os_str());
     let (place, permissions) = target(path).map_err(|why| format!("{shown}: {why}"))?;
     let (name, file) = temporary(&place)
         .map_err(|why| format!("{shown}: no file can be made beside it: {why}"))?;
@@ -99,7 +100,7 @@ pub fn write_file(path: &Path, bytes: &[u8]) -> Result<(), String> {
     done.map_err(|why| {
         let left = match fs::remove_file(&name) {
             Ok(()) => String::new(),
-            Err(_) => format!(", and {} is left", name.display()),
+            Err(_) => format!(", and {} is left", shown::name(name.as_os_str())),
         };
         format!("{shown} is not written: {why}{left}")
     })

@@ -57,7 +57,7 @@ fn run(given: &Given) -> Result<u8, String> {
         false => a_day(price) + "\n",
         true => {
             let job = job::accepted(&file)?;
-            let names = Names::read(names, job.symbols as usize)?;
+            let names = Names::read(names, &job)?;
             let bill = Bill {
                 points: points(&file, &job, &plan.bytes, &volumes, &tariff)?,
                 price,

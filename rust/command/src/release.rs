@@ -1,10 +1,11 @@
 //! The command `release`: plans all jobs of a folder.
 use crate::args::{Command, Given};
 use crate::progress::Progress;
-use crate::summary::{complaints, shown, summary, Outcome};
-use crate::{input, job, output, stop};
+use crate::summary::{complaints, summary, Outcome};
+use crate::{input, job, output, shown, stop};
 use std::ffi::OsStr;
 use std::fs;
+use std::os::unix::ffi::OsStrExt;
 use std::path::{Path, PathBuf};
 use std::sync::atomic::{AtomicUsize, Ordering};
 use std::thread;
@@ -40,8 +41,8 @@ fn run(given: &Given) -> Result<u8, String> {
         );
     }
     let out = given.value("-o").map_or(folder, Path::new);
-    let jobs = jobs_in(folder).map_err(|why| format!("{}: {why}", folder.display()))?;
-    fs::create_dir_all(out).map_err(|why| format!("{}: {why}", out.display()))?;
+    let jobs = jobs_in(folder).map_err(|why| format!("{}: {why}", shown::name(given.name(0))))?;
+    fs::create_dir_all(out).map_err(|why| format!("{}: {why}", shown::name(out.as_os_str())))?;
     stop::listen();
     let outcomes = plan_all(&jobs, out);
     let printed = output::print(summary(&outcomes, begin.elapsed()).as_bytes());
@@ -54,7 +55,8 @@ fn jobs_in(folder: &Path) -> Result<Vec<PathBuf>, String> {
     let mut jobs = Vec::new();
     for entry in fs::read_dir(folder).map_err(|why| why.to_string())? {
         let path = entry.map_err(|why| why.to_string())?.path();
-        let hidden = shown(&path).starts_with('.');
+        let name = path.file_name().unwrap_or_default();
+        let hidden = name.as_bytes().starts_with(b".");
         if !hidden && path.extension() == Some(OsStr::new("job")) {
             jobs.push(path);
         }
@@ -111,7 +113,7 @@ fn plan_one(path: &Path, out: &Path) -> Outcome {
         Ok(planned) => planned,
         Err(mut said) => {
             if plan_file.exists() {
-                let plan_file = plan_file.display();
+                let plan_file = shown::name(plan_file.as_os_str());
                 said += &format!("\n  {plan_file} is of an earlier run, and stays as it is");
             }
             return Outcome::Refused(said);
@@ -125,7 +127,7 @@ fn plan_one(path: &Path, out: &Path) -> Outcome {
 
 /// Refuses what is no regular file before it is opened: a pipe that nobody writes to would hold up all.
 fn is_regular(path: &Path) -> Result<(), String> {
-    let shown = path.display();
+    let shown = shown::name(path.as_os_str());
     match fs::metadata(path) {
         Ok(found) if found.is_file() => Ok(()),
         Ok(_) => Err(format!("{shown}: it is no regular file")),

@@ -1,5 +1,6 @@
 //! What is said of a release: the table of the planned jobs, and the list of the others.
 use crate::output;
+use crate::shown;
 use crate::table::{table, Side};
 use dapohiru::Counts;
 use std::path::Path;
@@ -14,10 +15,9 @@ pub enum Outcome {
     Failed(String),
 }
 
-/// The name of a job's file.
-pub fn shown(job: &Path) -> String {
-    let name = job.file_name().unwrap_or_default();
-    name.to_string_lossy().into_owned()
+/// The name of a job's file, as it is shown.
+fn name(job: &Path) -> String {
+    shown::name(job.file_name().unwrap_or_default())
 }
 
 /// A row for each planned job, and one for all.
@@ -31,7 +31,7 @@ pub fn summary(outcomes: &[(&Path, Outcome)], elapsed: Duration) -> String {
             watched += counts.watched;
             passes += counts.passes;
             rows.push([
-                shown(job),
+                name(job),
                 counts.points.to_string(),
                 counts.watched.to_string(),
                 counts.passes.to_string(),

@@ -48,17 +48,8 @@ impl Tariff {
             Tariff::House => String::new(),
             Tariff::Own(prices) => format!(
                 "The cents per thousand are the association's own, from {}.\n",
-                within_a_line(&prices.shown)
+                prices.shown
             ),
         }
     }
-}
-
-/// A name as it is shown, with what would leave its line or change it escaped.
-fn within_a_line(name: &str) -> String {
-    let shown = |letter: char| match letter {
-        '\'' | '"' | '\\' => letter.to_string(),
-        _ => letter.escape_debug().to_string(),
-    };
-    name.chars().map(shown).collect()
 }

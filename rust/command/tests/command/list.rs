@@ -144,21 +144,21 @@ fn wrong_names_file_is_refused_with_its_line() {
         ),
         (
             "0 seal\nwrite\n",
-            "line 2: `write` is not a symbol, a space and a name",
+            "line 2: `write` gives no name; lines are such as `symbol 0 seal`, `node 2 write` and `state 1 sealed`",
         ),
-        ("0 \n", "line 1: `0 ` is not a symbol, a space and a name"),
-        ("\n", "line 1: `` is not a symbol, a space and a name"),
+        ("0 \n", "line 1: `0 ` gives no name; lines are such as `symbol 0 seal`, `node 2 write` and `state 1 sealed`"),
+        ("\n", "line 1: `` gives no name; lines are such as `symbol 0 seal`, `node 2 write` and `state 1 sealed`"),
         (
             " 0 seal\n",
-            "line 1: ` 0 seal` is not a symbol, a space and a name",
+            "line 1: ` 0 seal` gives no name; lines are such as `symbol 0 seal`, `node 2 write` and `state 1 sealed`",
         ),
         (
             "0 a\tb\n",
-            "line 1: `0 a\\tb` is not a symbol, a space and a name",
+            "line 1: `0 a\\tb` gives no name; lines are such as `symbol 0 seal`, `node 2 write` and `state 1 sealed`",
         ),
         (
             "99999999999999999999999 x\n",
-            "line 1: `99999999999999999999999 x` is not a symbol, a space and a name",
+            "line 1: `99999999999999999999999 x` gives no name; lines are such as `symbol 0 seal`, `node 2 write` and `state 1 sealed`",
         ),
     ]
     .into_iter()

@@ -97,7 +97,7 @@ fn volume_file_and_price_file_in_place_of_each_other_are_told_by_their_letter() 
 fn endless_file_is_refused() {
     let plan = plan("numbered-endless");
     for kind in [VOLUMES, PRICES] {
-        let told = "line 1, column 1: found `\\x00`\n  expected: the letter @\n";
+        let told = "line 1, column 1: found `\\0`\n  expected: the letter @\n";
         let wrong = kind.refused("/dev/zero") + &kind.told(told);
         let done = kind.price(&plan, "/dev/zero", b"");
         assert_eq!(done, (2, String::new(), wrong));
