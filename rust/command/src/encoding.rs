@@ -1,5 +1,8 @@
 //! How a text was written, where no input of this program is written so: what it has, and how it is mended.
 
+/// What a byte order mark is called.
+pub const MARK: &str = "a byte order mark";
+
 /// Whether a text begins with a byte order mark, of UTF-8 or of UTF-16.
 pub fn is_marked(text: &[u8]) -> bool {
     matches!(
@@ -11,10 +14,10 @@ pub fn is_marked(text: &[u8]) -> bool {
 /// What the characters of a text have, if they are not plain bytes, and what writes them anew.
 fn characters(text: &[u8]) -> Option<(&'static str, &'static str)> {
     let from = match text {
-        [0xef, 0xbb, 0xbf, ..] => return Some(("a byte order mark", "tail -c +4")),
+        [0xef, 0xbb, 0xbf, ..] => return Some((MARK, "tail -c +4")),
         [0xff, 0xfe, ..] | [0xfe, 0xff, ..] => "iconv -f UTF-16 -t UTF-8",
-        [1.., 0, ..] => "iconv -f UTF-16LE -t UTF-8",
-        [0, 1.., ..] => "iconv -f UTF-16BE -t UTF-8",
+        [1..=255, 0, ..] => "iconv -f UTF-16LE -t UTF-8",
+        [0, 1..=255, ..] => "iconv -f UTF-16BE -t UTF-8",
         _ => return None,
     };
     Some(("UTF-16 characters", from))
@@ -78,7 +81,14 @@ mod tests {
 
     #[test]
     fn plain_text_has_no_hint() {
-        for text in [&b""[..], b"011\n", b"J     3\n", b"a\rb\n", b"\0", b"\0\0\0\0"] {
+        for text in [
+            &b""[..],
+            b"011\n",
+            b"J     3\n",
+            b"a\rb\n",
+            b"\0",
+            b"\0\0\0\0",
+        ] {
             assert_eq!(hint(text), None, "{}", text.escape_ascii());
         }
     }

@@ -78,7 +78,7 @@ fn is_open(found: &Metadata, open: BorrowedFd) -> bool {
 }
 
 /// Whether two files are one.
-fn is_same(one: &Metadata, other: &Metadata) -> bool {
+pub fn is_same(one: &Metadata, other: &Metadata) -> bool {
     (one.dev(), one.ino()) == (other.dev(), other.ino())
 }
 
@@ -90,20 +90,69 @@ pub fn deliver(file: Option<&OsStr>, bytes: &[u8]) -> Result<(), String> {
     }
 }
 
-/// Writes a file whole or not at all: a temporary file beside it, then rename.
+/// Writes a file whole or not at all, down to the disk.
 pub fn write_file(path: &Path, bytes: &[u8]) -> Result<(), String> {
-    let shown = shown::name(path.as_os_str());
-    let (place, permissions) = target(path).map_err(|why| format!("{shown}: {why}"))?;
-    let (name, file) = temporary(&place)
-        .map_err(|why| format!("{shown}: no file can be made beside it: {why}"))?;
-    let done = fill(file, bytes, permissions).and_then(|()| fs::rename(&name, &place));
-    done.map_err(|why| {
-        let left = match fs::remove_file(&name) {
-            Ok(()) => String::new(),
-            Err(_) => format!(", and {} is left", shown::name(name.as_os_str())),
-        };
-        format!("{shown} is not written: {why}{left}")
-    })
+    let ready = |file: &File, new: &Path, place: &Path| {
+        file.sync_all()?;
+        fs::rename(new, place)
+    };
+    Whole::at(path)?.write(bytes, ready).map(|_| ())
+}
+
+/// A file that is written whole or not at all: first a temporary file beside it.
+pub struct Whole {
+    shown: String,
+    place: PathBuf,
+    permissions: Option<Permissions>,
+}
+
+impl Whole {
+    /// The file that a name stands for.
+    pub fn at(path: &Path) -> Result<Self, String> {
+        let shown = shown::name(path.as_os_str());
+        let (place, permissions) = target(path).map_err(|why| format!("{shown}: {why}"))?;
+        Ok(Whole {
+            shown,
+            place,
+            permissions,
+        })
+    }
+
+    /// Where the file is.
+    pub fn place(&self) -> &Path {
+        &self.place
+    }
+
+    /// Writes all bytes to a new file, which `put` then puts from its own name to the file's.
+    pub fn write(
+        &self,
+        bytes: &[u8],
+        put: impl FnOnce(&File, &Path, &Path) -> io::Result<()>,
+    ) -> Result<File, String> {
+        let Whole { shown, place, .. } = self;
+        let (name, mut file) = temporary(place)
+            .map_err(|why| format!("{shown}: no file can be made beside it: {why}"))?;
+        let done = self
+            .fill(&mut file, bytes)
+            .and_then(|()| put(&file, &name, place));
+        done.map_err(|why| {
+            let left = match fs::remove_file(&name) {
+                Ok(()) => String::new(),
+                Err(_) => format!(", and {} is left", shown::name(name.as_os_str())),
+            };
+            format!("{shown} is not written: {why}{left}")
+        })?;
+        Ok(file)
+    }
+
+    /// Writes all bytes of a new file.
+    fn fill(&self, file: &mut File, bytes: &[u8]) -> io::Result<()> {
+        file.write_all(bytes)?;
+        match &self.permissions {
+            Some(permissions) => file.set_permissions(permissions.clone()),
+            None => Ok(()),
+        }
+    }
 }
 
 /// The file that a name stands for, and the permissions of the one that is there.
@@ -138,13 +187,4 @@ fn temporary(place: &Path) -> io::Result<(PathBuf, File)> {
             opened => return opened.map(|file| (name, file)),
         }
     }
-}
-
-/// Writes all bytes of a new file, down to the disk.
-fn fill(mut file: File, bytes: &[u8], permissions: Option<Permissions>) -> io::Result<()> {
-    file.write_all(bytes)?;
-    if let Some(permissions) = permissions {
-        file.set_permissions(permissions)?;
-    }
-    file.sync_all()
 }

@@ -1,5 +1,6 @@
 //! What is said of a refusal: its number, and where the second reader finds the same number also the
 //! meaning, the place and what was expected there.
+use crate::encoding;
 use crate::fault::Fault;
 use crate::input::{Input, Plan};
 use crate::numbered::{PRICES, VOLUMES};
@@ -12,7 +13,7 @@ use dapohiru_second::reading;
 
 /// What is said of a refused job file.
 pub fn of_job(job: &Input, refusal: Refusal) -> String {
-    told(&job.shown, refusal, first_fault(&job.bytes))
+    told_of(job, refusal, first_fault(&job.bytes))
 }
 
 /// What is said of a refused job file or plan, whichever it is.
@@ -32,13 +33,18 @@ pub fn of_price(
     refusal: Refusal,
 ) -> String {
     match (refusal.0, tariff) {
-        (16, _) => told(&volumes.shown, refusal, volume_fault(job, &volumes.bytes)),
+        (16, _) => told_of(volumes, refusal, volume_fault(job, &volumes.bytes)),
         (28, Tariff::Own(prices)) => {
             let fault = PRICES.read(&prices.bytes, SYMBOLS).err();
-            told(&prices.shown, refusal, fault)
+            told_of(prices, refusal, fault)
         }
         _ => of_plan(job, plan, refusal),
     }
+}
+
+/// The refusal of a file, with what is told of how it was written.
+fn told_of(file: &Input, refusal: Refusal, fault: Option<Fault>) -> String {
+    told(&file.shown, refusal, fault) + &encoding::told(&file.bytes)
 }
 
 /// The refusal of the proved call, and the fault that a second reader found.

@@ -1,6 +1,7 @@
 //! The command line, run as a program.
 mod check;
 mod docs;
+mod encoding;
 mod full;
 mod graph;
 mod kinds;
@@ -12,7 +13,14 @@ mod price;
 mod prices;
 mod program;
 mod release;
+mod running;
 mod stop;
 mod watch;
+mod watch_record;
+mod watch_refused;
+mod watch_signal;
+mod watch_start;
+mod watch_told;
+mod watch_walk;
 mod words;
 mod zeros;
