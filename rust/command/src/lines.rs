@@ -3,6 +3,7 @@ use crate::stop::{self, Wait};
 use std::fs::File;
 use std::io::{self, BufRead, BufReader, Read};
 use std::os::fd::AsFd;
+use std::time::Duration;
 
 /// The longest line that is kept whole; no event is as long.
 pub const LONGEST: usize = 64;
@@ -45,12 +46,11 @@ impl Lines {
         Ok(Lines(BufReader::new(Input { file, wait })))
     }
 
-    /// Whether the next line has to be waited for.
-    pub fn must_wait(&self) -> bool {
+    /// Whether there is a line, or something to read or a stop comes within this time.
+    pub fn comes_within(&self, time: Duration) -> bool {
         let Input { file, wait } = self.0.get_ref();
-        let is_there = self.0.buffer().contains(&b'\n');
         // what cannot be waited for is told when it is read
-        !is_there && !wait.is_ready(file.as_fd()).unwrap_or(true)
+        self.0.buffer().contains(&b'\n') || wait.ends_within(file.as_fd(), time).unwrap_or(true)
     }
 
     /// Reads the next line without its end.

@@ -9,6 +9,7 @@ use crate::reports::Reports;
 use crate::shown;
 use dapohiru::{Refusal, Report, Rule};
 use dapohiru_second::job::Job;
+use std::time::Duration;
 
 /// The exit statuses of a run that was not cut off. The first that holds wins.
 const ALARM: u8 = 1;
@@ -57,8 +58,11 @@ impl Watch<'_> {
     fn take_all(&mut self, input: &mut Lines) -> Result<(), String> {
         let mut line = Vec::new();
         loop {
-            if let Some(kept) = self.kept.as_mut().filter(|_| input.must_wait()) {
-                kept.file.sync()?;
+            if let Some(kept) = &mut self.kept {
+                let is_due = |left: Duration| left.is_zero() || !input.comes_within(left);
+                if kept.file.time_left().is_some_and(is_due) {
+                    kept.file.sync()?;
+                }
             }
             let next = input
                 .next(&mut line)

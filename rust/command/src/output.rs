@@ -90,73 +90,24 @@ pub fn deliver(file: Option<&OsStr>, bytes: &[u8]) -> Result<(), String> {
     }
 }
 
-/// Writes a file whole or not at all, down to the disk.
+/// Writes a file whole or not at all: a temporary file beside it, then rename.
 pub fn write_file(path: &Path, bytes: &[u8]) -> Result<(), String> {
-    let ready = |file: &File, new: &Path, place: &Path| {
-        file.sync_all()?;
-        fs::rename(new, place)
-    };
-    Whole::at(path)?.write(bytes, ready).map(|_| ())
-}
-
-/// A file that is written whole or not at all: first a temporary file beside it.
-pub struct Whole {
-    shown: String,
-    place: PathBuf,
-    permissions: Option<Permissions>,
-}
-
-impl Whole {
-    /// The file that a name stands for.
-    pub fn at(path: &Path) -> Result<Self, String> {
-        let shown = shown::name(path.as_os_str());
-        let (place, permissions) = target(path).map_err(|why| format!("{shown}: {why}"))?;
-        Ok(Whole {
-            shown,
-            place,
-            permissions,
-        })
-    }
-
-    /// Where the file is.
-    pub fn place(&self) -> &Path {
-        &self.place
-    }
-
-    /// Writes all bytes to a new file, which `put` then puts from its own name to the file's.
-    pub fn write(
-        &self,
-        bytes: &[u8],
-        put: impl FnOnce(&File, &Path, &Path) -> io::Result<()>,
-    ) -> Result<File, String> {
-        let Whole { shown, place, .. } = self;
-        let (name, mut file) = temporary(place)
-            .map_err(|why| format!("{shown}: no file can be made beside it: {why}"))?;
-        let done = self
-            .fill(&mut file, bytes)
-            .and_then(|()| put(&file, &name, place));
-        done.map_err(|why| {
-            let left = match fs::remove_file(&name) {
-                Ok(()) => String::new(),
-                Err(_) => format!(", and {} is left", shown::name(name.as_os_str())),
-            };
-            format!("{shown} is not written: {why}{left}")
-        })?;
-        Ok(file)
-    }
-
-    /// Writes all bytes of a new file.
-    fn fill(&self, file: &mut File, bytes: &[u8]) -> io::Result<()> {
-        file.write_all(bytes)?;
-        match &self.permissions {
-            Some(permissions) => file.set_permissions(permissions.clone()),
-            None => Ok(()),
-        }
-    }
+    let shown = shown::name(path.as_os_str());
+    let (place, permissions) = target(path).map_err(|why| format!("{shown}: {why}"))?;
+    let (name, file) = temporary(&place)
+        .map_err(|why| format!("{shown}: no file can be made beside it: {why}"))?;
+    let done = fill(file, bytes, permissions).and_then(|()| fs::rename(&name, &place));
+    done.map_err(|why| {
+        let left = match fs::remove_file(&name) {
+            Ok(()) => String::new(),
+            Err(_) => format!(", and {} is left", shown::name(name.as_os_str())),
+        };
+        format!("{shown} is not written: {why}{left}")
+    })
 }
 
 /// The file that a name stands for, and the permissions of the one that is there.
-fn target(path: &Path) -> Result<(PathBuf, Option<Permissions>), String> {
+pub fn target(path: &Path) -> Result<(PathBuf, Option<Permissions>), String> {
     match fs::metadata(path) {
         Ok(found) if found.is_file() => {
             // what is printed would go to the file that is replaced
@@ -176,15 +127,29 @@ fn target(path: &Path) -> Result<(PathBuf, Option<Permissions>), String> {
     }
 }
 
-/// A new file beside a file, under a name that no other has.
-fn temporary(place: &Path) -> io::Result<(PathBuf, File)> {
+/// A name beside a file that this program has not used.
+pub fn name_beside(place: &Path) -> PathBuf {
     static COUNT: AtomicU64 = AtomicU64::new(0);
+    let count = COUNT.fetch_add(1, Ordering::Relaxed);
+    place.with_file_name(format!(".dapohiru-{}-{count}.tmp", process::id()))
+}
+
+/// A new file beside a file, under a name that no other has.
+pub fn temporary(place: &Path) -> io::Result<(PathBuf, File)> {
     loop {
-        let count = COUNT.fetch_add(1, Ordering::Relaxed);
-        let name = place.with_file_name(format!(".dapohiru-{}-{count}.tmp", process::id()));
+        let name = name_beside(place);
         match OpenOptions::new().write(true).create_new(true).open(&name) {
             Err(why) if why.kind() == ErrorKind::AlreadyExists => {}
             opened => return opened.map(|file| (name, file)),
         }
     }
+}
+
+/// Writes all bytes of a new file, down to the disk.
+fn fill(mut file: File, bytes: &[u8], permissions: Option<Permissions>) -> io::Result<()> {
+    file.write_all(bytes)?;
+    if let Some(permissions) = permissions {
+        file.set_permissions(permissions)?;
+    }
+    file.sync_all()
 }

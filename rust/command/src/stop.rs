@@ -2,6 +2,7 @@
 use std::io::{self, PipeReader};
 use std::os::fd::{AsFd, AsRawFd, BorrowedFd, IntoRawFd};
 use std::sync::atomic::{AtomicBool, AtomicI32, Ordering};
+use std::time::Duration;
 
 /// The C library's calls.
 mod ffi {
@@ -92,9 +93,9 @@ impl Wait {
         Ok(false)
     }
 
-    /// Whether there is something to read at once.
-    pub fn is_ready(&self, input: BorrowedFd) -> io::Result<bool> {
-        polled([input, self.0.as_fd()], 0)
+    /// Whether there is something to read or a stop within this time, which is some seconds at most.
+    pub fn ends_within(&self, input: BorrowedFd, time: Duration) -> io::Result<bool> {
+        polled([input, self.0.as_fd()], time.as_millis() as i32 + 1)
     }
 }
 

@@ -1,5 +1,5 @@
 //! The walk that the events of `watch` follow.
-use crate::program::{example, file, folder, run};
+use crate::program::{example, file, folder, shell};
 use crate::watch::{alarm, events_of, totals, watch, BEGIN, NO_WALK};
 use dapohiru_generators::large::{job_of, Order};
 use dapohiru_generators::random::Random;
@@ -171,7 +171,9 @@ fn walk_through_512_nodes_is_followed() {
         let state = format!("--state={}", walker.start);
         let events = events_of(&mut random, &mut walker, 20_000);
         let name = file(&folder, "a.job", &job.file());
-        let (status, printed, wrong) = run(&["watch", &name, &state], &events.concat());
+        let given = file(&folder, "events", events.concat().as_bytes());
+        let script = "\"$1\" watch \"$2\" \"$3\" < \"$4\"";
+        let (status, printed, wrong) = shell(script, &[&name, &state, &given]);
         assert!(status < 2 && wrong.is_empty(), "{wrong}");
         assert!(printed.contains(&format!("\nevents {}   ", events.len())));
         assert!(printed.contains("   outside a walk 0   "));
