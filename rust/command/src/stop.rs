@@ -1,8 +1,8 @@
 //! A stop that a signal asks for: what is under way is finished, and nothing more is begun.
 use std::io::{self, PipeReader};
 use std::os::fd::{AsFd, AsRawFd, BorrowedFd, IntoRawFd};
-use std::sync::atomic::{AtomicBool, AtomicI32, Ordering};
-use std::time::Duration;
+use std::sync::atomic::{AtomicI32, AtomicU64, Ordering};
+use std::time::{Duration, SystemTime};
 
 /// The C library's calls.
 mod ffi {
@@ -17,6 +17,8 @@ mod ffi {
     extern "C" {
         /// `void (*signal(int number, void (*handler)(int)))(int)`
         pub fn signal(number: i32, handler: usize) -> usize;
+        /// `int raise(int number)`
+        pub fn raise(number: i32) -> i32;
         /// `ssize_t write(int file, const void *bytes, size_t count)`
         pub fn write(file: i32, bytes: *const u8, count: usize) -> isize;
         /// `int poll(struct pollfd *files, nfds_t count, int milliseconds)`
@@ -34,26 +36,43 @@ const SIGNALS: [i32; 3] = [1, 2, 15];
 /// That there is something to read.
 const READABLE: i16 = 1;
 
-static ASKED: AtomicBool = AtomicBool::new(false);
+/// For so many milliseconds after a stop further signals are taken for the same one: some programs send it twice.
+const SAME: u64 = 1_000;
+
+/// When the stop was asked for, in milliseconds since 1970; 0 before that.
+static ASKED: AtomicU64 = AtomicU64::new(0);
 
 /// The pipe that a stop writes a byte to, if there is one.
 static PIPE: AtomicI32 = AtomicI32::new(-1);
 
-/// Notes the stop; a second signal ends the program at once.
+/// Notes the stop; another one, a second or more after it, ends the program at once.
 extern "C" fn noted(number: i32) {
-    ASKED.store(true, Ordering::SeqCst);
-    let pipe = PIPE.load(Ordering::SeqCst);
+    let now = SystemTime::now().duration_since(SystemTime::UNIX_EPOCH);
+    let now = now.map_or(1, |now| now.as_millis() as u64);
+    let (set, order) = (Ordering::SeqCst, Ordering::SeqCst);
+    match ASKED.compare_exchange(0, now, set, order) {
+        Ok(_) => tell(PIPE.load(order)),
+        Err(first) if now.abs_diff(first) >= SAME => {
+            handle(number, DEFAULT);
+            // SAFETY: the signal is held back until the handler returns, and then ends the program.
+            unsafe { ffi::raise(number) };
+        }
+        Err(_) => {}
+    }
+}
+
+/// Writes a byte to a pipe, if there is one.
+fn tell(pipe: i32) {
     if pipe >= 0 {
-        // SAFETY: one byte of a constant; a pipe takes a byte for each signal at once.
+        // SAFETY: one byte of a constant, which an empty pipe takes at once.
         unsafe { ffi::write(pipe, b"!".as_ptr(), 1) };
     }
-    handle(number, DEFAULT);
 }
 
 /// Sets the handler of a signal, and gives the one before it.
 fn handle(number: i32, handler: usize) -> usize {
-    // SAFETY: the handler is one of the two constants or `noted`, which only stores a flag and calls
-    // `write` and `signal`; all are allowed in a handler.
+    // SAFETY: the handler is one of the two constants or `noted`, which reads the clock, stores a number and calls
+    // `write`, `signal` and `raise`; all are allowed in a handler.
     unsafe { ffi::signal(number, handler) }
 }
 
@@ -68,7 +87,7 @@ pub fn listen() {
 
 /// Whether a stop was asked for.
 pub fn asked() -> bool {
-    ASKED.load(Ordering::SeqCst)
+    ASKED.load(Ordering::SeqCst) > 0
 }
 
 /// A wait for input that a stop ends too.

@@ -30,8 +30,8 @@ An event is a line: the number of an event node, or = and a symbol for an event 
 after word (`2`, `=0`), the words of calls that may come back in too. A walk that comes in again or
 returns reports nothing by it, so these steps have no line. Events at unwatched points are not given
 to the monitor. An alarm is printed with its time, the number of its event, counted from 1, the job and
-the plan, before the next line is read; the totals come last, also after SIGINT, SIGTERM or SIGHUP. A
-second one of these signals ends the program at once.
+the plan, before the next line is read; the totals come last, also after SIGINT, SIGTERM or SIGHUP.
+Another one of these signals, a second or more later, ends the program at once.
 Without --entry and --state it runs only where a job has one admitted start; the first line says where
 the walk begins.
 The events are followed through the graph. At the first that no walk of the job has there, standard

@@ -51,6 +51,7 @@ fn line_that_a_signal_cuts_is_neither_taken_nor_counted() {
 #[test]
 fn signal_in_a_flood_of_events_ends_with_the_totals() {
     let job = example("again-edge.job");
+    // timeout sends the signal twice
     let script = "while echo 0 && echo 1; do :; done 2>/dev/null | (timeout --signal=TERM 1 \"$1\" watch --no-time \"$2\"; echo \"status $?\") | tail -2";
     let (_, printed, _) = shell(script, &[&job]);
     let mut lines = printed.lines();
@@ -68,4 +69,17 @@ fn signal_that_the_caller_ignores_does_not_end_it() {
     let done = shell(script, &[&example("pair.job"), &pid]);
     let printed = BEGIN.to_string() + &totals([2, 0, 0, 0, 0, 1]);
     assert_eq!(done, (0, printed, String::new()));
+}
+
+#[test]
+fn signal_twice_is_one_and_another_one_later_ends_the_program_at_once() {
+    let job = example("pair.job");
+    // nobody reads what it prints, so that it hangs in writing
+    let script = "mkfifo \"$3\"; exec 4<>\"$3\"; (echo 0; yes 2) | \"$1\" watch --no-time \"$2\" >&4 2>/dev/null & sleep 0.5; pid=$!; kill -TERM $pid; kill -TERM $pid; sleep 0.3; kill -0 $pid && echo under way; sleep 1; kill -TERM $pid; wait $pid; echo \"status $?\"";
+    let pipe = folder("signal-twice").join("pipe").display().to_string();
+    let (_, printed, wrong) = shell(script, &[&job, &pipe]);
+    assert_eq!(
+        (printed.as_str(), wrong.as_str()),
+        ("under way\nstatus 143\n", "")
+    );
 }
