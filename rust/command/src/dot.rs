@@ -1,36 +1,75 @@
 //! Pictures by Graphviz's program `dot`.
-use crate::shown;
-use std::io::{ErrorKind, Write};
-use std::process::{Command, Stdio};
-use std::thread;
+use crate::child::{self, End};
+use crate::{output, progress, shown};
+use std::io::ErrorKind;
+use std::process::{Command, Output};
+use std::time::Duration;
 
-/// The picture of a graph in a format of `dot`.
-pub fn picture(format: &str, graph: String) -> Result<Vec<u8>, String> {
-    let mut child = Command::new("dot")
-        .arg(format!("-T{format}"))
-        .stdin(Stdio::piped())
-        .stdout(Stdio::piped())
-        .stderr(Stdio::piped())
-        .spawn()
-        .map_err(|why| match why.kind() {
+/// The edges up to which `dot` takes seconds with its own layout; with four times as many it takes minutes.
+const MOST_EDGES: usize = 400;
+/// The layout of larger graphs, in which no node covers another.
+const LARGE: [&str; 2] = ["-Ksfdp", "-Goverlap=prism"];
+
+/// What is asked of a picture.
+pub struct Picture {
+    /// A format of `dot`.
+    pub format: &'static str,
+    /// How many edges the graph has.
+    pub edges: usize,
+    /// How long it may take.
+    pub most: Duration,
+}
+
+impl Picture {
+    /// The picture of a graph.
+    pub fn of(&self, graph: String) -> Result<Vec<u8>, String> {
+        let mut command = Command::new("dot");
+        command.arg(format!("-T{}", self.format));
+        if self.edges > MOST_EDGES {
+            command.args(LARGE);
+            output::note(&format!(
+                "note: with {} edges the picture is laid out by sfdp; its nodes are not ordered by the flow\n",
+                self.edges
+            ))?;
+        }
+        let run = || child::run(&mut command, graph.into_bytes(), self.most);
+        let ended = progress::during("drawing", run);
+        match ended.map_err(|why| self.unstarted(why.kind(), &why.to_string()))? {
+            End::Itself(done, true) if done.status.success() => Ok(done.stdout),
+            End::Itself(done, _) => Err(failed(&done)),
+            End::Stopped => {
+                Err("graph: stopped; dot is ended too, and nothing is written".to_string())
+            }
+            End::Late => Err(self.late()),
+        }
+    }
+
+    /// What is said where the program has taken too long.
+    fn late(&self) -> String {
+        let (format, seconds) = (self.format, self.most.as_secs());
+        let noun = if seconds == 1 { "second" } else { "seconds" };
+        format!(
+            "graph: dot has not drawn it in {seconds} {noun}, and is ended; --seconds gives it longer, and without \
+             --{format} the graph is printed as text"
+        )
+    }
+
+    /// What is said where the program cannot be run.
+    fn unstarted(&self, kind: ErrorKind, why: &str) -> String {
+        let format = self.format;
+        match kind {
             ErrorKind::NotFound => format!(
                 "graph: --{format} needs the program dot, which is not installed (Debian's package graphviz); \
                  without --{format} the graph is printed as text"
             ),
             _ => format!("dot: {why}"),
-        })?;
-    let input = child.stdin.take();
-    // dot may write before it has read all
-    let writer = thread::spawn(move || input.map(|mut input| input.write_all(graph.as_bytes())));
-    let done = child
-        .wait_with_output()
-        .map_err(|why| format!("dot: {why}"))?;
-    let read = matches!(writer.join(), Ok(Some(Ok(()))));
-    if !done.status.success() || !read {
-        let said = done.stderr.trim_ascii().split(|&byte| byte == b'\n');
-        let said: Vec<_> = said.map(shown::bytes).collect();
-        let status = done.status;
-        return Err(format!("dot failed with {status}: {}", said.join("\n  ")));
+        }
     }
-    Ok(done.stdout)
+}
+
+/// What is said of a program that failed.
+fn failed(done: &Output) -> String {
+    let said = done.stderr.trim_ascii().split(|&byte| byte == b'\n');
+    let said: Vec<_> = said.map(shown::bytes).collect();
+    format!("dot failed with {}: {}", done.status, said.join("\n  "))
 }

@@ -1,57 +1,33 @@
 //! A listing as a table with headings, and in words.
+use crate::listing::{Found, Listing, Totals};
 use crate::names::Names;
-use crate::table::{table, Side};
+use crate::table::{table, Side, LEAST};
 use dapohiru_second::job::Job;
 
-/// The numbers of a W line.
-struct Found {
-    node: usize,
-    symbol: usize,
-    before: u64,
-    classes: usize,
-    nop: bool,
-    watched: bool,
-}
-
-/// The W and T lines of a job, in a table and in words.
-pub fn explained(listing: &[u8], job: &Job, names: &Names) -> String {
+/// A listing of a job, in a table and in words.
+pub fn explained(listing: &Listing, job: &Job, names: &Names) -> String {
     let headings = ["node", "symbol", "before", "classes", "nop", "plan"];
     let mut rows = vec![headings.map(str::to_string)];
-    let mut words = String::new();
-    let mut totals = String::new();
-    for line in listing.split(|&byte| byte == b'\n') {
-        match (line.first(), &numbers(line)[..]) {
-            (Some(b'W'), &[node, symbol, before, classes, nop, watched]) => {
-                let found = Found {
-                    node,
-                    symbol,
-                    before: before as u64,
-                    classes,
-                    nop: nop == 1,
-                    watched: watched == 1,
-                };
-                rows.push(found.row(names));
-                words += &found.words(job.states(), names);
-            }
-            (Some(b'T'), &[points, watched, passes]) => {
-                let nodes = if points == 1 { "node" } else { "nodes" };
-                let passed = if passes == 1 { "pass" } else { "passes" };
-                totals = format!(
-                    "{points} event {nodes}, {watched} of them watched, {passes} {passed}\n"
-                );
-            }
-            _ => {}
-        }
-    }
-    let sides = [
-        Side::Right,
-        Side::Left,
-        Side::Left,
-        Side::Right,
-        Side::Left,
-        Side::Left,
-    ];
-    table(sides, &rows) + &totals + &ways_back(job, names) + &words
+    rows.extend(listing.points.iter().map(|found| row(found, names)));
+    let words = listing.points.iter();
+    let words: String = words
+        .map(|found| words_of(found, job.states(), names))
+        .collect();
+    let (name, left) = (Side::Name(LEAST), Side::Left);
+    let sides = [names.node_side(), name, name, Side::Right, left, left];
+    table(sides, &rows) + &totals(&listing.totals) + &ways_back(job, names) + &words
+}
+
+/// The totals in words.
+fn totals(totals: &Totals) -> String {
+    let Totals {
+        points,
+        watched,
+        passes,
+    } = totals;
+    let nodes = if *points == 1 { "node" } else { "nodes" };
+    let passed = if *passes == 1 { "pass" } else { "passes" };
+    format!("{points} event {nodes}, {watched} of them watched, {passes} {passed}\n")
 }
 
 /// What calls that may come back in are for, if the job has any.
@@ -89,61 +65,64 @@ fn nodes(numbers: &[usize], names: &Names) -> String {
     }
 }
 
-/// The numbers after a line's letter.
-fn numbers(line: &[u8]) -> Vec<usize> {
-    let fields = line.get(1..).unwrap_or_default().chunks(6);
-    let number = |field: &[u8]| std::str::from_utf8(field).ok()?.trim().parse().ok();
-    fields.filter_map(number).collect()
+/// The row of a point.
+fn row(found: &Found, names: &Names) -> [String; 6] {
+    [
+        names.node(found.node),
+        names.symbol(found.symbol),
+        names.states(found.before),
+        found.classes.to_string(),
+        if found.nop { "yes" } else { "no" }.to_string(),
+        plan_word(found.watched).to_string(),
+    ]
 }
 
-impl Found {
-    fn row(&self, names: &Names) -> [String; 6] {
-        [
-            names.node(self.node),
-            names.symbol(self.symbol),
-            names.states(self.before),
-            self.classes.to_string(),
-            if self.nop { "yes" } else { "no" }.to_string(),
-            if self.watched { "watched" } else { "unwatched" }.to_string(),
-        ]
-    }
+/// What was found at a point, in words.
+fn words_of(found: &Found, states: usize, names: &Names) -> String {
+    let arrives = match found.before.count_ones() {
+        0 => "No walk arrives here.".to_string(),
+        1 => format!(
+            "With all points watched, walks arrive here in state {} only.",
+            names.state(found.before.trailing_zeros() as usize)
+        ),
+        _ => format!(
+            "With all points watched, walks arrive here in the states {}.",
+            names.states(found.before)
+        ),
+    };
+    let classes = match found.classes {
+        _ if states == 1 => "There is one state alone.".to_string(),
+        1 => format!("After it, no alarm tells one of the {states} states from another."),
+        all if all == states => {
+            format!("After it, later alarms tell all {states} states apart.")
+        }
+        some => format!(
+            "After it, the {states} states fall into {some} classes; later alarms tell states of different classes apart, and no others."
+        ),
+    };
+    let nop = match (found.before, found.nop) {
+        (0, _) => "So its event changes nothing (nop).",
+        (_, true) => "From each state in which walks arrive, its event raises no alarm and leads to a state of the same class (nop).",
+        (_, false) => "From some state in which walks arrive, its event raises an alarm or leads to a state of another class.",
+    };
+    let plan = match found.watched {
+        true => {
+            "The plan watches it: with this point alone unwatched too, some walk has other alarms."
+        }
+        false => "The plan leaves it unwatched: on every walk the alarms stay the same.",
+    };
+    let (node, symbol) = (names.node(found.node), names.symbol(found.symbol));
+    let lines = [arrives, classes, nop.to_string(), plan.to_string()];
+    format!(
+        "\nNode {node}, symbol {symbol}:\n  {}\n",
+        lines.join("\n  ")
+    )
+}
 
-    fn words(&self, states: usize, names: &Names) -> String {
-        let arrives = match self.before.count_ones() {
-            0 => "No walk arrives here.".to_string(),
-            1 => format!(
-                "With all points watched, walks arrive here in state {} only.",
-                names.state(self.before.trailing_zeros() as usize)
-            ),
-            _ => format!(
-                "With all points watched, walks arrive here in the states {}.",
-                names.states(self.before)
-            ),
-        };
-        let classes = match self.classes {
-            _ if states == 1 => "There is one state alone.".to_string(),
-            1 => format!("After it, no alarm tells one of the {states} states from another."),
-            all if all == states => {
-                format!("After it, later alarms tell all {states} states apart.")
-            }
-            some => format!(
-                "After it, the {states} states fall into {some} classes; later alarms tell states of different classes apart, and no others."
-            ),
-        };
-        let nop = match (self.before, self.nop) {
-            (0, _) => "So its event changes nothing (nop).",
-            (_, true) => "From each state in which walks arrive, its event raises no alarm and leads to a state of the same class (nop).",
-            (_, false) => "From some state in which walks arrive, its event raises an alarm or leads to a state of another class.",
-        };
-        let plan = match self.watched {
-            true => "The plan watches it: with this point alone unwatched too, some walk has other alarms.",
-            false => "The plan leaves it unwatched: on every walk the alarms stay the same.",
-        };
-        let (node, symbol) = (names.node(self.node), names.symbol(self.symbol));
-        let lines = [arrives, classes, nop.to_string(), plan.to_string()];
-        format!(
-            "\nNode {node}, symbol {symbol}:\n  {}\n",
-            lines.join("\n  ")
-        )
+/// What a plan does with a point.
+pub fn plan_word(watched: bool) -> &'static str {
+    match watched {
+        true => "watched",
+        false => "unwatched",
     }
 }

@@ -30,7 +30,17 @@ pub fn job(name: &OsStr) -> Result<Input, String> {
 
 /// Reads a plan file, a line of digits. What a digit above 1 means is for the plan check to say.
 pub fn plan(name: &OsStr) -> Result<Plan, String> {
-    let Input { shown, bytes } = read(name, PLAN_FILE)?;
+    digits(plan_file(name)?)
+}
+
+/// Reads a plan file, whatever stands in it.
+pub fn plan_file(name: &OsStr) -> Result<Input, String> {
+    read(name, PLAN_FILE)
+}
+
+/// The digits of a plan file, which is one line of them.
+pub fn digits(file: Input) -> Result<Plan, String> {
+    let Input { shown, bytes } = file;
     let line = bytes.strip_suffix(b"\n").unwrap_or(&bytes);
     if let Some(place) = line.iter().position(|byte| !byte.is_ascii_digit()) {
         let (found, ending) = match line[place] {

@@ -1,13 +1,15 @@
 //! Jobs that the proved calls accept, as the second reader has them.
 use crate::input::{Input, Plan};
+use crate::names::Names;
+use crate::refusal::Told;
 use crate::tariff::Tariff;
 use crate::{output, refusal};
 use dapohiru::{Counts, Refusal, Rule, Verdict};
-use dapohiru_second::job::{members, Job};
+use dapohiru_second::job::Job;
 use dapohiru_second::reading;
 
 /// The plan that the proved call makes, with its counts, or what is said of its refusal.
-pub fn planned(job: &Input) -> Result<(Vec<u8>, Counts), String> {
+pub fn planned(job: &Input) -> Result<(Vec<u8>, Counts), Told> {
     // planning writes a byte, 0 or 1, for each node and no others
     const UNWRITTEN: u8 = 255;
     let mut plan = vec![UNWRITTEN; dapohiru::PLAN_LEN];
@@ -18,14 +20,14 @@ pub fn planned(job: &Input) -> Result<(Vec<u8>, Counts), String> {
 }
 
 /// What the proved call finds of a plan, or what is said of its refusal.
-pub fn checked(job: &Input, plan: &Plan) -> Result<Verdict, String> {
+pub fn checked(job: &Input, plan: &Plan, names: &Names) -> Result<Verdict, Told> {
     let work = &mut vec![0; dapohiru::WORK_LEN];
     dapohiru::check(&job.bytes, &plan.bytes, work)
-        .map_err(|refusal| refusal::of_plan(job, plan, refusal))
+        .map_err(|refusal| refusal::of_plan(job, plan, names, refusal))
 }
 
 /// What a plan costs a day by the proved call, in cents, or what is said of its refusal.
-pub fn priced(job: &Input, plan: &Plan, volumes: &Input, tariff: &Tariff) -> Result<u64, String> {
+pub fn priced(job: &Input, plan: &Plan, volumes: &Input, tariff: &Tariff) -> Result<u64, Told> {
     tariff
         .price(&job.bytes, &plan.bytes, &volumes.bytes)
         .map_err(|refusal| refusal::of_price(job, plan, volumes, tariff, refusal))
@@ -33,7 +35,12 @@ pub fn priced(job: &Input, plan: &Plan, volumes: &Input, tariff: &Tariff) -> Res
 
 /// The bytes of a plan that the proved call accepts; of one that is different a note says so.
 pub fn given_plan(job: &Input, plan: Plan) -> Result<Vec<u8>, String> {
-    if checked(job, &plan)? == Verdict::Different {
+    named_plan(job, plan, &Names::default())
+}
+
+/// The same with names for what is said of a refusal.
+pub fn named_plan(job: &Input, plan: Plan, names: &Names) -> Result<Vec<u8>, String> {
+    if checked(job, &plan, names)? == Verdict::Different {
         let shown = &plan.shown;
         output::note(&format!(
             "note: {shown} is different: on some walk it has other alarms than all points watched\n"
@@ -47,7 +54,7 @@ pub fn accepted(job: &Input) -> Result<Job, String> {
     // a plan of no bytes is refused as 11 where nothing is wrong with the file
     match dapohiru::check(&job.bytes, &[], &mut vec![0; dapohiru::WORK_LEN]) {
         Err(Refusal(11)) => {}
-        Err(refusal) => return Err(refusal::of_job(job, refusal)),
+        Err(refusal) => return Err(refusal::of_job(job, refusal).text),
         Ok(_) => unreachable!("no job has no node"),
     }
     reading::job(&job.bytes).map_err(|number| refusal::by_second_reader_alone(&job.shown, number))
@@ -70,10 +77,4 @@ pub fn line(plan: &[u8]) -> String {
     let mut line: String = plan.iter().map(|byte| char::from(b'0' + byte)).collect();
     line.push('\n');
     line
-}
-
-/// A set in braces, by its members.
-pub fn set(set: u64) -> String {
-    let members: Vec<_> = members(set).map(|member| member.to_string()).collect();
-    format!("{{{}}}", members.join(","))
 }

@@ -4,7 +4,7 @@ use std::ffi::OsStr;
 use std::fmt::{self, Display, Formatter, Write};
 use std::os::unix::ffi::OsStrExt;
 
-/// A value. Numbers are below 2^53 wherever a reader of 64-bit floats is to be served.
+/// A value.
 #[derive(Clone, Debug, PartialEq, Eq)]
 pub enum Json {
     Bool(bool),
@@ -36,6 +36,11 @@ impl Json {
             }
         }
     }
+}
+
+/// A document of these fields, as a line.
+pub fn document(fields: Vec<(&'static str, Json)>) -> String {
+    format!("{}\n", Json::Object(fields))
 }
 
 impl Display for Json {

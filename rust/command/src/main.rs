@@ -1,21 +1,26 @@
 //! The command line of the planner and the monitor: a thin layer over the proved calls, which decides
 //! nothing itself. Each command is a module.
 mod args;
+mod audit;
 mod bill;
 mod check;
+mod child;
 mod clock;
 mod digest;
 mod dot;
+mod drawing;
 mod encoding;
 mod events;
 mod explain;
 mod fault;
+mod folder;
 mod graph;
 mod input;
 mod job;
 mod json;
 mod lines;
 mod list;
+mod listing;
 mod monitor;
 mod names;
 mod numbered;
@@ -37,10 +42,11 @@ mod stop;
 mod summary;
 mod table;
 mod tariff;
+mod terminal;
 mod watch;
 
 use args::{Asked, Command};
-use std::ffi::OsString;
+use std::ffi::{OsStr, OsString};
 use std::process::ExitCode;
 
 /// The commands, in the order of the help.
@@ -71,16 +77,41 @@ fn run(words: &[OsString]) -> Result<u8, String> {
     let Some((first, words)) = words.split_first() else {
         return Err(format!("no command is given\n{}", known()));
     };
-    if first == "--help" || first == "-h" {
-        return output::print(help().as_bytes()).map(|()| 0);
+    match first.to_str() {
+        Some("--help" | "-h") => print(&help()),
+        Some("--version" | "-V") => print(&format!("dapohiru {}\n", env!("CARGO_PKG_VERSION"))),
+        Some("help") => asked_help(words),
+        _ => {
+            let command = command(first)?;
+            match args::take(command, words)? {
+                Asked::Help => print(&command.help()),
+                Asked::Run(given) => (command.run)(&given),
+            }
+        }
     }
-    let Some(command) = COMMANDS.into_iter().find(|command| first == command.name) else {
-        let first = shown::name(first);
-        return Err(format!("{first} is no command\n{}", known()));
-    };
-    match args::take(command, words)? {
-        Asked::Help => output::print(command.help().as_bytes()).map(|()| 0),
-        Asked::Run(given) => (command.run)(&given),
+}
+
+/// Prints a text, and gives the exit status.
+fn print(text: &str) -> Result<u8, String> {
+    output::print(text.as_bytes()).map(|()| 0)
+}
+
+/// The command of this name.
+fn command(name: &OsStr) -> Result<&'static Command, String> {
+    let found = COMMANDS.into_iter().find(|command| name == command.name);
+    found.ok_or_else(|| format!("{} is no command\n{}", shown::name(name), known()))
+}
+
+/// Prints the help for all commands, or for the one that is named.
+fn asked_help(words: &[OsString]) -> Result<u8, String> {
+    match words {
+        [] => print(&help()),
+        [name] if ["help", "--help", "-h"].iter().any(|help| name == help) => print(&help()),
+        [name] => print(&command(name)?.help()),
+        [_, extra, ..] => Err(format!(
+            "help: {} is one name too many\nusage: dapohiru help [COMMAND]",
+            shown::name(extra)
+        )),
     }
 }
 
@@ -96,15 +127,29 @@ fn help() -> String {
     for command in COMMANDS {
         text += &format!("  {}\n      {}\n", command.usage, command.summary);
     }
-    text + "
+    text + "  help [COMMAND]
+      Prints this text, or what COMMAND --help prints.
+  --version
+      Prints the program's version.
+
 JOB is a job file, PLAN a file that holds a line of 0 and 1 with one digit for each node, VOLUMES one
 with a line for each node and its events a day, and the file of --prices one with a line for each of
 the symbols 0 to 15 and what a thousand of its events cost. One of the files of a command may be -,
 which is standard input; watch reads its events there. What begins with - is an option, up to the
 word --.
+The file of --names has a line for each name, of a symbol, a node or a state of the job:
+
+  symbol 0 seal
+  node 2 second write
+  state 1 sealed
+
+`0 seal` names a symbol too. A name is text without control characters.
+In names of files and all other text from outside, control characters, those that stand in no column,
+bytes that are no UTF-8 and the backslash are shown as \\n, \\u{1b}, \\xff and \\\\.
 `dapohiru COMMAND --help` tells more of a command.
 
 Exit status: 0 done, faithful, no alarm; 1 different, an alarm, or a refused job in a release;
-2 a refusal or something else that is wrong, which standard error names.
+2 a refusal or something else that is wrong, which standard error names; of watch also 3 events that
+are no walk, and 4 a line that is no event.
 "
 }

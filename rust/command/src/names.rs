@@ -4,6 +4,7 @@ use crate::encoding;
 use crate::input::{self, Input};
 use crate::json::Json;
 use crate::shown;
+use crate::table::{Side, LEAST};
 use dapohiru_second::job::{members, Job};
 use std::ffi::OsStr;
 
@@ -29,11 +30,16 @@ const KINDS: [(&str, Kind); 3] = [
 #[derive(Default)]
 pub struct Names([Vec<Option<String>>; 3]);
 
-/// The file of the names that are asked for, which are shown with `--explain` alone.
-pub fn asked<'a>(given: &'a Given, command: &str) -> Result<Option<&'a OsStr>, String> {
+/// The file of the names that are asked for, which are shown with one of these options alone.
+pub fn asked<'a>(
+    given: &'a Given,
+    command: &str,
+    shown_with: &[&str],
+) -> Result<Option<&'a OsStr>, String> {
     match given.value("--names") {
-        Some(_) if !given.has("--explain") => {
-            Err(format!("{command}: --names is only of use with --explain"))
+        Some(_) if !shown_with.iter().any(|option| given.has(option)) => {
+            let options = shown_with.join(" or ");
+            Err(format!("{command}: --names is only of use with {options}"))
         }
         names => Ok(names),
     }
@@ -119,6 +125,14 @@ impl Names {
     fn set(&self, kind: Kind, set: u64) -> String {
         let members: Vec<_> = members(set).map(|member| self.of(kind, member)).collect();
         format!("{{{}}}", members.join(","))
+    }
+
+    /// The side of a column of nodes: the left where nodes have names.
+    pub fn node_side(&self) -> Side {
+        match self.0[Kind::Node as usize].iter().any(Option::is_some) {
+            true => Side::Name(LEAST),
+            false => Side::Right,
+        }
     }
 
     /// The names as they stand in the file: for symbols, nodes and states a list.

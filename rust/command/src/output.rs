@@ -24,6 +24,14 @@ pub fn complain(why: &str) {
     let _ = note(&format!("dapohiru: {}\n", why.trim_end()));
 }
 
+/// Prints what an answer has of a refusal, and gives what is said of it, and of output that cannot be written.
+pub fn refused(printed: &str, told: String) -> String {
+    match print(printed.as_bytes()) {
+        Ok(()) => told,
+        Err(why) => format!("{told}\n{why}"),
+    }
+}
+
 /// Writes all bytes.
 fn written(mut out: impl Write, bytes: &[u8], shown: &str) -> Result<(), String> {
     let done = out.write_all(bytes).and_then(|()| out.flush());
@@ -104,6 +112,18 @@ pub fn write_file(path: &Path, bytes: &[u8]) -> Result<(), String> {
         };
         format!("{shown} is not written: {why}{left}")
     })
+}
+
+/// Makes a folder where it is missing, and makes sure that files can be written in it.
+pub fn make_folder(folder: &Path) -> Result<(), String> {
+    let shown = shown::name(folder.as_os_str());
+    fs::create_dir_all(folder).map_err(|why| format!("{shown}: {why}"))?;
+    let (name, file) = temporary(&folder.join("plan"))
+        .map_err(|why| format!("{shown}: no file can be made in it: {why}"))?;
+    let done = fill(file, b"\n", None);
+    let gone = fs::remove_file(name);
+    done.and(gone)
+        .map_err(|why| format!("{shown}: no file can be written in it: {why}"))
 }
 
 /// The file that a name stands for, and the permissions of the one that is there.

@@ -21,7 +21,7 @@ pub const COMMAND: Command = Command {
                  a file of the house prices
   --explain      a table of what each point costs, what all points watched would cost, and what the plan
                  saves
-  --names FILE   with --explain, names for the symbols: a line for each, its number, a space and its name
+  --names FILE   with --explain, names for the symbols and nodes; `dapohiru help` shows such a file
 In VOLUMES and in the file of --prices each number is right-justified in six columns, with spaces or zeros
 before it. One of the files may be - for standard input.
 
@@ -38,7 +38,7 @@ Exit status: 0 a price; 2 a refused job, plan, volume file or price file, or som
 };
 
 fn run(given: &Given) -> Result<u8, String> {
-    let names = names::asked(given, "price")?;
+    let names = names::asked(given, "price", &["--explain"])?;
     let prices = given.value("--prices");
     let files = [
         ("JOB", given.further(0)),

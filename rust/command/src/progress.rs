@@ -1,9 +1,14 @@
-//! A progress bar on standard error, where that is a terminal.
+//! What is under way, on standard error where that is a terminal: a progress bar, or a line.
+use crate::terminal;
 use std::io::{self, IsTerminal, Write};
 use std::sync::Mutex;
 
-/// How many columns the bar has.
+/// How many columns the bar has at most, and at least.
 const WIDTH: usize = 40;
+const LEAST: usize = 4;
+
+/// Takes the line away.
+const AWAY: &str = "\r\x1b[K";
 
 /// A bar that threads share.
 pub struct Progress {
@@ -35,16 +40,65 @@ impl Progress {
 
     fn draw(&self, done: usize) {
         if self.done.is_some() {
-            let filled = WIDTH * done / self.all.max(1);
-            let bar = "#".repeat(filled) + &".".repeat(WIDTH - filled);
-            let _ = write!(io::stderr(), "\r[{bar}] {done} of {} jobs", self.all);
+            let line = line(done, self.all, terminal::columns(&io::stderr()));
+            let _ = write!(io::stderr(), "\r{line}");
         }
     }
 
     /// Takes the bar away.
     pub fn end(self) {
         if self.done.is_some() {
-            let _ = write!(io::stderr(), "\r\x1b[K");
+            let _ = write!(io::stderr(), "{AWAY}");
+        }
+    }
+}
+
+/// The bar and the count, in fewer columns than the terminal has: without the bar where it has no room, and
+/// nothing where the count has none.
+fn line(done: usize, all: usize, columns: Option<usize>) -> String {
+    let count = format!("{done} of {all} jobs");
+    let room = columns.map_or(usize::MAX, |columns| columns - 1);
+    // two brackets and a space
+    match room.saturating_sub(count.len() + 3).min(WIDTH) {
+        width if width >= LEAST => {
+            let filled = width * done / all.max(1);
+            let bar = "#".repeat(filled) + &".".repeat(width - filled);
+            format!("[{bar}] {count}")
+        }
+        _ if count.len() <= room => count,
+        _ => String::new(),
+    }
+}
+
+/// Says what is under way while the work is done.
+pub fn during<T>(what: &str, work: impl FnOnce() -> T) -> T {
+    let shown = io::stderr().is_terminal();
+    if shown {
+        let _ = write!(io::stderr(), "{what} ..");
+    }
+    let done = work();
+    if shown {
+        let _ = write!(io::stderr(), "{AWAY}");
+    }
+    done
+}
+
+#[cfg(test)]
+mod tests {
+    use super::*;
+
+    #[test]
+    fn line_fits_the_terminal() {
+        let bar = format!("[{}{}] 3 of 12 jobs", "#".repeat(10), ".".repeat(30));
+        assert_eq!(line(3, 12, None), bar);
+        assert_eq!(line(3, 12, Some(200)), bar);
+        assert_eq!(line(3, 12, Some(24)), "[##......] 3 of 12 jobs");
+        assert_eq!(line(3, 12, Some(20)), "[#...] 3 of 12 jobs");
+        assert_eq!(line(3, 12, Some(19)), "3 of 12 jobs");
+        assert_eq!(line(3, 12, Some(13)), "3 of 12 jobs");
+        assert_eq!(line(3, 12, Some(12)), "");
+        for columns in 1..100 {
+            assert!(line(7, 12, Some(columns)).len() < columns);
         }
     }
 }

@@ -20,8 +20,8 @@ pub struct RecordFile {
     shown: String,
     place: PathBuf,
     permissions: Option<Permissions>,
-    /// The record that was there, which is kept for its lock.
-    _found: Option<File>,
+    /// The record that was there, which holds its lock until another is written.
+    found: Option<File>,
     /// Whether there is a record.
     is_there: bool,
     /// The hidden files, the one that is written next first.
@@ -61,7 +61,7 @@ impl RecordFile {
             place,
             permissions,
             is_there: found.is_some(),
-            _found: found,
+            found,
             sides: Vec::new(),
             unsynced: None,
         };
@@ -79,6 +79,7 @@ impl RecordFile {
         self.put(text)
             .map_err(|why| format!("{} is not written: {why}", self.shown))?;
         self.is_there = true;
+        self.found = None;
         self.sides.swap(0, 1);
         self.unsynced.get_or_insert_with(Instant::now);
         Ok(())

@@ -3,6 +3,8 @@
 use crate::encoding;
 use crate::fault::Fault;
 use crate::input::{Input, Plan};
+use crate::json::Json;
+use crate::names::Names;
 use crate::numbered::{PRICES, VOLUMES};
 use crate::place::first_fault;
 use crate::tariff::Tariff;
@@ -11,15 +13,52 @@ use dapohiru_second::job::{EVENT, REENTRANT};
 use dapohiru_second::pricing::SYMBOLS;
 use dapohiru_second::reading;
 
+/// A refusal, with what is said of it.
+pub struct Told {
+    pub refusal: Refusal,
+    /// What the second reader found, where it finds the same number.
+    fault: Option<Box<Fault>>,
+    /// How the file was written, where no file is written so.
+    hint: Option<String>,
+    /// All of it in words.
+    pub text: String,
+}
+
+impl From<Told> for String {
+    fn from(told: Told) -> Self {
+        told.text
+    }
+}
+
+impl Told {
+    /// The number, and where there is more to say the meaning, the place, what stands there, what was expected, and
+    /// what the file has that no file has.
+    pub fn json(&self) -> Json {
+        let mut fields = vec![("number", Json::Number(self.refusal.0))];
+        if let Some(fault) = &self.fault {
+            fields.push(("meaning", Json::text(meaning(fault.number))));
+            if let Some((line, first, last)) = fault.place {
+                let columns = [first, last].map(Json::number).to_vec();
+                fields.push(("line", Json::number(line)));
+                fields.push(("columns", Json::List(columns)));
+            }
+            fields.push(("found", Json::text(&fault.found)));
+            fields.push(("expected", Json::text(&fault.expected)));
+        }
+        fields.extend(self.hint.iter().map(|hint| ("has", Json::text(hint))));
+        Json::Object(fields)
+    }
+}
+
 /// What is said of a refused job file.
-pub fn of_job(job: &Input, refusal: Refusal) -> String {
+pub fn of_job(job: &Input, refusal: Refusal) -> Told {
     told_of(job, refusal, first_fault(&job.bytes))
 }
 
 /// What is said of a refused job file or plan, whichever it is.
-pub fn of_plan(job: &Input, plan: &Plan, refusal: Refusal) -> String {
+pub fn of_plan(job: &Input, plan: &Plan, names: &Names, refusal: Refusal) -> Told {
     match refusal.0 {
-        11 | 12 => told(&plan.shown, refusal, plan_fault(job, &plan.bytes)),
+        11 | 12 => told(&plan.shown, refusal, plan_fault(job, &plan.bytes, names)),
         _ => of_job(job, refusal),
     }
 }
@@ -31,27 +70,42 @@ pub fn of_price(
     volumes: &Input,
     tariff: &Tariff,
     refusal: Refusal,
-) -> String {
+) -> Told {
     match (refusal.0, tariff) {
         (16, _) => told_of(volumes, refusal, volume_fault(job, &volumes.bytes)),
         (28, Tariff::Own(prices)) => {
             let fault = PRICES.read(&prices.bytes, SYMBOLS).err();
             told_of(prices, refusal, fault)
         }
-        _ => of_plan(job, plan, refusal),
+        _ => of_plan(job, plan, &Names::default(), refusal),
     }
 }
 
 /// The refusal of a file, with what is told of how it was written.
-fn told_of(file: &Input, refusal: Refusal, fault: Option<Fault>) -> String {
-    told(&file.shown, refusal, fault) + &encoding::told(&file.bytes)
+fn told_of(file: &Input, refusal: Refusal, fault: Option<Fault>) -> Told {
+    let told = told(&file.shown, refusal, fault);
+    Told {
+        hint: encoding::hint(&file.bytes),
+        text: told.text + &encoding::told(&file.bytes),
+        ..told
+    }
 }
 
 /// The refusal of the proved call, and the fault that a second reader found.
-fn told(shown: &str, refusal: Refusal, fault: Option<Fault>) -> String {
-    let Some(fault) = fault.filter(|fault| fault.number == refusal.0) else {
-        return format!("{shown}: {refusal}");
-    };
+fn told(shown: &str, refusal: Refusal, fault: Option<Fault>) -> Told {
+    let fault = fault.filter(|fault| fault.number == refusal.0);
+    let fault = fault.map(Box::new);
+    let more = fault.as_deref().map(words).unwrap_or_default();
+    Told {
+        refusal,
+        fault,
+        hint: None,
+        text: format!("{shown}: {refusal}{more}"),
+    }
+}
+
+/// A fault in words, after its number.
+fn words(fault: &Fault) -> String {
     let place = match fault.place {
         Some((line, first, last)) if first == last => format!("line {line}, column {first}: "),
         Some((line, first, last)) => format!("line {line}, columns {first} to {last}: "),
@@ -61,7 +115,7 @@ fn told(shown: &str, refusal: Refusal, fault: Option<Fault>) -> String {
     let Fault {
         found, expected, ..
     } = fault;
-    format!("{shown}: {refusal}: {meaning}\n  {place}found {found}\n  expected: {expected}")
+    format!(": {meaning}\n  {place}found {found}\n  expected: {expected}")
 }
 
 /// What is said of a file that the proved call accepts and the second reader refuses.
@@ -70,7 +124,7 @@ pub fn by_second_reader_alone(shown: &str, number: u64) -> String {
 }
 
 /// The first fault of a plan for a job that is accepted.
-fn plan_fault(job: &Input, plan: &[u8]) -> Option<Fault> {
+fn plan_fault(job: &Input, plan: &[u8], names: &Names) -> Option<Fault> {
     let nodes = reading::job(&job.bytes).ok()?.nodes;
     let fault = |number, column, found, expected| {
         Some(Fault {
@@ -91,10 +145,11 @@ fn plan_fault(job: &Input, plan: &[u8]) -> Option<Fault> {
     }
     let place = |(node, &digit): (usize, &u8)| digit > u8::from(nodes[node].kind == EVENT);
     let node = plan.iter().enumerate().position(place)?;
+    let named = names.node(node);
     let expected = match nodes[node].kind {
-        EVENT => format!("0 or 1 at node {node}, an event node"),
-        REENTRANT => format!("0 at node {node}, a call that may come back in and no event node"),
-        _ => format!("0 at node {node}, which is no event node"),
+        EVENT => format!("0 or 1 at node {named}, an event node"),
+        REENTRANT => format!("0 at node {named}, a call that may come back in and no event node"),
+        _ => format!("0 at node {named}, which is no event node"),
     };
     fault(12, node + 1, format!("`{}`", plan[node]), expected)
 }
@@ -134,10 +189,19 @@ mod tests {
     fn differing_second_reader_leaves_the_proved_number_alone() {
         let fault = || first_fault(b"K");
         assert_eq!(fault().unwrap().number, 4);
-        assert_eq!(told("x.job", Refusal(5), fault()), "x.job: refused 5");
-        assert_eq!(told("x.job", Refusal(5), None), "x.job: refused 5");
+        for fault in [fault(), None] {
+            let told = told("x.job", Refusal(5), fault);
+            assert_eq!(told.text, "x.job: refused 5");
+            assert_eq!(told.json().to_string(), "{\"number\":5}");
+        }
+        let told = told("x.job", Refusal(4), fault());
         assert_eq!(
-            told("x.job", Refusal(4), fault()),
+            told.json().to_string(),
+            "{\"number\":4,\"meaning\":\"the line due has not its letter, its fields or its end byte\",\
+             \"line\":1,\"columns\":[1,1],\"found\":\"`K`\",\"expected\":\"the letter J\"}"
+        );
+        assert_eq!(
+            told.text,
             "x.job: refused 4: the line due has not its letter, its fields or its end byte\n  \
              line 1, column 1: found `K`\n  expected: the letter J"
         );

@@ -1,30 +1,143 @@
-//! Tables with headings, in columns as wide as what stands in them.
+//! Tables with headings, in columns as wide as what stands in them, or on a terminal as wide as it has room for.
+use crate::{shown, terminal};
+use std::io;
 
 /// The side of its column on which a cell stands.
 #[derive(Clone, Copy, PartialEq, Eq)]
 pub enum Side {
     Left,
     Right,
+    /// The left, for names, which may be long, and keep so many columns on the narrowest terminal.
+    Name(usize),
 }
 
-/// The rows with two spaces between columns; the first row holds the headings.
+/// The columns that a name needs.
+pub const LEAST: usize = 8;
+/// What stands for the middle of a cell that is too long.
+const CUT: &str = "..";
+
+/// The rows for standard output; the first row holds the headings.
 pub fn table<const N: usize>(sides: [Side; N], rows: &[[String; N]]) -> String {
+    fitted(sides, rows, terminal::columns(&io::stdout()))
+}
+
+/// The rows with two spaces between columns. Where so many columns of a terminal are too few, names are cut in
+/// the middle, and then one space stands between columns; all else stays whole.
+fn fitted<const N: usize>(sides: [Side; N], rows: &[[String; N]], room: Option<usize>) -> String {
     let width = |column: usize| {
-        let cells = rows.iter().map(|row| row[column].chars().count());
+        let cells = rows.iter().map(|row| shown::width(&row[column]));
         cells.max().unwrap_or(0)
     };
-    let widths: Vec<_> = (0..N).map(width).collect();
-    let mut text = String::new();
-    for row in rows {
+    let whole: Vec<_> = (0..N).map(width).collect();
+    let widths = |most: usize| -> Vec<_> {
+        let cut = |(&width, side): (&usize, Side)| match side {
+            Side::Name(least) => width.min(most.max(least)),
+            Side::Left | Side::Right => width,
+        };
+        whole.iter().zip(sides).map(cut).collect()
+    };
+    let fits = |&(most, gap): &(usize, usize)| {
+        let needed = widths(most).iter().sum::<usize>() + gap * (N - 1);
+        room.is_none_or(|room| needed <= room)
+    };
+    let widest = whole.iter().copied().max().unwrap_or(0).max(LEAST);
+    let mut shapes = [2, 1]
+        .into_iter()
+        .flat_map(|gap| (LEAST..=widest).rev().map(move |most| (most, gap)));
+    let (most, gap) = shapes.find(fits).unwrap_or((LEAST, 1));
+    let widths = widths(most);
+    let line = |row: &[String; N]| {
         let cells = row.iter().zip(&widths).zip(sides);
         let cells: Vec<_> = cells
-            .map(|((cell, &width), side)| match side {
-                Side::Left => format!("{cell:<width$}"),
-                Side::Right => format!("{cell:>width$}"),
-            })
+            .map(|((cell, &width), side)| padded(&cut(cell, width), width, side))
             .collect();
-        text += cells.join("  ").trim_end();
-        text += "\n";
+        cells.join(&" ".repeat(gap)).trim_end().to_string() + "\n"
+    };
+    rows.iter().map(line).collect()
+}
+
+/// A cell in so many columns.
+fn padded(cell: &str, width: usize, side: Side) -> String {
+    let room = " ".repeat(width.saturating_sub(shown::width(cell)));
+    match side {
+        Side::Right => room + cell,
+        Side::Left | Side::Name(_) => cell.to_string() + &room,
     }
-    text
+}
+
+/// A cell that takes so many columns at most, without its middle if it is longer.
+fn cut(cell: &str, most: usize) -> String {
+    if shown::width(cell) <= most {
+        return cell.to_string();
+    }
+    let room = most.saturating_sub(CUT.len());
+    let end = first(cell.chars().rev(), room / 2);
+    let end: String = end.chars().rev().collect();
+    first(cell.chars(), room - room / 2) + CUT + &end
+}
+
+/// The first characters, as many as have room.
+fn first(letters: impl Iterator<Item = char>, room: usize) -> String {
+    let mut taken = String::new();
+    for letter in letters {
+        taken.push(letter);
+        if shown::width(&taken) > room {
+            taken.pop();
+            break;
+        }
+    }
+    taken
+}
+
+#[cfg(test)]
+mod tests {
+    use super::*;
+
+    /// A table of a name and a number, on a terminal of so many columns.
+    fn of(name: &str, room: Option<usize>) -> String {
+        let rows = [["job", "points"], [name, "3"], ["1 planned", "12345"]];
+        let rows = rows.map(|row| row.map(str::to_string));
+        fitted([Side::Name(10), Side::Right], &rows, room)
+    }
+
+    #[test]
+    fn columns_are_as_wide_as_what_stands_in_them() {
+        let wanted = "job        points\npair.job        3\n1 planned   12345\n";
+        for room in [None, Some(200), Some(17)] {
+            assert_eq!(of("pair.job", room), wanted);
+        }
+        // two columns for each of the two characters
+        let wanted = "job        points\n\u{5c01}\u{5370}.job        3\n1 planned   12345\n";
+        assert_eq!(of("\u{5c01}\u{5370}.job", None), wanted);
+    }
+
+    #[test]
+    fn long_cells_are_cut_in_the_middle_where_there_is_no_room() {
+        let name = "a".repeat(30) + ".job";
+        assert!(of(&name, None).contains(&name));
+        let wanted = "job             points\naaaaaa..aa.job       3\n1 planned        12345\n";
+        assert_eq!(of(&name, Some(22)), wanted);
+        let wide = "\u{5c01}".repeat(20);
+        for room in 18..60 {
+            let printed = of(&wide, Some(room));
+            assert!(
+                printed.lines().all(|line| shown::width(line) <= room),
+                "{printed}"
+            );
+        }
+    }
+
+    #[test]
+    fn narrow_terminals_have_one_space_between_columns_and_whole_numbers() {
+        let name = "a".repeat(30) + ".job";
+        let wanted = "job        points\naaaa...job      3\n1 planned   12345\n";
+        assert_eq!(of(&name, Some(17)), wanted);
+        for room in [1, 10, 16] {
+            assert_eq!(of(&name, Some(room)), wanted);
+        }
+        // what is no name is never cut
+        let rows = [["plan"; 2], ["refused by its job"; 2]].map(|row| row.map(str::to_string));
+        let printed = fitted([Side::Left; 2], &rows, Some(1));
+        assert_eq!(printed.matches("refused by its job").count(), 2);
+    }
 }

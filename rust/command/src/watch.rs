@@ -71,12 +71,12 @@ fn run(given: &Given) -> Result<u8, String> {
     let file = input::job(name)?;
     let job = job::accepted(&file)?;
     let rule = job::rule(&file)?;
+    let names = Names::read(names, &job)?;
     let plan = match plan_name {
         None => job.all_watched(),
-        Some(plan) => job::given_plan(&file, input::plan(plan)?)?,
+        Some(plan) => job::named_plan(&file, input::plan(plan)?, &names)?,
     };
     let plan_shown = plan_name.map(shown::name);
-    let names = Names::read(names, &job)?;
     let asked = Asked::of(&job, given.value("--entry"), given.value("--state"))?;
     let reports = Reports {
         job: &job,

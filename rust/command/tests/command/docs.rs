@@ -25,21 +25,24 @@ fn examples() -> Vec<(&'static str, String)> {
     examples
 }
 
-/// What a command prints on a terminal, without the progress bar.
+/// What a command prints on a terminal, without what it says while it is under way.
 fn printed(folder: &Path, command: &str) -> String {
     let output = Command::new("script")
         .args(["-qec", command, "/dev/null"])
         .current_dir(folder)
         .env("SHELL", "/bin/bash")
         .env("LC_ALL", "C")
+        .env_remove("COLUMNS")
         .stdin(Stdio::null())
         .output()
         .unwrap();
     let text = String::from_utf8(output.stdout).unwrap();
-    let lines = text.lines().map(|line| match line.rsplit_once("\r\x1b[K") {
+    let lines = text.split_inclusive('\n');
+    let lines = lines.map(|line| match line.rsplit_once("\r\x1b[K") {
         Some((_, line)) => line,
         None => line,
     });
+    let lines = lines.filter(|line| !line.is_empty());
     lines
         .map(|line| line.trim_end().to_string() + "\n")
         .collect()

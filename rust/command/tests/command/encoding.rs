@@ -137,3 +137,12 @@ fn events_written_in_other_ways_are_told_with_what_mends_them() {
         assert_eq!(shell(script, &[&job, &name]), wanted);
     }
 }
+
+#[test]
+fn document_of_a_refused_file_has_what_mends_it() {
+    let job = PAIR.replace('\n', "\r\n");
+    let (status, printed, _) = run(&["list", "-", "--json"], &job);
+    assert_eq!(status, 2);
+    let has = "\"has\":\"Windows line ends, mended by `tr -d '\\\\r' < FILE > NEW`\"";
+    assert!(printed.contains(has), "{printed}");
+}

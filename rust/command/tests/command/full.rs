@@ -125,9 +125,11 @@ fn file_on_a_full_disk_stays_as_it_was() {
         assert_eq!(names(&folder), ["pair.plan"]);
     }
     file(&folder, "a.job", PAIR.as_bytes());
-    let (status, printed, wrong) = shell(script, &["release", folder.to_str().unwrap()]);
-    assert_eq!((status, printed.lines().count()), (2, 2));
-    assert!(wrong.starts_with("dapohiru: 1 of 1 jobs not read or not written:\n"));
+    let done = shell(script, &["release", folder.to_str().unwrap()]);
+    let shown = folder.display();
+    let wrong =
+        format!("dapohiru: {shown}: no file can be written in it: File too large (os error 27)\n");
+    assert_eq!(done, (2, String::new(), wrong));
     assert_eq!(names(&folder), ["a.job", "pair.plan"]);
 }
 

@@ -1,11 +1,17 @@
 //! The command line, run as a program.
+mod audit;
 mod check;
+mod child;
 mod docs;
 mod encoding;
 mod full;
 mod graph;
+mod help;
+mod json;
 mod kinds;
 mod list;
+mod names;
+mod narrow;
 mod numbered;
 mod places;
 mod plan;
@@ -14,6 +20,7 @@ mod prices;
 mod program;
 mod release;
 mod running;
+mod shown;
 mod stop;
 mod watch;
 mod watch_record;

@@ -1,4 +1,5 @@
 //! The program under test, and files for it.
+use std::ffi::OsStr;
 use std::fs;
 use std::io::Write;
 use std::path::{Path, PathBuf};
@@ -76,6 +77,11 @@ pub fn run_bytes(words: &[&str], input: &[u8]) -> Done {
     ended(child)
 }
 
+/// The same with words that need not be text, and no input.
+pub fn run_words(words: &[&OsStr]) -> Done {
+    ended(program(&[]).args(words).spawn().unwrap())
+}
+
 /// Runs lines of bash, in which `$1` is the program and the words follow.
 pub fn shell(script: &str, words: &[&str]) -> Done {
     let child = Command::new("bash")
@@ -92,6 +98,16 @@ pub fn shell(script: &str, words: &[&str]) -> Done {
 pub fn terminal(words: &[&str]) -> Done {
     let script = "SHELL=$BASH script -qec \"$(printf '%q ' \"$@\")\" /dev/null";
     shell(script, words)
+}
+
+/// The same on a terminal of so many columns.
+pub fn narrow(columns: usize, words: &[&str]) -> Done {
+    let (script, columns) = ("stty cols \"$0\" && exec \"$@\"", columns.to_string());
+    let begin = ["bash", "-c", script, &columns, PROGRAM];
+    let words = [&begin[..], words].concat();
+    let script =
+        "shift; unset COLUMNS; SHELL=$BASH script -qec \"$(printf '%q ' \"$@\")\" /dev/null";
+    shell(script, &words)
 }
 
 /// Waits for a program's end.

@@ -206,3 +206,63 @@ fn progress_bar_is_for_a_terminal() {
     assert!(done.1.contains("] 0 of 1 jobs\r["), "{}", done.1);
     assert!(done.1.contains("] 1 of 1 jobs\r\x1b[Kjob "), "{}", done.1);
 }
+
+#[test]
+fn output_folder_is_tested_before_anything_is_planned() {
+    let jobs = folder("release-out");
+    file(&jobs, "a.job", PAIR.as_bytes());
+    file(&jobs, "cut.job", b"K");
+    let text = file(&jobs, "a.txt", b"");
+    symlink("nothing", jobs.join("link")).unwrap();
+    let link = jobs.join("link").display().to_string();
+    for (out, why) in [
+        (text.as_str(), "File exists (os error 17)"),
+        (&link, "File exists (os error 17)"),
+        ("/proc", "no file can be made in it: "),
+        ("/dev/null/plans", "Not a directory (os error 20)"),
+    ] {
+        let (status, printed, wrong) = release(&jobs, &["-o", out]);
+        assert_eq!((status, printed.as_str()), (2, ""));
+        assert!(
+            wrong.starts_with(&format!("dapohiru: {out}: {why}")),
+            "{wrong}"
+        );
+        // no job is looked at
+        assert_eq!(wrong.lines().count(), 1, "{wrong}");
+    }
+    assert_eq!(names(&jobs), ["a.job", "a.txt", "cut.job", "link"]);
+    let (status, _, _) = release(&jobs, &["-o", jobs.join("new/plans").to_str().unwrap()]);
+    assert_eq!(status, 1);
+    assert_eq!(names(&jobs.join("new/plans")), ["a.plan"]);
+}
+
+#[test]
+fn names_that_are_almost_those_of_jobs_are_named_as_skipped() {
+    let jobs = folder("release-skipped");
+    for name in [
+        "B.JOB",
+        "c.Job",
+        ".job",
+        ".hidden.job",
+        ".hidden.JOB",
+        "d.jobs",
+        "e.job~",
+    ] {
+        file(&jobs, name, PAIR.as_bytes());
+    }
+    let skipped: String = [".job", "B.JOB", "c.Job"]
+        .iter()
+        .map(|name| format!("note: {name} is skipped: job files are named NAME.job\n"))
+        .collect();
+    let none = format!(
+        "dapohiru: {}: there is no file NAME.job in it\n{skipped}",
+        jobs.display()
+    );
+    assert_eq!(release(&jobs, &[]), (2, String::new(), none));
+    file(&jobs, "a.job", PAIR.as_bytes());
+    for more in [&[][..], &["--check"]] {
+        let (status, printed, wrong) = release(&jobs, more);
+        assert_eq!((status, wrong.as_str()), (0, skipped.as_str()));
+        assert_eq!(printed.matches(".job ").count(), 1, "{printed}");
+    }
+}

@@ -1,4 +1,4 @@
-//! The words of the command line: wrong ones, missing files, and the help.
+//! The words of the command line: wrong ones, and missing files.
 use crate::program::{example, run};
 
 /// The commands, in the order of the help.
@@ -7,7 +7,7 @@ pub const COMMANDS: [&str; 8] = [
 ];
 
 /// A command's name, and what follows it in its usage: words, or for `prices`, which takes none, the line's end.
-fn named(name: &str) -> String {
+pub fn named(name: &str) -> String {
     let end = if name == "prices" { '\n' } else { ' ' };
     format!("{name}{end}")
 }
@@ -21,6 +21,8 @@ fn unknown_command_is_told_with_the_known_ones() {
         (&["monitor"], "monitor is no command"),
         (&["-"], "- is no command"),
         (&["--quick", "plan"], "--quick is no command"),
+        (&["help", "monitor"], "monitor is no command"),
+        (&["PLAN"], "PLAN is no command"),
     ] {
         let wrong = format!("dapohiru: {why}\n{known}");
         assert_eq!(run(words, ""), (2, String::new(), wrong));
@@ -67,6 +69,34 @@ fn wrong_words_are_told_with_the_usage() {
         (&["release", &job, "-o"], "-o is not followed by OUTDIR"),
         (&["watch", &job, "--state"], "--state is not followed by Q"),
         (&["watch", &job, "--state="], "--state is not followed by Q"),
+        (&["watch", &job, "--entry"], "--entry is not followed by N"),
+        (
+            &["watch", &job, "--entry", "--state=0"],
+            "--entry is not followed by N",
+        ),
+        (
+            &["watch", &job, "--record", "--json"],
+            "--record is not followed by FILE",
+        ),
+        (
+            &["watch", &job, "--names"],
+            "--names is not followed by FILE",
+        ),
+        (&["watch", &job, "--time"], "--time is no option"),
+        (
+            &["watch", &job, "--entry=0", "--entry", "0"],
+            "--entry is given twice",
+        ),
+        (&["release", &job, "--names=x"], "--names=x is no option"),
+        (&["graph", &job, "--json"], "--json is no option"),
+        (
+            &["check", &job, "b", "--names"],
+            "--names is not followed by FILE",
+        ),
+        (
+            &["graph", &job, "--names", "--svg"],
+            "--names is not followed by FILE",
+        ),
         (
             &["list", &job, "--names"],
             "--names is not followed by FILE",
@@ -157,15 +187,31 @@ fn words_that_do_not_go_together_are_told() {
     for (words, why) in [
         (
             &["list", &job, "--names", "x"][..],
-            "list: --names is only of use with --explain",
+            "list: --names is only of use with --explain or --json",
         ),
         (
             &["list", "-", "--explain", "--names=-"],
             "list: JOB and the names cannot both be standard input",
         ),
         (
+            &["list", &job, "--explain", "--json"],
+            "list: --explain and --json are two forms, take one",
+        ),
+        (
             &["check", "-", "-"],
             "check: JOB and PLAN cannot both be standard input",
+        ),
+        (
+            &["check", &job, "-", "--names=-"],
+            "check: PLAN and the names cannot both be standard input",
+        ),
+        (
+            &["check", &job, "b", "--json", "--explain"],
+            "check: --explain and --json are two forms, take one",
+        ),
+        (
+            &["graph", "-", "--names", "-"],
+            "graph: JOB and the names cannot both be standard input",
         ),
         (
             &["graph", "-", "-"],
@@ -224,8 +270,20 @@ fn words_that_do_not_go_together_are_told() {
             "watch: standard input holds the events, so JOB and PLAN are files",
         ),
         (
+            &["watch", &job, "--names", "-"],
+            "watch: standard input holds the events, so the names are a file",
+        ),
+        (
+            &["watch", &job, "--record=-"],
+            "watch: standard input holds the events, so the record is a file",
+        ),
+        (
             &["release", &jobs, "-o", "-"],
             "release: -o is -, and plan files go to a folder; one named - is ./-",
+        ),
+        (
+            &["graph", &job, "--seconds", "5"],
+            "graph: --seconds is only of use with --svg or --png",
         ),
         (
             &["graph", &job, "--svg", "--png"],
@@ -257,6 +315,7 @@ fn missing_file_is_named() {
         &["price", missing, "-", &volumes, "--prices", "/"],
         &["watch", missing],
         &["watch", &job, missing],
+        &["watch", &job, "--names", missing],
         &["release", missing],
         &["graph", missing],
         &["graph", &job, missing],
@@ -269,34 +328,4 @@ fn missing_file_is_named() {
         (status, wrong.as_str()),
         (2, "dapohiru: /: Is a directory (os error 21)\n")
     );
-}
-
-#[test]
-fn help_is_printed_for_all_and_for_each() {
-    for words in [&["--help"][..], &["-h"]] {
-        let (status, printed, wrong) = run(words, "");
-        assert_eq!((status, wrong.as_str()), (0, ""));
-        assert!(printed.starts_with("usage: dapohiru COMMAND"));
-        for name in COMMANDS {
-            let line = format!("\n  {}", named(name));
-            assert!(printed.contains(&line), "{printed}");
-        }
-    }
-    for name in COMMANDS {
-        for words in [
-            &[name, "--help"][..],
-            &[name, "-h"],
-            &[name, "a", "b", "c", "d", "--help"],
-        ] {
-            let (status, printed, wrong) = run(words, "");
-            assert_eq!((status, wrong.as_str()), (0, ""));
-            assert!(printed.starts_with(&format!("usage: dapohiru {}", named(name))));
-            let first = ["\n\n  JOB ", "\n\n  DIR ", "\n\n  dapohiru prices > "];
-            assert!(
-                first.iter().any(|first| printed.contains(first)),
-                "{printed}"
-            );
-            assert!(printed.contains("\nExit status: 0 "));
-        }
-    }
 }
