@@ -28,9 +28,10 @@ pub fn hint(text: &[u8]) -> Option<String> {
     mended(characters(text), has_windows_ends(text))
 }
 
-/// The same of one line without its end, of which the first alone shows in what order its bytes stand.
+/// The same of one line without its end. Without a mark the first line alone shows in what order its bytes stand.
 pub fn hint_of_line(line: &[u8], number: u64) -> Option<String> {
     let characters = match number {
+        _ if is_marked(line) => characters(line),
         1 => characters(line),
         _ if line.contains(&0) => Some(("UTF-16 characters", "iconv -f UTF-16 -t UTF-8")),
         _ => None,
@@ -144,5 +145,8 @@ mod tests {
         };
         assert_eq!(hint_of_line(lines[0], 1), Some(told("UTF-16LE")));
         assert_eq!(hint_of_line(lines[1], 2), Some(told("UTF-16")));
+        let marked = hint_of_line("\u{feff}0".as_bytes(), 7);
+        let mend = "a byte order mark, mended by `tail -c +4 < FILE > NEW`";
+        assert_eq!(marked.as_deref(), Some(mend));
     }
 }

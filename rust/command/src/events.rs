@@ -14,12 +14,12 @@ pub enum Event<'a> {
 
 /// The event of a job that a line without its end stands for, or why it stands for none.
 pub fn event<'a>(job: &Job, line: &'a [u8], number: u64) -> Result<Event<'a>, String> {
-    let shown = shown::bytes(line);
+    let shown = || shown::bytes(line);
     if let Some(hint) = encoding::hint_of_line(line, number) {
-        return Err(format!("`{shown}` is no event: it has {hint}"));
+        return Err(format!("`{}` is no event: it has {hint}", shown()));
     }
     if line.len() > LONGEST {
-        return Err(format!("`{shown}..` is longer than any event"));
+        return Err(format!("`{}..` is longer than any event", shown()));
     }
     let text = line.trim_ascii();
     let (digits, is_word) = match text.strip_prefix(b"=") {
@@ -30,7 +30,8 @@ pub fn event<'a>(job: &Job, line: &'a [u8], number: u64) -> Result<Event<'a>, St
     let value = decimal(digits).filter(|_| !line.contains(&b'\r'));
     let (Some(value), Ok(digits)) = (value, str::from_utf8(digits)) else {
         return Err(format!(
-            "`{shown}` is neither a node number nor = and a symbol"
+            "`{}` is neither a node number nor = and a symbol",
+            shown()
         ));
     };
     if is_word {
