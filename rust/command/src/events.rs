@@ -1,11 +1,10 @@
-//! The lines of the input of `watch`, and the events that they stand for.
+//! The events of the input of `watch`: what a line stands for.
+use crate::lines::LONGEST;
+use crate::{encoding, shown};
 use dapohiru_second::job::{Job, EVENT};
-use std::io::{self, BufRead};
-
-/// The longest line that is kept; no event is as long.
-const LONGEST: usize = 64;
 
 /// An event of the input.
+#[derive(Clone, Copy)]
 pub enum Event<'a> {
     /// The event of a point, with its node.
     Point(usize),
@@ -13,57 +12,38 @@ pub enum Event<'a> {
     Word(u64, &'a str),
 }
 
-/// The event of a job that a line stands for, or why it stands for none.
-pub fn event<'a>(job: &Job, line: &'a [u8]) -> Result<Event<'a>, String> {
-    let shown = line.escape_ascii();
-    let text = line.trim_ascii();
-    if line.len() > LONGEST {
-        return Err(format!("`{shown}..` is longer than any event"));
+/// The event of a job that a line without its end stands for, or why it stands for none.
+pub fn event<'a>(job: &Job, line: &'a [u8], number: u64) -> Result<Event<'a>, String> {
+    let shown = || shown::bytes(line);
+    if let Some(hint) = encoding::hint_of_line(line, number) {
+        return Err(format!("`{}` is no event: it has {hint}", shown()));
     }
+    if line.len() > LONGEST {
+        return Err(format!("`{}..` is longer than any event", shown()));
+    }
+    let text = line.trim_ascii();
     let (digits, is_word) = match text.strip_prefix(b"=") {
         Some(digits) => (digits, true),
         None => (text, false),
     };
-    let (Some(number), Ok(digits)) = (decimal(digits), str::from_utf8(digits)) else {
+    // spaces are passed over, a carriage return is not
+    let value = decimal(digits).filter(|_| !line.contains(&b'\r'));
+    let (Some(value), Ok(digits)) = (value, str::from_utf8(digits)) else {
         return Err(format!(
-            "`{shown}` is neither a node number nor = and a symbol"
+            "`{}` is neither a node number nor = and a symbol",
+            shown()
         ));
     };
     if is_word {
-        return Ok(Event::Word(number, digits));
+        return Ok(Event::Word(value, digits));
     }
     let last = job.nodes.len() as u64 - 1;
-    match usize::try_from(number) {
-        Ok(node) if number <= last && job.nodes[node].kind == EVENT => Ok(Event::Point(node)),
-        _ if number <= last => Err(format!("node {number} is no event node")),
+    match usize::try_from(value) {
+        Ok(node) if value <= last && job.nodes[node].kind == EVENT => Ok(Event::Point(node)),
+        _ if value <= last => Err(format!("node {value} is no event node")),
         _ => Err(format!(
             "there is no node {digits}; the nodes are 0 to {last}"
         )),
-    }
-}
-
-/// Reads the next line without its end, and says whether there is one. Of a long line only the first
-/// bytes are kept, more than the longest event has.
-pub fn next_line(input: &mut impl BufRead, line: &mut Vec<u8>) -> io::Result<bool> {
-    line.clear();
-    let mut any = false;
-    loop {
-        let bytes = match input.fill_buf() {
-            Err(why) if why.kind() == io::ErrorKind::Interrupted => continue,
-            bytes => bytes?,
-        };
-        if bytes.is_empty() {
-            return Ok(any);
-        }
-        any = true;
-        let end = bytes.iter().position(|&byte| byte == b'\n');
-        let len = end.unwrap_or(bytes.len());
-        let room = LONGEST + 1 - line.len();
-        line.extend(&bytes[..len.min(room)]);
-        input.consume(len + usize::from(end.is_some()));
-        if end.is_some() {
-            return Ok(true);
-        }
     }
 }
 

@@ -1,4 +1,5 @@
 //! A fault of a job file, a volume file, a price file or a plan, with its place; the first fault of a line.
+use crate::encoding::{self, MARK};
 use crate::shown;
 use dapohiru_second::reading;
 
@@ -48,7 +49,11 @@ impl Due<'_> {
             return wrong(1, 1, expected);
         }
         if bytes[0] != letter as u8 {
-            return wrong(1, 1, format!("the letter {letter}"));
+            let mut fault = wrong(1, 1, format!("the letter {letter}"))?;
+            if self.line == 1 && encoding::is_marked(bytes) {
+                fault.found = MARK.to_string();
+            }
+            return Some(fault);
         }
         let (columns_due, columns) = (1 + 6 * fields, line_len(bytes));
         let mut form_due =

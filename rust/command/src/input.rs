@@ -1,4 +1,5 @@
 //! What is read: job files, plan files, volume files and price files.
+use crate::encoding::{self, MARK};
 use crate::shown;
 use std::ffi::OsStr;
 use std::fs::File;
@@ -43,12 +44,14 @@ pub fn digits(file: Input) -> Result<Plan, String> {
     let line = bytes.strip_suffix(b"\n").unwrap_or(&bytes);
     if let Some(place) = line.iter().position(|byte| !byte.is_ascii_digit()) {
         let (found, ending) = match line[place] {
+            _ if place == 0 && encoding::is_marked(line) => (MARK.to_string(), ""),
             b'\n' => ("the end of the line".to_string(), " and nothing after it"),
             byte => (format!("`{}`", shown::bytes(&[byte])), ""),
         };
         return Err(format!(
-            "{shown}: line 1, column {}: found {found}\n  expected: one line of 0 and 1, a digit for each node{ending}",
-            place + 1
+            "{shown}: line 1, column {}: found {found}\n  expected: one line of 0 and 1, a digit for each node{ending}{}",
+            place + 1,
+            encoding::told(&bytes)
         ));
     }
     Ok(Plan {

@@ -60,14 +60,16 @@ pub fn accepted(job: &Input) -> Result<Job, String> {
     reading::job(&job.bytes).map_err(|number| refusal::by_second_reader_alone(&job.shown, number))
 }
 
-/// The rule of a job, as the event step takes it.
-pub fn rule(job: &Job) -> Rule {
-    Rule {
+/// The rule of a job that is accepted, as the event step takes it.
+pub fn rule(file: &Input) -> Result<Rule, String> {
+    let job = reading::job(&file.bytes)
+        .map_err(|number| refusal::by_second_reader_alone(&file.shown, number))?;
+    Ok(Rule {
         table: job.table(),
         states: job.states() as u64,
         symbols: job.symbols,
         finals: job.final_set(),
-    }
+    })
 }
 
 /// A plan as a line of digits.

@@ -5,8 +5,11 @@ mod audit;
 mod bill;
 mod check;
 mod child;
+mod clock;
+mod digest;
 mod dot;
 mod drawing;
+mod encoding;
 mod events;
 mod explain;
 mod fault;
@@ -15,6 +18,7 @@ mod graph;
 mod input;
 mod job;
 mod json;
+mod lines;
 mod list;
 mod listing;
 mod monitor;
@@ -22,13 +26,18 @@ mod names;
 mod numbered;
 mod output;
 mod place;
+mod places;
 mod plan;
 mod price;
 mod prices;
 mod progress;
+mod record;
+mod recordfile;
 mod refusal;
 mod release;
+mod reports;
 mod shown;
+mod start;
 mod stop;
 mod summary;
 mod table;
@@ -140,6 +149,7 @@ bytes that are no UTF-8 and the backslash are shown as \\n, \\u{1b}, \\xff and \
 `dapohiru COMMAND --help` tells more of a command.
 
 Exit status: 0 done, faithful, no alarm; 1 different, an alarm, or a refused job in a release;
-2 a refusal or something else that is wrong, which standard error names.
+2 a refusal or something else that is wrong, which standard error names; of watch also 3 events that
+are no walk, and 4 a line that is no event.
 "
 }

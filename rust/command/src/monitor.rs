@@ -1,114 +1,144 @@
-//! The monitor of `watch`: events taken one by one, with what is counted beside the record.
-use crate::events::{event, next_line, Event};
-use crate::job::rule;
-use crate::output;
-use dapohiru::{Record, Refusal, Report, Rule};
+//! The monitor of `watch`: events taken one by one, with the walk that they follow and what is counted beside the
+//! record.
+use crate::events::{event, Event};
+use crate::lines::{Lines, Next};
+use crate::places::Walk;
+use crate::record::{text, Held};
+use crate::recordfile::RecordFile;
+use crate::reports::Reports;
+use crate::shown;
+use dapohiru::{Refusal, Report, Rule};
 use dapohiru_second::job::Job;
-use std::io::BufRead;
+use std::time::Duration;
 
-/// A monitor, and how many events it was given or passed by and how many lines were no event.
-pub struct Watch<'a> {
-    job: &'a Job,
-    rule: Rule,
-    plan: Vec<u8>,
-    record: Record,
-    events: u64,
-    unwatched: u64,
-    wrong: u64,
+/// The exit statuses of a run that was not cut off. The first that holds wins.
+const ALARM: u8 = 1;
+const NO_WALK: u8 = 3;
+const NO_EVENT: u8 = 4;
+
+/// A record's file, and what each of its records begins with.
+pub struct Kept {
+    pub file: RecordFile,
+    pub head: String,
 }
 
-impl<'a> Watch<'a> {
-    /// A monitor of a job under a plan, which begins in this state.
-    pub fn begin(job: &'a Job, plan: Vec<u8>, state: u64) -> Self {
-        Watch {
-            job,
-            rule: rule(job),
-            plan,
-            record: Record { state, alarms: 0 },
-            events: 0,
-            unwatched: 0,
-            wrong: 0,
-        }
-    }
+/// A monitor.
+pub struct Watch<'a> {
+    pub job: &'a Job,
+    pub rule: Rule,
+    pub plan: Vec<u8>,
+    pub walk: Walk<'a>,
+    pub held: Held,
+    pub reports: Reports<'a>,
+    pub kept: Option<Kept>,
+}
 
+impl Watch<'_> {
     /// Takes the event of each line, and gives the exit status.
-    pub fn over(mut self, mut input: impl BufRead) -> Result<u8, String> {
-        let mut line = Vec::new();
-        let mut number = 0u64;
-        let cut = loop {
-            match next_line(&mut input, &mut line) {
-                Ok(true) => number += 1,
-                Ok(false) => break None,
-                Err(why) => break Some(format!("standard input: after line {number}: {why}")),
-            }
-            let taken = event(self.job, &line)
-                .map_err(Wrong::Line)
-                .and_then(|event| self.take(event, number));
-            match taken {
-                Ok(()) => {}
-                Err(Wrong::Line(why)) => {
-                    self.wrong += 1;
-                    output::complain(&format!("standard input: line {number}: {why}"));
-                }
-                Err(Wrong::Output(why)) => return Err(why),
-            }
-        };
-        if let Some(why) = &cut {
-            output::complain(why);
-        }
-        output::print(self.totals().as_bytes())?;
-        match self.wrong > 0 || cut.is_some() {
-            true => Ok(2),
-            false => Ok(u8::from(self.record.alarms > 0)),
-        }
-    }
-
-    /// The last line: what was counted, and the state that the monitor is in.
-    fn totals(&self) -> String {
-        let Watch {
-            record: Record { state, alarms },
-            events,
-            unwatched,
+    pub fn over(mut self, mut input: Lines) -> Result<u8, String> {
+        let done = self.take_all(&mut input);
+        let synced = self.kept.as_mut().map_or(Ok(()), |kept| kept.file.sync());
+        let told = self.reports.totals(&self.held);
+        done.and(synced).and(told)?;
+        let Held {
+            record,
+            outside,
             wrong,
             ..
-        } = self;
-        format!("events {events}   unwatched {unwatched}   alarms {alarms}   lines that are no event {wrong}   state {state}\n")
+        } = self.held;
+        Ok(match (record.alarms, outside, wrong) {
+            (1.., _, _) => ALARM,
+            (_, 1.., _) => NO_WALK,
+            (_, _, 1..) => NO_EVENT,
+            _ => 0,
+        })
     }
 
-    /// Gives an event to the monitor where it is watched, and prints its alarm.
-    fn take(&mut self, event: Event, line: u64) -> Result<(), Wrong> {
-        let (symbol, shown) = match event {
-            Event::Point(node) if self.plan[node] == 0 => {
-                self.events += 1;
-                self.unwatched += 1;
-                return Ok(());
+    /// Takes the event of each line, up to the end of the input, a stop, or what cannot be read or written.
+    fn take_all(&mut self, input: &mut Lines) -> Result<(), String> {
+        let mut line = Vec::new();
+        loop {
+            if let Some(kept) = &mut self.kept {
+                let is_due = |left: Duration| left.is_zero() || !input.comes_within(left);
+                if kept.file.time_left().is_some_and(is_due) {
+                    kept.file.sync()?;
+                }
             }
-            Event::Point(node) => {
-                let symbol = self.job.nodes[node].value;
-                (symbol, format!("node {node}, symbol {symbol}"))
+            let next = input
+                .next(&mut line)
+                .map_err(|why| format!("standard input: after line {}: {why}", self.held.line))?;
+            match next {
+                Next::Line => self.take_line(&line)?,
+                Next::Unended => return self.leave(&line),
+                Next::End => return Ok(()),
             }
-            Event::Word(symbol, _) => (symbol, format!("symbol {symbol} of a word")),
-        };
-        let report = self.rule.event(symbol, &mut self.record);
-        let last = self.rule.symbols - 1;
-        let report = report.map_err(|refusal| match (refusal, event) {
-            (Refusal(14), Event::Word(_, digits)) if symbol > last => Wrong::Line(format!(
-                "{refusal}: there is no symbol {digits}; the symbols are 0 to {last}"
-            )),
-            _ => Wrong::Line(refusal.to_string()),
-        })?;
-        self.events += 1;
-        if report == Report::Alarm {
-            let (events, state) = (self.events, self.record.state);
-            let text = format!("alarm at event {events} (line {line}): {shown}, state {state}\n");
-            output::print(text.as_bytes()).map_err(Wrong::Output)?;
+            self.keep()?;
         }
-        Ok(())
     }
-}
 
-/// What stops an event: a wrong line, or output that cannot be written.
-enum Wrong {
-    Line(String),
-    Output(String),
+    /// Writes the record.
+    pub fn keep(&mut self) -> Result<(), String> {
+        let Some(kept) = &mut self.kept else {
+            return Ok(());
+        };
+        self.held.places = self.walk.places().collect();
+        kept.file.write(&text(&kept.head, &self.held))
+    }
+
+    /// Takes the event of a line, if it is one.
+    fn take_line(&mut self, line: &[u8]) -> Result<(), String> {
+        self.held.line += 1;
+        let taken = event(self.job, line, self.held.line)
+            .and_then(|event| self.reported(event).map(|report| (event, report)));
+        match taken {
+            Ok((event, report)) => self.follow(event, report),
+            Err(why) => {
+                self.held.wrong += 1;
+                self.reports.no_event(self.held.line, &why)
+            }
+        }
+    }
+
+    /// Leaves the last line, which has no end, as no event. The record does not hold it.
+    fn leave(&mut self, line: &[u8]) -> Result<(), String> {
+        let shown = shown::bytes(line);
+        let why = format!("`{shown}` is no event: the input ends before the end of the line");
+        self.held.wrong += 1;
+        self.reports.no_event(self.held.line + 1, &why)
+    }
+
+    /// Gives an event to the monitor where it is watched; a refusal says why it is none.
+    fn reported(&mut self, event: Event) -> Result<Report, String> {
+        let symbol = match event {
+            Event::Point(node) if self.plan[node] == 0 => {
+                self.held.unwatched += 1;
+                return Ok(Report::Quiet);
+            }
+            Event::Point(node) => self.job.nodes[node].value,
+            Event::Word(symbol, _) => symbol,
+        };
+        let last = self.rule.symbols - 1;
+        let report = self.rule.event(symbol, &mut self.held.record);
+        report.map_err(|refusal| match (refusal, event) {
+            (Refusal(14), Event::Word(_, digits)) if symbol > last => {
+                format!("{refusal}: there is no symbol {digits}; the symbols are 0 to {last}")
+            }
+            _ => refusal.to_string(),
+        })
+    }
+
+    /// Follows the walk by an event that was taken, and tells where the walk is left and its alarm.
+    fn follow(&mut self, event: Event, report: Report) -> Result<(), String> {
+        let (was_left, held) = (self.walk.is_left(), &mut self.held);
+        held.events += 1;
+        let is_walk = self.walk.take(event);
+        held.outside += u64::from(!is_walk);
+        if !is_walk && !was_left {
+            self.reports.no_walk(event, held)?;
+        }
+        match report {
+            Report::Alarm => self.reports.alarm(event, held),
+            Report::Quiet => Ok(()),
+        }
+    }
 }

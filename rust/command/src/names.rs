@@ -1,5 +1,6 @@
 //! Names for symbols, nodes and states, from a file.
 use crate::args::Given;
+use crate::encoding;
 use crate::input::{self, Input};
 use crate::json::Json;
 use crate::shown;
@@ -64,7 +65,10 @@ impl Names {
             });
             named
                 .and_then(|(kind, number, name)| names.add(kind, number, name))
-                .map_err(|why| format!("{shown}: line {}: {why}", place + 1))?;
+                .map_err(|why| {
+                    let hint = encoding::told(&bytes);
+                    format!("{shown}: line {}: {why}{hint}", place + 1)
+                })?;
         }
         Ok(names)
     }

@@ -86,7 +86,7 @@ fn is_open(found: &Metadata, open: BorrowedFd) -> bool {
 }
 
 /// Whether two files are one.
-fn is_same(one: &Metadata, other: &Metadata) -> bool {
+pub fn is_same(one: &Metadata, other: &Metadata) -> bool {
     (one.dev(), one.ino()) == (other.dev(), other.ino())
 }
 
@@ -127,7 +127,7 @@ pub fn make_folder(folder: &Path) -> Result<(), String> {
 }
 
 /// The file that a name stands for, and the permissions of the one that is there.
-fn target(path: &Path) -> Result<(PathBuf, Option<Permissions>), String> {
+pub fn target(path: &Path) -> Result<(PathBuf, Option<Permissions>), String> {
     match fs::metadata(path) {
         Ok(found) if found.is_file() => {
             // what is printed would go to the file that is replaced
@@ -147,12 +147,17 @@ fn target(path: &Path) -> Result<(PathBuf, Option<Permissions>), String> {
     }
 }
 
-/// A new file beside a file, under a name that no other has.
-fn temporary(place: &Path) -> io::Result<(PathBuf, File)> {
+/// A name beside a file that this program has not used.
+pub fn name_beside(place: &Path) -> PathBuf {
     static COUNT: AtomicU64 = AtomicU64::new(0);
+    let count = COUNT.fetch_add(1, Ordering::Relaxed);
+    place.with_file_name(format!(".dapohiru-{}-{count}.tmp", process::id()))
+}
+
+/// A new file beside a file, under a name that no other has.
+pub fn temporary(place: &Path) -> io::Result<(PathBuf, File)> {
     loop {
-        let count = COUNT.fetch_add(1, Ordering::Relaxed);
-        let name = place.with_file_name(format!(".dapohiru-{}-{count}.tmp", process::id()));
+        let name = name_beside(place);
         match OpenOptions::new().write(true).create_new(true).open(&name) {
             Err(why) if why.kind() == ErrorKind::AlreadyExists => {}
             opened => return opened.map(|file| (name, file)),

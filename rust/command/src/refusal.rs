@@ -1,5 +1,6 @@
 //! What is said of a refusal: its number, and where the second reader finds the same number also the
 //! meaning, the place and what was expected there.
+use crate::encoding;
 use crate::fault::Fault;
 use crate::input::{Input, Plan};
 use crate::json::Json;
@@ -16,7 +17,9 @@ use dapohiru_second::reading;
 pub struct Told {
     pub refusal: Refusal,
     /// What the second reader found, where it finds the same number.
-    pub fault: Option<Fault>,
+    fault: Option<Box<Fault>>,
+    /// How the file was written, where no file is written so.
+    hint: Option<String>,
     /// All of it in words.
     pub text: String,
 }
@@ -28,7 +31,8 @@ impl From<Told> for String {
 }
 
 impl Told {
-    /// The number, and where there is more to say the meaning, the place, what stands there and what was expected.
+    /// The number, and where there is more to say the meaning, the place, what stands there, what was expected, and
+    /// what the file has that no file has.
     pub fn json(&self) -> Json {
         let mut fields = vec![("number", Json::Number(self.refusal.0))];
         if let Some(fault) = &self.fault {
@@ -41,13 +45,14 @@ impl Told {
             fields.push(("found", Json::text(&fault.found)));
             fields.push(("expected", Json::text(&fault.expected)));
         }
+        fields.extend(self.hint.iter().map(|hint| ("has", Json::text(hint))));
         Json::Object(fields)
     }
 }
 
 /// What is said of a refused job file.
 pub fn of_job(job: &Input, refusal: Refusal) -> Told {
-    told(&job.shown, refusal, first_fault(&job.bytes))
+    told_of(job, refusal, first_fault(&job.bytes))
 }
 
 /// What is said of a refused job file or plan, whichever it is.
@@ -67,22 +72,34 @@ pub fn of_price(
     refusal: Refusal,
 ) -> Told {
     match (refusal.0, tariff) {
-        (16, _) => told(&volumes.shown, refusal, volume_fault(job, &volumes.bytes)),
+        (16, _) => told_of(volumes, refusal, volume_fault(job, &volumes.bytes)),
         (28, Tariff::Own(prices)) => {
             let fault = PRICES.read(&prices.bytes, SYMBOLS).err();
-            told(&prices.shown, refusal, fault)
+            told_of(prices, refusal, fault)
         }
         _ => of_plan(job, plan, &Names::default(), refusal),
+    }
+}
+
+/// The refusal of a file, with what is told of how it was written.
+fn told_of(file: &Input, refusal: Refusal, fault: Option<Fault>) -> Told {
+    let told = told(&file.shown, refusal, fault);
+    Told {
+        hint: encoding::hint(&file.bytes),
+        text: told.text + &encoding::told(&file.bytes),
+        ..told
     }
 }
 
 /// The refusal of the proved call, and the fault that a second reader found.
 fn told(shown: &str, refusal: Refusal, fault: Option<Fault>) -> Told {
     let fault = fault.filter(|fault| fault.number == refusal.0);
-    let more = fault.as_ref().map(words).unwrap_or_default();
+    let fault = fault.map(Box::new);
+    let more = fault.as_deref().map(words).unwrap_or_default();
     Told {
         refusal,
         fault,
+        hint: None,
         text: format!("{shown}: {refusal}{more}"),
     }
 }

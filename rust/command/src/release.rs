@@ -22,8 +22,8 @@ pub const COMMAND: Command = Command {
 The jobs are planned on all cores, once it is sure that files can be made in OUTDIR. Each plan file is
 written whole or not at all. A table of the planned jobs goes to standard output, a list of the refused
 ones to standard error; the plan file that a refused job had before stays as it is. An interrupt
-finishes the jobs that are under way and begins no others; a second one ends the program at once.
-On a terminal that is too narrow the names in the table are cut in the middle.
+finishes the jobs that are under way and begins no others; another one, a second or more later, ends
+the program at once. On a terminal that is too narrow the names in the table are cut in the middle.
 Exit status: 0 all are planned; 1 one or more are refused; 2 something else is wrong.
 With --check: 0 each job has a faithful plan and each plan file a job, whatever its age; 1 a plan is
 different, refused or missing, a job is refused, or a plan file has no job; 2 something else is wrong.

@@ -1,5 +1,5 @@
 //! The command `check`.
-use crate::program::{example, file, folder, pair_with, run, PAIR};
+use crate::program::{example, file, folder, pair_with, run, PAIR, WINDOWS};
 use dapohiru_generators::random::Random;
 use dapohiru_generators::zeros::filled;
 use dapohiru_second::search::difference;
@@ -107,7 +107,7 @@ fn plan_file_that_is_no_line_of_digits_is_told_with_its_column() {
     let job = example("pair.job");
     for (plan, place) in [
         ("01x\n", "column 3: found `x`\n  expected: one line of 0 and 1, a digit for each node"),
-        ("011\r\n", "column 4: found `\\r`\n  expected: one line of 0 and 1, a digit for each node"),
+        ("011\r\n", &format!("column 4: found `\\r`\n  expected: one line of 0 and 1, a digit for each node{WINDOWS}")),
         ("0 1 1\n", "column 2: found ` `\n  expected: one line of 0 and 1, a digit for each node"),
         ("011\n\n", "column 4: found the end of the line\n  expected: one line of 0 and 1, a digit for each node and nothing after it"),
     ] {

@@ -1,5 +1,6 @@
 //! Output that cannot be written: a full disk, a closed pipe, files that are no place for a plan.
 use crate::program::{ended, example, file, folder, names, program, run, shell, PAIR};
+use crate::watch::{alarm, BEGIN, NO_WALK};
 use std::fs::{self, File};
 use std::io::{pipe, Write};
 use std::process::Stdio;
@@ -87,16 +88,13 @@ fn closed_pipe_is_told() {
 #[test]
 fn reader_that_ends_early_ends_the_run() {
     let job = example("pair.job");
-    let script = "set -o pipefail; (echo 0; while echo 2; do :; done) 2>/dev/null | \"$1\" watch \"$2\" | head -1";
+    let script = "set -o pipefail; (echo 0; while echo 2; do :; done) 2>/dev/null | \"$1\" watch --no-time \"$2\" | head -2";
     let (status, printed, wrong) = shell(script, &[&job]);
-    assert_eq!(
-        printed,
-        "alarm at event 2 (line 2): node 2, symbol 2, state 2\n"
-    );
-    assert_eq!(
-        wrong,
-        "dapohiru: standard output was closed before all was written\n"
-    );
+    let alarm = alarm(2, 2, &format!("job {job}, all points watched"));
+    assert_eq!(printed, BEGIN.to_string() + &alarm);
+    let closed = "dapohiru: standard output was closed before all was written\n";
+    let no_walk = format!("dapohiru: standard input: line 2: event 2 (node 2): {NO_WALK}\n");
+    assert_eq!(wrong, no_walk + closed);
     assert_ne!(status, 0);
 }
 

@@ -1,5 +1,5 @@
 //! Volume files and price files: refused ones, with the place of the fault and what is expected there.
-use crate::program::{example, run_bytes, Done, PAIR};
+use crate::program::{example, run_bytes, Done, PAIR, WINDOWS};
 use dapohiru_generators::numbered::numbers;
 use dapohiru_generators::random::Random;
 use dapohiru_second::numbered;
@@ -139,7 +139,7 @@ const SECOND_LINES: [(&str, &str, &str); 26] = [
     (
         "@     101000000\r\n",
         "line 2, column 14: found `0`",
-        "END; this line has 16; MOST",
+        "END; this line has 16; MOSTWINDOWS",
     ),
     (
         "@     1   1205\n",
@@ -164,7 +164,7 @@ const SECOND_LINES: [(&str, &str, &str); 26] = [
     (
         "@     1  1205\r\n",
         "line 2, column 14: found `\\r`",
-        "END; this line has 14",
+        "END; this line has 14WINDOWS",
     ),
     (
         "@     1  1205",
@@ -209,6 +209,7 @@ impl Kind {
             ("LINES", &lines.to_string()),
             ("NEXT", &(lines + 1).to_string()),
             ("@", &char::from(letter).to_string()),
+            ("WINDOWS", WINDOWS),
         ];
         let told = text.to_string();
         words
@@ -299,7 +300,7 @@ impl Kind {
             (
                 good.replace('\n', "\r\n"),
                 "line 1, column 14: found `\\r`",
-                "END; this line has 14",
+                "END; this line has 14WINDOWS",
             ),
             (
                 " ".repeat(70_000),

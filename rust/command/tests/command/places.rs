@@ -1,5 +1,5 @@
 //! The place of a refusal: every fault that a file can have, beside the second implementation.
-use crate::program::{pair_with, run, run_bytes};
+use crate::program::{pair_with, run, run_bytes, WINDOWS};
 use dapohiru_generators::damage::Damaged;
 use dapohiru_generators::faults::{faulty, Fault, Form};
 use dapohiru_generators::random::Random;
@@ -163,7 +163,7 @@ fn what_was_expected_is_told() {
         (
             with(j, "J     3     3     3     2\r\n"),
             "line 1, column 26: found `\\r`",
-            &format!("the end of the line (byte 10) after {sizes}; this line has 26"),
+            &format!("the end of the line (byte 10) after {sizes}; this line has 26{WINDOWS}"),
         ),
         (
             with(j, "J     3     3     3     2\r"),

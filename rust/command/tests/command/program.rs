@@ -10,6 +10,10 @@ pub const PROGRAM: &str = env!("CARGO_BIN_EXE_dapohiru");
 /// The PAIR job.
 pub const PAIR: &str = include_str!("../../../../examples/pair.job");
 
+/// What is told last of a file with Windows line ends.
+pub const WINDOWS: &str =
+    "\n  the file has Windows line ends, mended by `tr -d '\\r' < FILE > NEW`";
+
 /// The exit status, standard output and standard error of a run.
 pub type Done = (i32, String, String);
 

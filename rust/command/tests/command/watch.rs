@@ -1,62 +1,80 @@
-//! The command `watch`.
-use crate::program::{ended, example, file, folder, pair_with, program, run, shell, PAIR};
+//! The command `watch`: events, alarms and totals.
+use crate::program::{example, file, folder, pair_with, run, shell, Done, PAIR};
+use crate::running::Running;
 use dapohiru_generators::random::Random;
 use dapohiru_generators::walker::Walker;
 use dapohiru_generators::zeros::filled;
 use dapohiru_second::walk::{Event, Walks};
-use std::io::{BufRead, BufReader, Write};
-use std::process::Stdio;
-use std::sync::mpsc::{self, RecvTimeoutError};
-use std::thread;
-use std::time::Duration;
+use std::io::Write;
 
-/// The last line of a run.
-fn totals(events: u64, unwatched: u64, alarms: u64, wrong: u64, state: u64) -> String {
-    format!("events {events}   unwatched {unwatched}   alarms {alarms}   lines that are no event {wrong}   state {state}\n")
+/// The first line of a run on PAIR.
+pub const BEGIN: &str = "starts before node 0 in state 0\n";
+/// What is told at the first event in no walk.
+pub const NO_WALK: &str =
+    "the events are no walk of the job from here on; the promise says nothing of them";
+
+/// The last line of a run: events, those at unwatched points, those in no walk, alarms, other lines, and the state.
+pub fn totals([events, unwatched, outside, alarms, wrong, state]: [u64; 6]) -> String {
+    format!("events {events}   unwatched {unwatched}   outside a walk {outside}   alarms {alarms}   lines that are no event {wrong}   state {state}\n")
+}
+
+/// Watches without the time.
+pub fn watch(words: &[&str], events: &str) -> Done {
+    run(&[&["watch", "--no-time"], words].concat(), events)
+}
+
+/// The alarm of PAIR's write.
+pub fn alarm(event: u64, line: u64, subject: &str) -> String {
+    format!("alarm at event {event} (line {line}): node 2, symbol 2, state 2 [{subject}]\n")
+}
+
+/// The events of a random walk, a line each.
+pub fn events_of(random: &mut Random, walker: &mut Walker, most: usize) -> Vec<String> {
+    let next = |_| match walker.next_event(random)? {
+        Event::Point(node, _) => Some(format!("{node}\n")),
+        Event::Call(symbol) | Event::After(symbol) => Some(format!("={symbol}\n")),
+    };
+    (0..most).map_while(next).collect()
 }
 
 #[test]
 fn events_without_an_alarm_end_with_status_0() {
     let events = include_str!("../../../../examples/sealed.events");
-    let done = run(&["watch", &example("pair.job")], events);
-    assert_eq!(done, (0, totals(2, 0, 0, 0, 1), String::new()));
-    let done = run(&["watch", &example("pair.job")], "");
-    assert_eq!(done, (0, totals(0, 0, 0, 0, 0), String::new()));
+    for (events, counted) in [(events, [2, 0, 0, 0, 0, 1]), ("", [0; 6])] {
+        let done = watch(&[&example("pair.job")], events);
+        let printed = BEGIN.to_string() + &totals(counted);
+        assert_eq!(done, (0, printed, String::new()));
+    }
 }
 
 #[test]
-fn alarm_is_printed_with_its_event_and_ends_with_status_1() {
+fn alarm_is_printed_with_its_event_job_and_plan_and_ends_with_status_1() {
     let events = include_str!("../../../../examples/touched.events");
-    let alarm = "alarm at event 3 (line 3): node 2, symbol 2, state 2\n".to_string();
-    let done = run(&["watch", &example("pair.job")], events);
-    assert_eq!(
-        done,
-        (1, alarm.clone() + &totals(3, 0, 1, 0, 2), String::new())
-    );
-    let folder = folder("watch-plan");
-    let plan = file(&folder, "pair.plan", b"011\n");
-    let done = run(&["watch", &example("pair.job"), &plan], events);
-    assert_eq!(done, (1, alarm + &totals(3, 1, 1, 0, 2), String::new()));
+    let job = example("pair.job");
+    let plan = file(&folder("watch-plan"), "pair.plan", b"011\n");
+    for (words, subject, unwatched) in [
+        (&[&job[..]][..], format!("job {job}, all points watched"), 0),
+        (&[&job, &plan], format!("job {job}, plan {plan}"), 1),
+    ] {
+        let totals = totals([3, unwatched, 0, 1, 0, 2]);
+        let printed = BEGIN.to_string() + &alarm(3, 3, &subject) + &totals;
+        assert_eq!(watch(words, events), (1, printed, String::new()));
+    }
 }
 
 #[test]
 fn symbols_of_words_are_always_taken() {
-    let folder = folder("watch-words");
-    let plan = file(&folder, "pair.plan", b"011\n");
-    let done = run(
-        &["watch", &example("pair.job"), &plan],
-        "=0\n=2\n =2 \r\n=1\n=2",
-    );
-    let alarms = "alarm at event 2 (line 2): symbol 2 of a word, state 2\n\
-                  alarm at event 3 (line 3): symbol 2 of a word, state 2\n";
-    assert_eq!(
-        done,
-        (
-            1,
-            alarms.to_string() + &totals(5, 0, 2, 0, 0),
-            String::new()
-        )
-    );
+    let job = example("pair.job");
+    let plan = file(&folder("watch-words"), "pair.plan", b"011\n");
+    let done = watch(&[&job, &plan], "=0\n=2\n =2 \n=1\n=002\n");
+    let alarm = |event: u64| {
+        format!("alarm at event {event} (line {event}): symbol 2 of a word, state 2 [job {job}, plan {plan}]\n")
+    };
+    let printed = BEGIN.to_string() + &alarm(2) + &alarm(3) + &totals([5, 0, 5, 2, 0, 0]);
+    // PAIR has no words
+    let wrong =
+        format!("dapohiru: standard input: line 1: event 1 (symbol 0 of a word): {NO_WALK}\n");
+    assert_eq!(done, (1, printed, wrong));
 }
 
 #[test]
@@ -69,19 +87,19 @@ fn walk_comes_in_again_and_returns_without_a_complaint() {
     let reopened = "=1\n3\n=1\n2\n3\n";
     // two runs come in and seal, one after the other, and nobody reopens
     let sealed = "=1\n3\n3\n2\n3\n";
-    let alarm = "alarm at event 4 (line 4): node 2, symbol 2, state 2\n".to_string();
-    for words in [&["watch", &job][..], &["watch", &job, &plan]] {
-        let done = run(words, reopened);
-        assert_eq!(done, (0, totals(5, 0, 0, 0, 1), String::new()));
-        let done = run(words, sealed);
-        assert_eq!(
-            done,
-            (1, alarm.clone() + &totals(5, 0, 1, 0, 1), String::new())
-        );
+    for (words, subject) in [
+        (&[&job[..]][..], format!("job {job}, all points watched")),
+        (&[&job, &plan], format!("job {job}, plan {plan}")),
+    ] {
+        let printed = BEGIN.to_string() + &totals([5, 0, 0, 0, 0, 1]);
+        assert_eq!(watch(words, reopened), (0, printed, String::new()));
+        let printed = BEGIN.to_string() + &alarm(4, 4, &subject) + &totals([5, 0, 0, 1, 0, 1]);
+        assert_eq!(watch(words, sealed), (1, printed, String::new()));
     }
     // a call is no event, and a symbol past the rule's is none
-    let (status, printed, wrong) = run(&["watch", &job], "1\n=3\n");
-    assert_eq!((status, printed), (2, totals(0, 0, 0, 2, 0)));
+    let (status, printed, wrong) = watch(&[&job], "1\n=3\n");
+    let wanted = BEGIN.to_string() + &totals([0, 0, 0, 0, 2, 0]);
+    assert_eq!((status, printed), (4, wanted));
     assert_eq!(
         wrong,
         "dapohiru: standard input: line 1: node 1 is no event node\n\
@@ -93,10 +111,10 @@ fn walk_comes_in_again_and_returns_without_a_complaint() {
 fn different_plan_is_noted_and_used() {
     let folder = folder("watch-different");
     let plan = file(&folder, "pair.plan", b"001\n");
-    let (status, printed, wrong) = run(&["watch", &example("pair.job"), &plan], "0\n1\n2\n");
-    assert_eq!((status, printed), (0, totals(3, 2, 0, 0, 0)));
+    let done = watch(&[&example("pair.job"), &plan], "0\n1\n2\n");
+    let printed = BEGIN.to_string() + &totals([3, 2, 0, 0, 0, 0]);
     let note = "is different: on some walk it has other alarms than all points watched\n";
-    assert_eq!(wrong, format!("note: {plan} {note}"));
+    assert_eq!(done, (0, printed, format!("note: {plan} {note}")));
 }
 
 #[test]
@@ -114,6 +132,8 @@ fn line_that_is_no_event_is_named_and_the_rest_is_taken() {
         ("=", format!("`=` {words}")),
         ("= 1", format!("`= 1` {words}")),
         ("0x1", format!("`0x1` {words}")),
+        ("\r2", format!("`\\r2` {words}")),
+        ("0\r2", format!("`0\\r2` {words}")),
         ("1", "node 1 is no event node".to_string()),
         ("3", "there is no node 3; the nodes are 0 to 2".to_string()),
         (
@@ -138,38 +158,41 @@ fn line_that_is_no_event_is_named_and_the_rest_is_taken() {
             format!("`{}..` is longer than any event", "0".repeat(65)),
         ),
     ] {
-        let done = run(&["watch", &job], &format!("0\n{line}\n2\n"));
-        let printed = "alarm at event 2 (line 3): node 2, symbol 2, state 2\n".to_string();
+        let done = watch(&[&job], &format!("0\n{line}\n2\n"));
+        let alarm = alarm(2, 3, &format!("job {job}, all points watched"));
+        let printed = BEGIN.to_string() + &alarm + &totals([2, 0, 0, 1, 1, 2]);
         let wrong = format!("dapohiru: standard input: line 2: {why}\n");
-        assert_eq!(done, (2, printed + &totals(2, 0, 1, 1, 2), wrong));
+        assert_eq!(done, (1, printed, wrong));
     }
 }
 
 #[test]
-fn walk_begins_in_the_lowest_state_of_the_lowest_entry_or_the_one_asked_for() {
-    let folder = folder("watch-state");
-    let job = pair_with(&[
-        ("P     0     1     0     1", "P     0     1     0     0"),
-        ("P     1     1     0     0", "P     1     1     0     6"),
-    ]);
-    let job = file(&folder, "second.job", job.as_bytes());
-    assert_eq!(
-        run(&["watch", &job], ""),
-        (0, totals(0, 0, 0, 0, 1), String::new())
-    );
-    for words in [
-        &["watch", "--state", "2", &job][..],
-        &["watch", &job, "--state=2"],
-    ] {
-        assert_eq!(run(words, ""), (0, totals(0, 0, 0, 0, 2), String::new()));
+fn last_line_without_its_end_is_told_and_not_taken() {
+    let job = example("pair.job");
+    for (line, shown) in [("2", "2"), (" 0", " 0"), ("1\r", "1\\r"), ("seal", "seal")] {
+        let done = watch(&[&job], &format!("0\n1\n{line}"));
+        let printed = BEGIN.to_string() + &totals([2, 0, 0, 0, 1, 1]);
+        let why = format!("`{shown}` is no event: the input ends before the end of the line");
+        let wrong = format!("dapohiru: standard input: line 3: {why}\n");
+        assert_eq!(done, (4, printed, wrong));
     }
-    let note = "note: no entry admits state 0\n".to_string();
-    let done = run(&["watch", &job, "--state", "0"], "");
-    assert_eq!(done, (0, totals(0, 0, 0, 0, 0), note));
-    for state in ["3", "x", "-1", "99999999999999999999"] {
-        let wrong = format!("dapohiru: watch: --state is {state}, and the states are 0 to 2\n");
-        let done = run(&["watch", &job, &format!("--state={state}")], "");
-        assert_eq!(done, (2, String::new(), wrong));
+}
+
+#[test]
+fn alarm_wins_over_no_walk_and_no_walk_over_a_line_that_is_no_event() {
+    let job = example("pair.job");
+    for (events, status) in [
+        ("0\n1\n", 0),
+        ("0\n1\nx\n", 4),
+        ("0\n1\n1\n", 3),
+        ("0\n1\n1\nx\n", 3),
+        ("x\n0\n0\n1", 3),
+        ("0\n1\n2\n", 1),
+        ("0\n1\n2\nx\n", 1),
+        ("0\n1\n2\n2\n", 1),
+        ("x\n0\n2\n", 1),
+    ] {
+        assert_eq!(watch(&[&job], events).0, status, "{events}");
     }
 }
 
@@ -180,12 +203,12 @@ fn refused_job_or_plan_takes_no_event() {
     let job = file(&folder, "cut.job", &PAIR.as_bytes()[..100]);
     for (words, begins) in [
         (
-            &["watch", &example("pair.job"), &plan][..],
+            &[&example("pair.job")[..], &plan][..],
             format!("dapohiru: {plan}: refused 11: "),
         ),
-        (&["watch", &job], format!("dapohiru: {job}: refused 4: ")),
+        (&[&job], format!("dapohiru: {job}: refused 4: ")),
     ] {
-        let (status, printed, wrong) = run(words, "0\n1\n2\n");
+        let (status, printed, wrong) = watch(words, "0\n1\n2\n");
         assert_eq!((status, printed.as_str()), (2, ""));
         assert!(wrong.starts_with(&begins), "{wrong}");
     }
@@ -193,30 +216,17 @@ fn refused_job_or_plan_takes_no_event() {
 
 #[test]
 fn each_alarm_is_printed_before_the_next_event_is_given() {
-    let mut child = program(&["watch", &example("pair.job")])
-        .stdin(Stdio::piped())
-        .spawn()
-        .unwrap();
-    let mut input = child.stdin.take().unwrap();
-    let output = BufReader::new(child.stdout.take().unwrap());
-    let (sender, lines) = mpsc::channel();
-    thread::spawn(move || {
-        output
-            .lines()
-            .try_for_each(|line| sender.send(line.unwrap()))
-    });
-    // an alarm that is held back fails the test
-    let next = || lines.recv_timeout(Duration::from_secs(60));
-    writeln!(input, "0").unwrap();
+    let job = example("pair.job");
+    let mut running = Running::watch(&[&job]);
+    assert_eq!(running.next().as_deref(), Ok(BEGIN));
+    writeln!(running.input, "0").unwrap();
     for event in 2..5 {
-        writeln!(input, "2").unwrap();
-        let alarm = format!("alarm at event {event} (line {event}): node 2, symbol 2, state 2");
-        assert_eq!(next().as_deref(), Ok(alarm.as_str()));
+        writeln!(running.input, "2").unwrap();
+        let alarm = alarm(event, event, &format!("job {job}, all points watched"));
+        assert_eq!(running.next(), Ok(alarm));
     }
-    drop(input);
-    assert_eq!(next().as_deref(), Ok(totals(4, 0, 3, 0, 2).trim_end()));
-    assert_eq!(next(), Err(RecvTimeoutError::Disconnected));
-    assert_eq!(ended(child).0, 1);
+    let wrong = format!("dapohiru: standard input: line 2: event 2 (node 2): {NO_WALK}\n");
+    assert_eq!(running.end(), (1, totals([4, 0, 3, 3, 0, 2]), wrong));
 }
 
 #[test]
@@ -229,23 +239,14 @@ fn planned_monitor_has_the_alarms_of_the_full_one_on_walks() {
         let walks = Walks::new(&job, None);
         let mut walker = Walker::begin(&mut random, &walks);
         let state = format!("--state={}", walker.start);
-        let mut events = String::new();
-        for _ in 0..200 {
-            match walker.next_event(&mut random) {
-                Some(Event::Point(node, _)) => events += &format!("{node}\n"),
-                Some(Event::Call(symbol) | Event::After(symbol)) => {
-                    events += &format!("={symbol}\n")
-                }
-                None => break,
-            }
-        }
+        let events = events_of(&mut random, &mut walker, 200).concat();
         let name = file(&folder, "a.job", &filled(&mut random, job.file()));
         let plan = folder.join("a.plan").display().to_string();
         assert_eq!(run(&["plan", &name, "-o", &plan], "").0, 0);
-        let full = run(&["watch", &name, &state], &events);
-        let planned = run(&["watch", &name, &plan, &state], &events);
+        let full = watch(&[&name, &state], &events);
+        let planned = watch(&[&name, &plan, &state], &events);
         // the states at the alarms need not be the same
-        let told = |done: &(i32, String, String)| {
+        let told = |done: &Done| {
             let lines = done.1.lines().filter(|line| line.starts_with("alarm"));
             let told = lines.map(|line| line.split(", state").next().unwrap().to_string());
             told.collect::<Vec<_>>()
@@ -262,5 +263,6 @@ fn planned_monitor_has_the_alarms_of_the_full_one_on_walks() {
 fn input_that_cannot_be_read_is_told_with_the_totals() {
     let done = shell("\"$1\" watch \"$2\" < /", &[&example("pair.job")]);
     let wrong = "dapohiru: standard input: after line 0: Is a directory (os error 21)\n";
-    assert_eq!(done, (2, totals(0, 0, 0, 0, 0), wrong.to_string()));
+    let printed = BEGIN.to_string() + &totals([0; 6]);
+    assert_eq!(done, (2, printed, wrong.to_string()));
 }

@@ -69,6 +69,24 @@ fn wrong_words_are_told_with_the_usage() {
         (&["release", &job, "-o"], "-o is not followed by OUTDIR"),
         (&["watch", &job, "--state"], "--state is not followed by Q"),
         (&["watch", &job, "--state="], "--state is not followed by Q"),
+        (&["watch", &job, "--entry"], "--entry is not followed by N"),
+        (
+            &["watch", &job, "--entry", "--state=0"],
+            "--entry is not followed by N",
+        ),
+        (
+            &["watch", &job, "--record", "--json"],
+            "--record is not followed by FILE",
+        ),
+        (
+            &["watch", &job, "--names"],
+            "--names is not followed by FILE",
+        ),
+        (&["watch", &job, "--time"], "--time is no option"),
+        (
+            &["watch", &job, "--entry=0", "--entry", "0"],
+            "--entry is given twice",
+        ),
         (&["release", &job, "--names=x"], "--names=x is no option"),
         (&["graph", &job, "--json"], "--json is no option"),
         (
@@ -252,6 +270,14 @@ fn words_that_do_not_go_together_are_told() {
             "watch: standard input holds the events, so JOB and PLAN are files",
         ),
         (
+            &["watch", &job, "--names", "-"],
+            "watch: standard input holds the events, so the names are a file",
+        ),
+        (
+            &["watch", &job, "--record=-"],
+            "watch: standard input holds the events, so the record is a file",
+        ),
+        (
             &["release", &jobs, "-o", "-"],
             "release: -o is -, and plan files go to a folder; one named - is ./-",
         ),
@@ -289,6 +315,7 @@ fn missing_file_is_named() {
         &["price", missing, "-", &volumes, "--prices", "/"],
         &["watch", missing],
         &["watch", &job, missing],
+        &["watch", &job, "--names", missing],
         &["release", missing],
         &["graph", missing],
         &["graph", &job, missing],

@@ -53,7 +53,12 @@ fn every_command_prints_for_a_file_with_zeros_what_it_prints_without() {
         (&["price", "JOB", &plan, &volumes], "", 0),
         (&["price", "JOB", &plan, &volumes, "--explain"], "", 0),
         (&["price", "JOB", &plan, "-"], "V     0     0\n", 2),
-        (&["watch", "JOB"], events, 2),
+        (&["watch", "--no-time", "JOB"], events, 1),
+        (
+            &["watch", "--no-time", "JOB", &plan, "--entry", "0"],
+            events,
+            1,
+        ),
         (&["watch", "JOB", &plan, "--state", "1"], events, 2),
         (&["watch", "JOB", &other], "0\n1\n2\n", 0),
         (&["graph", "JOB"], "", 0),
@@ -63,7 +68,9 @@ fn every_command_prints_for_a_file_with_zeros_what_it_prints_without() {
             let words = words
                 .iter()
                 .map(|&word| if word == "JOB" { job } else { word });
-            run(&words.collect::<Vec<_>>(), input)
+            let (status, printed, wrong) = run(&words.collect::<Vec<_>>(), input);
+            // an alarm has the name of the job
+            (status, printed.replace(job, "JOB"), wrong)
         };
         let wanted = done(&pair);
         assert_eq!(wanted.0, status, "{words:?}");
