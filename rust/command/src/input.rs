@@ -1,6 +1,7 @@
 //! What is read: job files, plan files, volume files and price files.
 use crate::encoding::{self, MARK};
 use crate::shown;
+use dapohiru::planfile;
 use std::ffi::OsStr;
 use std::fs::File;
 use std::io::{self, Read};
@@ -41,23 +42,20 @@ pub fn plan_file(name: &OsStr) -> Result<Input, String> {
 /// The digits of a plan file, which is one line of them.
 pub fn digits(file: Input) -> Result<Plan, String> {
     let Input { shown, bytes } = file;
-    let line = bytes.strip_suffix(b"\n").unwrap_or(&bytes);
-    if let Some(place) = line.iter().position(|byte| !byte.is_ascii_digit()) {
-        let (found, ending) = match line[place] {
-            _ if place == 0 && encoding::is_marked(line) => (MARK.to_string(), ""),
-            b'\n' => ("the end of the line".to_string(), " and nothing after it"),
-            byte => (format!("`{}`", shown::bytes(&[byte])), ""),
+    let plan = planfile::read(&bytes).map_err(|error| {
+        let found = match error.found {
+            _ if error.column == 1 && encoding::is_marked(&bytes) => MARK.to_string(),
+            b'\n' => "the end of the line".to_string(),
+            byte => format!("`{}`", shown::bytes(&[byte])),
         };
-        return Err(format!(
-            "{shown}: line 1, column {}: found {found}\n  expected: one line of 0 and 1, a digit for each node{ending}{}",
-            place + 1,
+        format!(
+            "{shown}: line 1, column {}: found {found}\n  expected: {}{}",
+            error.column,
+            error.expected(),
             encoding::told(&bytes)
-        ));
-    }
-    Ok(Plan {
-        shown,
-        bytes: line.iter().map(|digit| digit - b'0').collect(),
-    })
+        )
+    })?;
+    Ok(Plan { shown, bytes: plan })
 }
 
 /// Reads a volume file or a price file; of one that is far too long more than is accepted, so that it is

@@ -4,7 +4,7 @@ use crate::names::Names;
 use crate::refusal::Told;
 use crate::tariff::Tariff;
 use crate::{output, refusal};
-use dapohiru::{Counts, Refusal, Rule, Verdict};
+use dapohiru::{Counts, Rule, Verdict};
 use dapohiru_second::job::Job;
 use dapohiru_second::reading;
 
@@ -51,28 +51,12 @@ pub fn named_plan(job: &Input, plan: Plan, names: &Names) -> Result<Vec<u8>, Str
 
 /// The job of a file, once the proved call has accepted it.
 pub fn accepted(job: &Input) -> Result<Job, String> {
-    // a plan of no bytes is refused as 11 where nothing is wrong with the file
-    match dapohiru::check(&job.bytes, &[], &mut vec![0; dapohiru::WORK_LEN]) {
-        Err(Refusal(11)) => {}
-        Err(refusal) => return Err(refusal::of_job(job, refusal).text),
-        Ok(_) => unreachable!("no job has no node"),
-    }
+    rule(job)?;
     reading::job(&job.bytes).map_err(|number| refusal::by_second_reader_alone(&job.shown, number))
 }
 
-/// The rule of a job that is accepted, as the event step takes it.
-pub fn rule(file: &Input) -> Result<Rule, String> {
-    let job = reading::job(&file.bytes)
-        .map_err(|number| refusal::by_second_reader_alone(&file.shown, number))?;
-    Ok(Rule {
-        table: job.table(),
-        states: job.states() as u64,
-        symbols: job.symbols,
-        finals: job.final_set(),
-    })
-}
-
-/// A plan as a line of digits.
-pub fn line(plan: &[u8]) -> String {
-    dapohiru::planfile::write(plan)
+/// The rule of a job by the proved call, as the event step takes it, or what is said of its refusal.
+pub fn rule(job: &Input) -> Result<Rule, Told> {
+    dapohiru::rule(&job.bytes, &mut vec![0; dapohiru::WORK_LEN])
+        .map_err(|refusal| refusal::of_job(job, refusal))
 }

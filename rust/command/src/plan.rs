@@ -32,7 +32,7 @@ fn run(given: &Given) -> Result<u8, String> {
         watched,
         passes,
     } = counts;
-    output::deliver(to, job::line(&plan).as_bytes())?;
+    output::deliver(to, dapohiru::planfile::write(&plan).as_bytes())?;
     output::note(&format!(
         "event nodes {points}   watched {watched}   passes {passes}\n"
     ))?;

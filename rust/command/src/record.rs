@@ -2,7 +2,6 @@
 //! Its last line is a digest of all before it, so that a cut or damaged one is told.
 use crate::digest::sha256;
 use crate::input::Input;
-use crate::job;
 use crate::start::Start;
 use dapohiru::Record;
 use dapohiru_second::job::Job;
@@ -67,7 +66,7 @@ impl Subject<'_> {
     /// The lines that say of which job and plan a record is: for the reader with their names.
     fn lines(&self) -> [String; 2] {
         let Input { shown, bytes } = self.file;
-        let (name, plan) = (self.plan.0, job::line(self.plan.1));
+        let (name, plan) = (self.plan.0, dapohiru::planfile::write(self.plan.1));
         let (digits, len, digest) = (plan.trim_end(), bytes.len(), sha256(bytes));
         [
             format!("job {len} bytes, sha256 {digest}: {shown}"),

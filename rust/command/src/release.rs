@@ -81,7 +81,7 @@ fn plan_one(path: &Path, out: &Path) -> Outcome {
             return Outcome::Refused(told);
         }
     };
-    match output::write_file(&plan_file, job::line(&plan).as_bytes()) {
+    match output::write_file(&plan_file, dapohiru::planfile::write(&plan).as_bytes()) {
         Ok(()) => Outcome::Planned(counts, begin.elapsed()),
         Err(why) => Outcome::Failed(why),
     }
