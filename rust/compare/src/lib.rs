@@ -10,6 +10,7 @@ pub mod pricing;
 pub mod promise;
 pub mod records;
 pub mod ruling;
+pub mod seen;
 pub mod serving;
 pub mod step;
 pub mod wrapper;

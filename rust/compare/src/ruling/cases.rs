@@ -1,7 +1,8 @@
 //! Random calls: jobs with buffers of the right lengths, and calls with faults.
-use super::memory::{Memory, Seen, MOST_RULE};
+use super::memory::{self, Memory, MOST_RULE};
 use crate::memory::{start_of, MOST_WORK};
 use crate::on_file::OnFile;
+use crate::seen::{held_to, Seen};
 use dapohiru_generators::damage::Damaged;
 use dapohiru_generators::faults::{lengthen, possible, refused, short_work, NUMBERS};
 use dapohiru_generators::random::Random;
@@ -97,23 +98,15 @@ impl Case {
             work_len: self.work_len,
             rule_len: self.rule_len,
         };
-        Seen::wanted(take(&call, slip))
+        memory::wanted(take(&call, slip))
     }
 
     /// What is seen of the library, or in words how it differs from the second implementation with this slip or with
     /// none.
     pub fn compare(&self, memory: &mut Memory, slip: Option<Slip>) -> Result<Seen, String> {
         let wanted = self.wanted(slip);
-        match memory.call(&self.file, self.work_len, self.rule_len) {
-            Ok(seen) if seen == wanted => Ok(seen),
-            Ok(seen) => Err(format!(
-                "of the rule the library leaves\n{}\nand the second implementation\n{}\n{}",
-                leaves(&seen),
-                leaves(&wanted),
-                self.words()
-            )),
-            Err(why) => Err(format!("{why}; {}", self.words())),
-        }
+        let seen = memory.call(&self.file, self.work_len, self.rule_len);
+        held_to(&wanted, seen, leaves, self.words())
     }
 
     /// The call in words; of a long file only its start.

@@ -1,6 +1,7 @@
 //! One call on memory whose every byte is looked at afterwards.
 use crate::library::Library;
 use crate::memory::{Buffers, Lent, PAST_FILE};
+use crate::seen::Seen;
 use dapohiru::numbers::ACCEPTED;
 use dapohiru_generators::random::Random;
 use dapohiru_second::ruling::{Answer, Outcome};
@@ -28,35 +29,18 @@ impl Said {
     }
 }
 
-/// What is seen of a call: its number, the bytes that it writes from the start of the rule buffer on, and how many
-/// bytes of the work buffer it leaves as zero. All other bytes are as they were.
-#[derive(Clone, Debug, PartialEq, Eq)]
-pub struct Seen {
-    pub number: u64,
-    /// Up to the last byte written; nothing for a byte that is as it was.
-    pub written: Vec<Option<u8>>,
-    pub cleared: usize,
-}
-
-impl Seen {
-    /// What the second implementation wants to be seen.
-    pub fn wanted(outcome: Outcome) -> Self {
-        let number = match outcome.answer {
-            Answer::Taken([states, symbols, finals]) => {
-                ACCEPTED + (states << 32) + (symbols << 16) + finals
-            }
-            Answer::Refused(number) => number,
-        };
-        Seen {
-            number,
-            written: outcome.written,
-            cleared: outcome.cleared,
+/// What the second implementation wants to be seen.
+pub fn wanted(outcome: Outcome) -> Seen {
+    let number = match outcome.answer {
+        Answer::Taken([states, symbols, finals]) => {
+            ACCEPTED + (states << 32) + (symbols << 16) + finals
         }
-    }
-
-    /// The rule that was written, if every byte of it was.
-    pub fn table(&self) -> Option<Vec<u8>> {
-        self.written.iter().copied().collect()
+        Answer::Refused(number) => number,
+    };
+    Seen {
+        number,
+        written: outcome.written,
+        cleared: outcome.cleared,
     }
 }
 
@@ -104,17 +88,7 @@ impl Memory {
         self.rule.fresh(&mut self.buffers.random, rule_len);
         let Buffers { file, work, .. } = &mut self.buffers;
         let number = (self.library.rule)(file.bytes(), work.bytes(), self.rule.bytes());
-        self.buffers.keeps_file(&number)?;
-        let Some(written) = self.rule.written() else {
-            return Err(format!(
-                "{number} changes bytes beside a rule buffer of {rule_len} bytes"
-            ));
-        };
-        let cleared = self.buffers.cleared(&number)?;
-        Ok(Seen {
-            number,
-            written,
-            cleared,
-        })
+        let called = format!("a rule buffer of {rule_len} bytes");
+        Seen::after(number, &self.buffers, &self.rule, &called)
     }
 }

@@ -5,5 +5,5 @@ mod memory;
 mod taken;
 
 pub use cases::{cases, Case, LENGTHS};
-pub use memory::{Memory, Said, Seen, MOST_RULE};
+pub use memory::{Memory, Said, MOST_RULE};
 pub use taken::taken;

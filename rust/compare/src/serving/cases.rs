@@ -1,7 +1,8 @@
 //! Random calls of planning and listing: jobs with buffers that are long enough, and calls with faults.
-use super::memory::{Memory, Said, Seen, MOST_LENT};
+use super::memory::{self, Memory, Said, MOST_LENT};
 use crate::memory::{start_of, MOST_WORK};
 use crate::on_file::OnFile;
+use crate::seen::{held_to, Seen};
 use dapohiru_generators::damage::Damaged;
 use dapohiru_generators::faults::{lengthen, possible, refused, short_work, NUMBERS};
 use dapohiru_generators::random::Random;
@@ -80,23 +81,15 @@ impl Case {
             work_len: self.work_len,
             lent_len: self.lent_len,
         };
-        Seen::wanted(serve(&call, slip))
+        memory::wanted(serve(&call, slip))
     }
 
     /// What is seen of the library, or in words how it differs from the second implementation with the
     /// slip that what is given has.
     pub fn compare(&self, memory: &mut Memory, given: &Given) -> Result<Seen, String> {
         let wanted = self.wanted(given, given.slip);
-        match memory.call(self.service, &self.file, self.work_len, self.lent_len) {
-            Ok(seen) if seen == wanted => Ok(seen),
-            Ok(seen) => Err(format!(
-                "the library leaves\n{}\nand the second implementation\n{}\n{}",
-                leaves(&seen),
-                leaves(&wanted),
-                self.words()
-            )),
-            Err(why) => Err(format!("{why}; {}", self.words())),
-        }
+        let seen = memory.call(self.service, &self.file, self.work_len, self.lent_len);
+        held_to(&wanted, seen, leaves, self.words())
     }
 
     /// What a call that leaves this answers.

@@ -1,6 +1,7 @@
 //! One call on memory whose every byte is looked at afterwards.
 use crate::library::Library;
 use crate::memory::{Buffers, Lent, PAST_FILE};
+use crate::seen::Seen;
 use dapohiru::numbers::ACCEPTED;
 use dapohiru_generators::random::Random;
 use dapohiru_second::serving::{Answer, Outcome, Service};
@@ -30,31 +31,19 @@ impl Said {
     }
 }
 
-/// What is seen of a call: its number, the bytes that it writes from the start of the plan or listing
-/// buffer on, and how many bytes of the work buffer it leaves as zero. All other bytes are as they were.
-#[derive(Clone, Debug, PartialEq, Eq)]
-pub struct Seen {
-    pub number: u64,
-    /// Up to the last byte written; nothing for a byte that is as it was.
-    pub written: Vec<Option<u8>>,
-    pub cleared: usize,
-}
-
-impl Seen {
-    /// What the second implementation wants to be seen.
-    pub fn wanted(outcome: Outcome) -> Self {
-        let number = match outcome.answer {
-            Answer::Planned([points, watched, passes]) => {
-                ACCEPTED + (points << 32) + (watched << 16) + passes
-            }
-            Answer::Listed(len) => ACCEPTED + len as u64,
-            Answer::Refused(number) => number,
-        };
-        Seen {
-            number,
-            written: outcome.written,
-            cleared: outcome.cleared,
+/// What the second implementation wants to be seen.
+pub fn wanted(outcome: Outcome) -> Seen {
+    let number = match outcome.answer {
+        Answer::Planned([points, watched, passes]) => {
+            ACCEPTED + (points << 32) + (watched << 16) + passes
         }
+        Answer::Listed(len) => ACCEPTED + len as u64,
+        Answer::Refused(number) => number,
+    };
+    Seen {
+        number,
+        written: outcome.written,
+        cleared: outcome.cleared,
     }
 }
 
@@ -98,17 +87,7 @@ impl Memory {
         let Buffers { file, work, .. } = &mut self.buffers;
         let (file, work, lent) = (file.bytes(), work.bytes(), self.lent.bytes());
         let number = self.library.serve(service, file, work, lent);
-        self.buffers.keeps_file(&number)?;
-        let Some(written) = self.lent.written() else {
-            return Err(format!(
-                "{number} changes bytes beside a plan or listing buffer of {lent_len} bytes"
-            ));
-        };
-        let cleared = self.buffers.cleared(&number)?;
-        Ok(Seen {
-            number,
-            written,
-            cleared,
-        })
+        let called = format!("a plan or listing buffer of {lent_len} bytes");
+        Seen::after(number, &self.buffers, &self.lent, &called)
     }
 }

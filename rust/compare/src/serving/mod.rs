@@ -3,4 +3,4 @@ mod cases;
 mod memory;
 
 pub use cases::{cases, Case};
-pub use memory::{Memory, Said, Seen, MOST_LENT};
+pub use memory::{Memory, Said, MOST_LENT};

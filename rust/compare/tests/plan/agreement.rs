@@ -1,7 +1,8 @@
 //! The library and the second implementation on the same calls.
 use crate::monitors::plan_of;
 use dapohiru_compare::memory::Counts;
-use dapohiru_compare::serving::{cases, Case, Memory, Said, Seen};
+use dapohiru_compare::seen::Seen;
+use dapohiru_compare::serving::{cases, Case, Memory, Said};
 use dapohiru_compare::wrapper::WRAPPER;
 use dapohiru_generators::features::{FeatureCounts, Features};
 use dapohiru_generators::mixed;

@@ -1,7 +1,8 @@
 //! The library and the second implementation on the same calls.
 use dapohiru_compare::library::{Library, GUARDED};
 use dapohiru_compare::memory::Counts;
-use dapohiru_compare::ruling::{cases, Case, Memory, Said, Seen};
+use dapohiru_compare::ruling::{cases, Case, Memory, Said};
+use dapohiru_compare::seen::Seen;
 use dapohiru_compare::wrapper::WRAPPER;
 use dapohiru_generators::mixed;
 use dapohiru_generators::random::Random;
