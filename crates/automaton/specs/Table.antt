@@ -1,4 +1,4 @@
--- The table as bytes (document 01, "The job file": the rule's rows are 256 bytes in row order).
+-- The table as bytes (document 01, "The job file": the rule's rows are 256 bytes in row order; document 02, request 4: cells past S or A zero).
 -- Assumes nothing.
 use mathlib.Core.Bool.{cond, _&&_}
 use mathlib.Core.List.{List}

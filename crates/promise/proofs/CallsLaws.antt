@@ -56,12 +56,12 @@ given-fits l s a f b bytes hs ha hf hb =
       symbol = hb;
     }
 
-module _ (m : Automaton) (a : ℕ) (wf : WellFormed m) (small : a < m .symbols) where
+module _ (m : Automaton) (a : ℕ) (wf : WellFormed m) (small : a < 2 ^ 64) where
   -- the call of an event with the bytes and numbers of the rule can be passed by value
   given-passable : GivenFits (givenWith (ruleBytes m) (numbersOf m) a)
   given-passable =
       given-fits (ruleBytes m) (m .states) (m .symbols) (m .finals) a (rule-bytes-are m wf) (omega (arith, wf .few-states))
-      (omega (arith, wf .few-symbols)) (finals-fit m wf) (omega (arith, wf .few-symbols))
+      (omega (arith, wf .few-symbols)) (finals-fit m wf) small
 
   -- it gives the rule and the symbol, on values
   pub value-gives-rule : (r : Record) → GivesRule valueForm m a (givenWith (ruleBytes m) (numbersOf m) a) r
@@ -81,17 +81,21 @@ module _ (m : Automaton) (a : ℕ) (wf : WellFormed m) (small : a < m .symbols) 
           states = omega (arith, wf .few-states);
           symbols = omega (arith, wf .few-symbols);
           finals = finals-fit m wf;
-          symbol = omega (arith, wf .few-symbols);
+          symbol = small;
         };
       }
+
+-- a symbol of a rule is a number of 64 bits
+symbol-fits : (m : Automaton) (a : ℕ) → WellFormed m → a < m .symbols → a < 2 ^ 64
+symbol-fits m a wf small = omega (arith, wf .few-symbols)
 
 -- so there are such calls in each form: on values
 pub value-gives : FormGives valueForm
 value-gives =
     record {
       give = λ m a r. givenWith (ruleBytes m) (numbersOf m) a;
-      gives = λ m a r wf small. value-gives-rule m a wf small r .gives;
-      fits = λ m a r wf small. value-gives-rule m a wf small r .passable;
+      gives = λ m a r wf small. value-gives-rule m a wf (symbol-fits m a wf small) r .gives;
+      fits = λ m a r wf small. value-gives-rule m a wf (symbol-fits m a wf small) r .passable;
     }
 
 -- on a lent record
@@ -99,8 +103,8 @@ pub lent-gives : FormGives lentForm
 lent-gives =
     record {
       give = λ m a r. givenWith (ruleBytes m) (numbersOf m) a;
-      gives = λ m a r wf small. lent-gives-rule m a wf small r .gives;
-      fits = λ m a r wf small. lent-gives-rule m a wf small r .passable;
+      gives = λ m a r wf small. lent-gives-rule m a wf (symbol-fits m a wf small) r .gives;
+      fits = λ m a r wf small. lent-gives-rule m a wf (symbol-fits m a wf small) r .passable;
     }
 
 -- across the C call
@@ -108,8 +112,8 @@ pub call-gives : FormGives callForm
 call-gives =
     record {
       give = λ m a h. byteCallWith (ruleBytes m) (numbersOf m) a h;
-      gives = λ m a h wf small. call-gives-rule m a wf small h .gives;
-      fits = λ m a h wf small. call-gives-rule m a wf small h .passable;
+      gives = λ m a h wf small. call-gives-rule m a wf (symbol-fits m a wf small) h .gives;
+      fits = λ m a h wf small. call-gives-rule m a wf (symbol-fits m a wf small) h .passable;
     }
 
 -- ---- calls that are refused

@@ -11,26 +11,44 @@ use Rattle.jobfile.specs.File.{Answer, accepted}
 use Rattle.events.specs.Form.{EventForm, valueForm, lentForm}
 use Rattle.eventbytes.specs.Form.{callForm}
 use Rattle.planoutcome.proofs.PlanAfterLaws.{plan-answer-reads}
-use Rattle.ruleoutcome.specs.declared.rule.RuleNumbers.{RuleNumbers}
-use Rattle.ruleoutcome.specs.declared.rule.RuleAnswer.the-variants.{Rule}
 use Rattle.ruleoutcome.specs.RuleCall.{ruleSize, ruleAnswer, numbersOf, ruledOf, ruleAfter, ruleValue}
 use Rattle.ruleoutcome.proofs.RuleLaws.{rule-well-formed}
 use Rattle.ruleoutcome.proofs.RuleSays.{rule-answer-says, ruled-by-number, rule-value-says}
-use Rattle.promise.specs.Promise.{byteCallWith, givenWith, GivesRule, RuleTied}
+use Rattle.promise.specs.Promise.{byteCallWith, givenWith, GivesRule, TiedBytes, TiedTable, RuleTied}
 use Rattle.promise.proofs.CallsLaws.{value-gives-rule, lent-gives-rule, call-gives-rule}
 
--- the numbers of an accepted answer are those of its job
-numbers-are : {x : Answer} {j : Job} (n : RuleNumbers) → x ≡ accepted j → ruledOf x ≡ Rule n → numbersOf (j .rule) ≡ n
-numbers-are {x} {j} n e h = let same : Rule (numbersOf (j .rule)) ≡ Rule n = sym (ap ruledOf e) ∙ h in cc same
-
--- a call with the bytes and the numbers of an answer, for a job that is handed over
+-- in a form, with the bytes of an answer that is accepted
 gives-by
-    : (f : EventForm) (call : List ℕ → RuleNumbers → f .Call) (bytes : Answer → List ℕ) {x : Answer} (j : Job) (n : RuleNumbers) (a : ℕ)
-    (h : f .Held) → ((i : Job) → bytes (accepted i) ≡ ruleBytes (i .rule)) → x ≡ accepted j → ruledOf x ≡ Rule n
-    → GivesRule f (j .rule) a (call (ruleBytes (j .rule)) (numbersOf (j .rule))) h → GivesRule f (j .rule) a (call (bytes x) n) h
-gives-by f call bytes {x} j n a h are e numbers given =
-    subst (λ (k : RuleNumbers). GivesRule f (j .rule) a (call (bytes x) k) h) (numbers-are n e numbers)
-    (subst (λ (l : List ℕ). GivesRule f (j .rule) a (call l (numbersOf (j .rule))) h) (sym (ap bytes e ∙ are j)) given)
+    : (f : EventForm) (call : List ℕ → f .Call) (bytes : Answer → List ℕ) {x : Answer} (j : Job) (a : ℕ) (h : f .Held)
+    → ((i : Job) → bytes (accepted i) ≡ ruleBytes (i .rule)) → x ≡ accepted j
+    → GivesRule f (j .rule) a (call (ruleBytes (j .rule))) h → GivesRule f (j .rule) a (call (bytes x)) h
+gives-by f call bytes j a h are e given =
+    subst (λ (l : List ℕ). GivesRule f (j .rule) a (call l) h) (sym (ap bytes e ∙ are j)) given
+
+-- across the C call
+tied-bytes : (file rule : List ℕ) (work : ℕ) (j : Job) → ruleAnswer file work (length rule) ≡ accepted j → TiedBytes file rule work j
+tied-bytes file rule work j e =
+    let wf = rule-well-formed file work (length rule) j e in
+    record {
+      numbers = ruled-by-number .read-back file work (length rule) ∙ ap ruledOf e;
+      gives = λ a small h.
+          gives-by callForm (λ l. byteCallWith l (numbersOf (j .rule)) a h) (λ x. ruleAfter x rule) j a h (λ i. refl) e
+          (call-gives-rule (j .rule) a wf small h);
+    }
+
+-- by value
+tied-table : (file : List ℕ) (work : ℕ) (j : Job) → ruleAnswer file work ruleSize ≡ accepted j → TiedTable file work j
+tied-table file work j e =
+    let wf = rule-well-formed file work ruleSize j e in
+    record {
+      numbers = rule-value-says .answer (ruleAnswer file work ruleSize) ∙ ap ruledOf e;
+      gives = λ a small h.
+          gives-by valueForm (λ l. givenWith l (numbersOf (j .rule)) a) (λ x. ruleValue x .table) j a h (λ i. refl) e
+          (value-gives-rule (j .rule) a wf small h);
+      gives-lent = λ a small h.
+          gives-by lentForm (λ l. givenWith l (numbersOf (j .rule)) a) (λ x. ruleValue x .table) j a h (λ i. refl) e
+          (lent-gives-rule (j .rule) a wf small h);
+    }
 
 -- the rule is tied to the job that was planned
 pub rule-tied : RuleTied
@@ -38,17 +56,7 @@ rule-tied =
     record {
       rule-accepts = λ file plan size j e work room.
           rule-answer-says .accepts file work ruleSize j .1 (room, refl, plan-answer-reads file size (length plan) j e);
-      across-the-c-call = λ file rule work j e n numbers a small h.
-          gives-by callForm (λ l k. byteCallWith l k a h) (λ x. ruleAfter x rule) j n a h (λ i. refl) e
-          (sym (ruled-by-number file work (length rule)) ∙ numbers)
-          (call-gives-rule (j .rule) a (rule-well-formed file work (length rule) j e) small h);
-      on-values = λ file work j e n numbers a small h.
-          gives-by valueForm (λ l k. givenWith l k a) (λ x. ruleValue x .table) j n a h (λ i. refl) e
-          (sym (rule-value-says .answer (ruleAnswer file work ruleSize)) ∙ numbers)
-          (value-gives-rule (j .rule) a (rule-well-formed file work ruleSize j e) small h);
-      on-a-lent-record = λ file work j e n numbers a small h.
-          gives-by lentForm (λ l k. givenWith l k a) (λ x. ruleValue x .table) j n a h (λ i. refl) e
-          (sym (rule-value-says .answer (ruleAnswer file work ruleSize)) ∙ numbers)
-          (lent-gives-rule (j .rule) a (rule-well-formed file work ruleSize j e) small h);
+      in-bytes = tied-bytes;
+      by-value = tied-table;
       rule-seen = ruled-by-number;
     }

@@ -3,12 +3,13 @@
 -- Assumes nothing.
 use mathlib.Core.Path.{_≡_}
 use mathlib.Core.List.{List}
-use Prim.Native.Nat.{ℕ, _≤_, _<_}
+use Prim.Native.Nat.{ℕ, _^_, _≤_, _<_}
 use lib.ListN.{length, take}
 use Rattle.events.specs.Monitor.{ReportByNumber}
 use Rattle.automaton.specs.Automaton.{Automaton, automatonOf}
 use Rattle.automaton.specs.Table.{tableOf}
 use Rattle.events.specs.Form.{EventForm, Given, valueForm, lentForm}
+use Rattle.events.specs.declared.Record.{Record}
 use Rattle.job.specs.Job.{Job}
 use Rattle.twomonitors.specs.Monitors.{AlarmsKept, PointsNeeded, ListsExist, AnyOrder}
 use Rattle.jobfile.specs.File.{accepted, writeJob}
@@ -19,7 +20,7 @@ use Rattle.planoutcome.specs.PlanCall.{planSize, planAnswer, planAfter}
 use Rattle.planoutcome.specs.PlanSays.{PlanBytesSay, SeenByNumber}
 use Rattle.ruleoutcome.specs.declared.rule.RuleNumbers.{RuleNumbers}
 use Rattle.ruleoutcome.specs.declared.rule.RuleAnswer.the-variants.{Rule}
-use Rattle.ruleoutcome.specs.RuleCall.{ruleSize, ruleAnswer, ruledOf, ruleAfter, ruleValue, ruleNumber}
+use Rattle.ruleoutcome.specs.RuleCall.{ruleSize, ruleAnswer, numbersOf, ruledOf, ruleAfter, ruleValue, ruleNumber}
 use Rattle.ruleoutcome.specs.RuleSays.{ruledRead, RuledByNumber}
 use Rattle.eventbytes.specs.Event.{recordSize}
 use Rattle.eventbytes.specs.Form.{HeldBytes, ByteCall, callForm}
@@ -70,25 +71,34 @@ pub record GivesRule (f : EventForm) (m : Automaton) (a : ℕ) (c : f .Call) (h 
   pub gives : f .Gives m a c h
   pub passable : f .Passable c
 
--- the statement: where planning accepts a file, so does the rule call, with the same job; and the bytes that it leaves, beside the numbers that
--- are read back from its number, are in every call of the event step the rule of that job. So a caller who plans with `dapohiru_plan`, takes the
--- rule with `dapohiru_rule` and reports events with `dapohiru_event` has calls as the promise asks for
+-- for a file whose rule is handed over to a rule buffer, with the job: the numbers read back from the number returned are those of the job's
+-- rule, and with them the bytes that are left are that rule in every call of the event step across the C call
+pub record TiedBytes (file rule : List ℕ) (work : ℕ) (j : Job) : Type 0 where
+  pub numbers : ruledRead (ruleNumber (ruledOf (ruleAnswer file work (length rule)))) ≡ Rule (numbersOf (j .rule))
+  pub gives
+      : (a : ℕ) → a < 2 ^ 64 → (h : HeldBytes)
+      → GivesRule callForm (j .rule) a (byteCallWith (ruleAfter (ruleAnswer file work (length rule)) rule) (numbersOf (j .rule)) a h) h
+
+-- the same by value: the numbers beside the table, and with them the table, on values and on a lent record
+pub record TiedTable (file : List ℕ) (work : ℕ) (j : Job) : Type 0 where
+  pub numbers : ruleValue (ruleAnswer file work ruleSize) .answer ≡ Rule (numbersOf (j .rule))
+  pub gives
+      : (a : ℕ) → a < 2 ^ 64 → (h : Record)
+      → GivesRule valueForm (j .rule) a (givenWith (ruleValue (ruleAnswer file work ruleSize) .table) (numbersOf (j .rule)) a) h
+  pub gives-lent
+      : (a : ℕ) → a < 2 ^ 64 → (h : Record)
+      → GivesRule lentForm (j .rule) a (givenWith (ruleValue (ruleAnswer file work ruleSize) .table) (numbersOf (j .rule)) a) h
+
+-- the statement: where planning accepts a file, so does the rule call, with the same job; the bytes that it leaves and the numbers that are read
+-- back from its number, or the table and the numbers by value, are the rule of that job in every call of the event step; and by the number a
+-- caller sees whether there is such a rule. So a caller who plans with `dapohiru_plan`, takes the rule with `dapohiru_rule` and reports events
+-- with `dapohiru_event` has calls as both halves ask for
 pub record RuleTied : Type 0 where
   pub rule-accepts
       : (file plan : List ℕ) (size : ℕ) (j : Job) → planAnswer file size (length plan) ≡ accepted j → (work : ℕ) → workSize ≤ work
       → ruleAnswer file work ruleSize ≡ accepted j
-  pub across-the-c-call
-      : (file rule : List ℕ) (work : ℕ) (j : Job) → ruleAnswer file work (length rule) ≡ accepted j → (n : RuleNumbers)
-      → ruledRead (ruleNumber (ruledOf (ruleAnswer file work (length rule)))) ≡ Rule n → (a : ℕ) → a < j .rule .symbols → (h : HeldBytes)
-      → GivesRule callForm (j .rule) a (byteCallWith (ruleAfter (ruleAnswer file work (length rule)) rule) n a h) h
-  pub on-values
-      : (file : List ℕ) (work : ℕ) (j : Job) → ruleAnswer file work ruleSize ≡ accepted j → (n : RuleNumbers)
-      → ruleValue (ruleAnswer file work ruleSize) .answer ≡ Rule n → (a : ℕ) → a < j .rule .symbols → (h : valueForm .Held)
-      → GivesRule valueForm (j .rule) a (givenWith (ruleValue (ruleAnswer file work ruleSize) .table) n a) h
-  pub on-a-lent-record
-      : (file : List ℕ) (work : ℕ) (j : Job) → ruleAnswer file work ruleSize ≡ accepted j → (n : RuleNumbers)
-      → ruleValue (ruleAnswer file work ruleSize) .answer ≡ Rule n → (a : ℕ) → a < j .rule .symbols → (h : lentForm .Held)
-      → GivesRule lentForm (j .rule) a (givenWith (ruleValue (ruleAnswer file work ruleSize) .table) n a) h
+  pub in-bytes : (file rule : List ℕ) (work : ℕ) (j : Job) → ruleAnswer file work (length rule) ≡ accepted j → TiedBytes file rule work j
+  pub by-value : (file : List ℕ) (work : ℕ) (j : Job) → ruleAnswer file work ruleSize ≡ accepted j → TiedTable file work j
   pub rule-seen : RuledByNumber
 
 -- the third promise: nobody who sees the alarms alone can tell the planned monitor from the fully watched one, and no watched point can

@@ -1,4 +1,4 @@
--- What a caller of the rule call has: the bytes of the rule, the refusals in their order, the numbers read back, and the rule by value.
+-- What a caller of the rule call has: the bytes of the rule, the refusals in their order, the work buffer, the numbers seen, and the rule by value.
 -- Assumes nothing.
 use mathlib.Core.Path.{_≡_, refl, sym, ap, _∙_, subst}
 use mathlib.Core.Logic.{inl, inr}
@@ -7,7 +7,7 @@ use mathlib.Core.List.{List}
 use Prim.Native.Nat.{ℕ, zero, suc, _+_, _*_, _/_, _%_, _^_, _≤_, _<_}
 use native.Mathlib.Omega.{arith}
 use lib.Dec.{eqb, ltb}
-use lib.ListN.{length, getD, replicate}
+use lib.ListN.{length}
 use borrow.Author.Tests.{ltb-true, ltb-false, lt-ltb, le-ltb, eqb-false, eq-eqb, ne-eqb}
 use Rattle.callnumber.specs.CallNumber.{acceptedFrom}
 use Rattle.automaton.specs.Automaton.{Automaton, WellFormed}
@@ -16,11 +16,11 @@ use Rattle.automaton.proofs.RuleBytesLaws.{cell-byte-at, cell-byte-past, rule-b
 use Rattle.job.specs.Job.{Job}
 use Rattle.jobfile.specs.File.{Answer, accepted, turned, maxFile, readJob}
 use Rattle.buffer.specs.Buffer.{workSize}
-use Rattle.admission.specs.Admission.{admitted}
-use Rattle.admission.proofs.AdmissionLaws.{admitted-long, admitted-short, admitted-read, admitted-small}
+use Rattle.admission.specs.Admission.{admitted, refusedLeft, workAfter}
+use Rattle.admission.proofs.AdmissionLaws.{admitted-long, admitted-short, admitted-read, admitted-small, left-past}
 use Rattle.ruleoutcome.specs.declared.rule.RuleAnswer.the-variants.{Rule, Refused}
 use Rattle.ruleoutcome.specs.RuleCall.{ruleSize, fitted, ruleAnswer, numbersOf, ruledOf, ruleAfter, ruleValue, ruleNumber}
-use Rattle.ruleoutcome.specs.RuleSays.{RuleWritten, RuleLeft, handed-over, unchanged, RuleBytesSay, RuleRefused, too-long, short-work, turned-back, other-length, RuleAnswerSays, ruledRead, RuledByNumber, RuleValueSays}
+use Rattle.ruleoutcome.specs.RuleSays.{RuleWritten, RuleLeft, handed-over, unchanged, RuleBytesSay, RuleRefused, too-long, short-work, turned-back, other-length, RuleAnswerSays, RuleWorkSays, ruledRead, RuledByNumber, RuleValueSays}
 use Rattle.ruleoutcome.proofs.RuleLaws.{turned-or-accepted, rule-reads, rule-well-formed, finals-few}
 
 -- ---- the bytes
@@ -40,7 +40,7 @@ rule-written m wf =
 pub rule-bytes-say : RuleBytesSay
 rule-bytes-say file rule work = go (ruleAnswer file work (length rule)) refl
   where
-    go : (a : Answer) → ruleAnswer file work (length rule) ≡ a → RuleLeft rule (ruleAfter a rule) a
+    go : (a : Answer) → ruleAnswer file work (length rule) ≡ a → RuleLeft rule (ruleAfter a rule) a (ruledOf a)
     go (accepted j) e = handed-over (rule-written (j .rule) (rule-well-formed file work (length rule) j e))
     go (turned k) e = unchanged refl
 
@@ -99,17 +99,25 @@ module _ (file : List ℕ) (work rule : ℕ) where
       let finals : n % 2 ^ 16 ≡ m .finals = omega (arith, wf .few-states, wf .few-symbols, few) in
       simp (le-ltb n acceptedFrom (omega arith), states, symbols, finals)
 
-  -- so is a refusal
-  read-refusal : (k : ℕ) → RuleRefused file work rule k → ruledRead (ruleNumber (Refused k)) ≡ Refused k
-  read-refusal k r = simp (lt-ltb k acceptedFrom (omega (arith, small k r)))
-    where
-      small : (k : ℕ) → RuleRefused file work rule k → k ≤ 15
-      small k (too-long l) = omega arith
-      small k (short-work fits short) = omega arith
-      small k (turned-back fits room read) =
-          admitted-small file (ltb work workSize) k (admitted-read file (ltb work workSize) (le-ltb work workSize room) ∙ read)
-      small k (other-length room read other) = omega arith
+  -- the number of a refusal is small
+  refused-small : (k : ℕ) → RuleRefused file work rule k → k ≤ 15
+  refused-small k (too-long l) = omega arith
+  refused-small k (short-work fits short) = omega arith
+  refused-small k (turned-back fits room read) =
+      admitted-small file (ltb work workSize) k (admitted-read file (ltb work workSize) (le-ltb work workSize room) ∙ read)
+  refused-small k (other-length room read other) = omega arith
 
+  -- so it is read back
+  read-refusal : (k : ℕ) → RuleRefused file work rule k → ruledRead (ruleNumber (Refused k)) ≡ Refused k
+  read-refusal k r = simp (lt-ltb k acceptedFrom (omega (arith, refused-small k r)))
+
+  -- a number of 2^48 or more is that of a rule that was handed over
+  number-accepted
+      : (a : Answer) → ruleAnswer file work rule ≡ a → acceptedFrom ≤ ruleNumber (ruledOf a) → (j : Job) × (ruleAnswer file work rule ≡ accepted j)
+  number-accepted (accepted j) e large = (j, e)
+  number-accepted (turned k) e large = absurd (omega (arith, refused-small k (refused-so k e)))
+
+  -- the answer is read back
   answer-read : (a : Answer) → ruleAnswer file work rule ≡ a → ruledRead (ruleNumber (ruledOf a)) ≡ ruledOf a
   answer-read (accepted j) e = read-numbers (j .rule) (rule-well-formed file work rule j e)
   answer-read (turned k) e = read-refusal k (refused-so k e)
@@ -122,17 +130,35 @@ rule-answer-says =
       accepts = λ file work rule j. (rule-reads file work rule j, so-accepted file work rule j);
     }
 
--- a caller reads back the answer
+-- a caller sees by the number whether the rule was handed over, and reads back the answer
 pub ruled-by-number : RuledByNumber
-ruled-by-number file work rule = answer-read file work rule (ruleAnswer file work rule) refl
+ruled-by-number =
+    record {
+      accepted-seen = λ file work rule. (
+        λ large. number-accepted file work rule (ruleAnswer file work rule) refl large,
+        λ a. subst (λ (x : Answer). acceptedFrom ≤ ruleNumber (ruledOf x)) (sym (a .1)) (omega arith),
+      );
+      read-back = λ file work rule. answer-read file work rule (ruleAnswer file work rule) refl;
+    }
+
+-- ---- the work buffer
+
+-- what an answer leaves of it
+pub rule-work-says : RuleWorkSays
+rule-work-says =
+    record {
+      left = λ file work rule k e some few. ap (λ (x : Answer). workAfter x work) e ∙ left k work some few;
+      clears = λ file work rule k e past. ap (λ (x : Answer). workAfter x work) e ∙ left-past k work past;
+      clears-after = λ file work rule j e. ap (λ (x : Answer). workAfter x work) e;
+    }
+  where
+    left : (k : ℕ) (work : List ℕ) → 1 ≤ k → k ≤ 2 → refusedLeft k work ≡ work
+    left zero work some few = absurd (omega arith)
+    left (suc zero) work some few = refl
+    left (suc (suc zero)) work some few = refl
+    left (suc (suc (suc k))) work some few = absurd (omega arith)
 
 -- ---- by value
-
--- no byte of a list of zeros is another
-zeros-get : (n i : ℕ) → getD (replicate {A = ℕ} n 0) i 0 ≡ 0
-zeros-get zero i = refl
-zeros-get (suc n) zero = refl
-zeros-get (suc n) (suc i) = zeros-get n i
 
 -- the table beside the answer
 pub rule-value-says : RuleValueSays
@@ -140,7 +166,7 @@ rule-value-says =
     record {
       answer = answer;
       table = λ file work j e. rule-written (j .rule) (rule-well-formed file work ruleSize j e);
-      none = λ k i. zeros-get ruleSize i;
+      none = λ k. refl;
       rule = λ file work j e. rule-bytes-same (j .rule) (rule-well-formed file work ruleSize j e);
     }
   where
