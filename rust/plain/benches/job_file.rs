@@ -1,8 +1,9 @@
 //! Milliseconds to read 300 job files of full size, written with spaces before the numbers and filled with
-//! zeros: the library's check of a plan of no bytes, which reads the file and no more, beside a plain Rust
-//! reader that makes the same tests on the same bytes, decodes the job and clears as many bytes.
+//! zeros: the library's check of a plan of no bytes, which reads the file and no more, and its taking of the
+//! job's rule, beside a plain Rust reader that makes the same tests on the same bytes, decodes the job, makes
+//! its rule and clears as many bytes.
 //! `cargo bench --offline -p dapohiru-plain --bench job_file` runs it.
-use dapohiru::{check, Refusal};
+use dapohiru::{check, rule, Refusal, Rule};
 use dapohiru_generators::random::Random;
 use dapohiru_generators::sized::{self, FULL};
 use dapohiru_generators::zeros::zero_filled;
@@ -77,11 +78,28 @@ fn plain(file: &[u8], decoded: &mut Decoded, work: &mut [u8]) -> Result<(), Refu
     answer
 }
 
+/// The rule of a file in plain Rust: zero past its states and symbols.
+#[inline(never)]
+fn plain_rule(file: &[u8], decoded: &mut Decoded, work: &mut [u8]) -> Result<Rule, Refusal> {
+    plain(file, decoded, work)?;
+    let symbols = decoded.symbols;
+    let mut table = [0; 256];
+    for (row, next) in table.chunks_mut(16).zip(&decoded.next).take(decoded.states) {
+        row[..symbols].copy_from_slice(&next[..symbols]);
+    }
+    Ok(Rule {
+        table,
+        states: decoded.states as u64,
+        symbols: symbols as u64,
+        finals: decoded.finals.into(),
+    })
+}
+
 /// The milliseconds that a reader takes for all files, each of which it accepts.
-fn time(files: &[Vec<u8>], mut reader: impl FnMut(&[u8]) -> Result<(), Refusal>) -> f64 {
+fn time<T>(files: &[Vec<u8>], mut reader: impl FnMut(&[u8]) -> Result<T, Refusal>) -> f64 {
     let start = Instant::now();
     for file in files {
-        assert_eq!(black_box(reader(black_box(file))), Ok(()));
+        assert!(black_box(reader(black_box(file))).is_ok());
     }
     start.elapsed().as_secs_f64() * 1_000.0
 }
@@ -102,22 +120,33 @@ fn agree(random: &mut Random, decoded: &mut Decoded, work: &mut [u8], file: &[u8
     damaged.truncate(random.pick(&[place, file.len(), file.len()]));
     let answer = plain(&damaged, decoded, work);
     assert_eq!(read(&damaged, work), answer, "the two readers differ");
+    for file in [file, &damaged] {
+        let wanted = plain_rule(file, decoded, work);
+        assert_eq!(rule(file, work), wanted, "the two rules differ");
+    }
 }
 
-/// Times both readers on these files, in turn, and prints the medians and their ratio.
-fn print(what: &str, files: &[Vec<u8>], decoded: &mut Decoded, work: &mut [u8]) {
+/// Times two readers on these files, in turn, and prints the medians and their ratio.
+fn print<T>(
+    what: &str,
+    files: &[Vec<u8>],
+    work: &mut [u8],
+    our: fn(&[u8], &mut [u8]) -> Result<T, Refusal>,
+    their: fn(&[u8], &mut Decoded, &mut [u8]) -> Result<T, Refusal>,
+) {
+    let mut decoded = Decoded::new();
     let (mut ours, mut theirs) = (Vec::new(), Vec::new());
     for _ in 0..REPETITIONS {
-        ours.push(time(files, |file| read(file, black_box(&mut *work))));
+        ours.push(time(files, |file| our(file, black_box(&mut *work))));
         theirs.push(time(files, |file| {
-            let answer = plain(file, black_box(decoded), black_box(work));
+            let answer = their(file, black_box(&mut decoded), black_box(work));
             black_box(&decoded);
             answer
         }));
     }
     let (ours, theirs) = (median(ours), median(theirs));
     println!(
-        "  {what:<18} {ours:>14.2}   {theirs:>10.2}   {:>5.2}",
+        "  {what:<34} {ours:>8.2}   {theirs:>10.2}   {:>5.2}",
         ours / theirs
     );
 }
@@ -139,7 +168,16 @@ fn main() {
     println!(
         "milliseconds for {FILES} files of full size ({bytes} bytes), median of {REPETITIONS} repetitions"
     );
-    println!("{:<20} dapohiru_check   plain Rust   ratio", "");
-    print("with spaces", &spaced, &mut decoded, &mut work);
-    print("filled with zeros", &filled, &mut decoded, &mut work);
+    println!("{:<36} library   plain Rust   ratio", "");
+    for (files, what) in [(&spaced, "with spaces"), (&filled, "filled with zeros")] {
+        let work = &mut work;
+        print(&format!("dapohiru_check, {what}"), files, work, read, plain);
+        print(
+            &format!("dapohiru_rule, {what}"),
+            files,
+            work,
+            rule,
+            plain_rule,
+        );
+    }
 }
