@@ -1,5 +1,5 @@
 //! The check of a release: the plan files of a folder, held against their jobs. Nothing is written.
-use crate::folder::{self, name_of, plan_of, Folder};
+use crate::folder::{self, name_of, plan_of, Folder, PLAN};
 use crate::json::{self, Json};
 use crate::names::Names;
 use crate::refusal::Told;
@@ -11,7 +11,7 @@ use std::collections::HashSet;
 use std::ffi::OsString;
 use std::fs;
 use std::io::ErrorKind;
-use std::path::Path;
+use std::path::{Path, PathBuf};
 
 /// What is found of a job and its plan file.
 enum Finding {
@@ -31,35 +31,34 @@ enum Finding {
     Failed(String),
 }
 
+/// What is said of jobs by their findings, in this order.
+const DIFFERENT: &str = "with a different plan";
+const MISSING: &str = "without a plan";
+const REFUSED: &str = "refused or with a refused plan";
+const FAILED: &str = "not read or with a plan that is not read";
+
 /// Checks the plan files of a folder, and gives the exit status.
 pub fn run(found: &Folder, plans: &Path, as_json: bool) -> Result<u8, String> {
-    let orphans = orphans(found, plans)?;
+    let (files, skipped) = folder::files(plans, PLAN)?;
+    let orphans = orphans(found, plans, &files);
     found.note_skipped()?;
+    folder::note_skipped(&skipped, PLAN)?;
     stop::listen();
     let findings = found.each(|job| finding(job, plans));
     let text = match as_json {
-        true => document(found, &findings, &orphans),
+        true => document(found, &findings, &orphans, &skipped),
         false => report(&findings, found.jobs.len()),
     };
     let printed = output::print(text.as_bytes());
-    let status = complaints(&findings, &orphans, found.jobs.len());
+    let status = complaints(&findings, plans, &orphans, found.jobs.len());
     printed.map(|()| status)
 }
 
 /// The plan files that have no job, in order.
-fn orphans(found: &Folder, plans: &Path) -> Result<Vec<OsString>, String> {
+fn orphans(found: &Folder, plans: &Path, files: &[PathBuf]) -> Vec<OsString> {
     let owned: HashSet<_> = found.jobs.iter().map(|job| plan_of(job, plans)).collect();
-    let is_plan = |path: &Path| {
-        let hidden = name_of(path).as_encoded_bytes().starts_with(b".");
-        !hidden && path.extension().is_some_and(|ending| ending == "plan")
-    };
-    let entries = folder::entries(plans)?.into_iter();
-    let mut orphans: Vec<_> = entries
-        .filter(|path| is_plan(path) && !owned.contains(path))
-        .map(|path| name_of(&path).to_os_string())
-        .collect();
-    orphans.sort();
-    Ok(orphans)
+    let orphans = files.iter().filter(|file| !owned.contains(*file));
+    orphans.map(|file| name_of(file).to_os_string()).collect()
 }
 
 /// What is found of one job and its plan file.
@@ -140,12 +139,26 @@ impl Finding {
         matches!(self, Finding::Checked { older: true, .. })
     }
 
-    /// What is said of it on standard error, if the table does not say all.
-    fn said(&self) -> Option<&str> {
+    /// What is said of the jobs with such findings, unless their plans are faithful.
+    fn wrong(&self) -> Option<&'static str> {
         match self {
-            Finding::JobRefused(told) | Finding::PlanRefused(told) => Some(&told.text),
-            Finding::NoPlan(why) | Finding::Failed(why) => Some(why),
-            Finding::Checked { .. } | Finding::Missing => None,
+            Finding::Checked { .. } if self.is_faithful() => None,
+            Finding::Checked { .. } => Some(DIFFERENT),
+            Finding::Missing => Some(MISSING),
+            Finding::JobRefused(_) | Finding::PlanRefused(_) | Finding::NoPlan(_) => Some(REFUSED),
+            Finding::Failed(_) => Some(FAILED),
+        }
+    }
+
+    /// What is said of it on standard error, with the job or its plan file named whole.
+    fn said(&self, job: &Path, plans: &Path) -> String {
+        match self {
+            Finding::Checked { .. } | Finding::Missing => {
+                let plan = folder::shown(&plan_of(job, plans));
+                folder::said(job, format!("{plan} is {}", self.word()))
+            }
+            Finding::JobRefused(told) | Finding::PlanRefused(told) => told.text.clone(),
+            Finding::NoPlan(why) | Finding::Failed(why) => why.clone(),
         }
     }
 
@@ -203,7 +216,12 @@ fn report(findings: &[(&Path, Finding)], all: usize) -> String {
 }
 
 /// All jobs with what is found of their plans, and the totals.
-fn document(found: &Folder, findings: &[(&Path, Finding)], orphans: &[OsString]) -> String {
+fn document(
+    found: &Folder,
+    findings: &[(&Path, Finding)],
+    orphans: &[OsString],
+    plans_skipped: &[OsString],
+) -> String {
     let job = |(job, finding): &(&Path, Finding)| {
         let mut fields = vec![("job", Json::name(name_of(job)))];
         fields.extend(finding.fields());
@@ -221,31 +239,32 @@ fn document(found: &Folder, findings: &[(&Path, Finding)], orphans: &[OsString])
     json::document(vec![
         ("jobs", Json::List(findings.iter().map(job).collect())),
         ("plans_without_a_job", names(orphans)),
-        ("skipped", names(&found.skipped)),
+        (
+            "skipped",
+            names(&[&found.skipped[..], plans_skipped].concat()),
+        ),
         ("totals", Json::Object(totals)),
     ])
 }
 
 /// Says what is wrong with jobs and plans, and gives the exit status.
-fn complaints(findings: &[(&Path, Finding)], orphans: &[OsString], all: usize) -> u8 {
-    let said = |failed: bool| -> Vec<_> {
-        let is_failed = |finding: &Finding| matches!(finding, Finding::Failed(_));
-        let findings = findings.iter().map(|(_, finding)| finding);
-        findings
-            .filter(|finding| is_failed(finding) == failed)
-            .filter_map(Finding::said)
-            .collect()
-    };
-    let (refused, failed) = (said(false), said(true));
-    complain("refused, or their plans", &refused, all);
-    complain("not read, or their plans", &failed, all);
+fn complaints(findings: &[(&Path, Finding)], plans: &Path, orphans: &[OsString], all: usize) -> u8 {
+    for wrong in [DIFFERENT, MISSING, REFUSED, FAILED] {
+        let found = findings.iter();
+        let found = found.filter(|(_, finding)| finding.wrong() == Some(wrong));
+        let said: Vec<_> = found
+            .map(|(job, finding)| finding.said(job, plans))
+            .collect();
+        complain(wrong, &said, all);
+    }
     for orphan in orphans {
         output::complain(&format!("{} is the plan of no job", shown::name(orphan)));
     }
     let left = all - findings.len();
     complain_of_stop(left, all);
     let faithful = count(findings, Finding::is_faithful);
-    match failed.len() + left {
+    let failed = count(findings, |finding| matches!(finding, Finding::Failed(_)));
+    match failed + left {
         0 => u8::from(faithful < all || !orphans.is_empty()),
         _ => 2,
     }

@@ -1,12 +1,13 @@
 //! Pictures by Graphviz's program `dot`.
 use crate::child::{self, End};
-use crate::{output, progress, shown};
+use crate::{drawing, output, progress, shown};
 use std::io::ErrorKind;
 use std::process::{Command, Output};
 use std::time::Duration;
 
-/// The edges up to which `dot` takes seconds with its own layout; with four times as many it takes minutes.
-const MOST_EDGES: usize = 400;
+/// The arrows up to which `dot` takes a second or two with its own layout; with three times as many
+/// it can take minutes.
+const MOST_ARROWS: usize = 250;
 /// The layout of larger graphs, in which no node covers another.
 const LARGE: [&str; 2] = ["-Ksfdp", "-Goverlap=prism"];
 
@@ -14,8 +15,6 @@ const LARGE: [&str; 2] = ["-Ksfdp", "-Goverlap=prism"];
 pub struct Picture {
     /// A format of `dot`.
     pub format: &'static str,
-    /// How many edges the graph has.
-    pub edges: usize,
     /// How long it may take.
     pub most: Duration,
 }
@@ -25,11 +24,11 @@ impl Picture {
     pub fn of(&self, graph: String) -> Result<Vec<u8>, String> {
         let mut command = Command::new("dot");
         command.arg(format!("-T{}", self.format));
-        if self.edges > MOST_EDGES {
+        let arrows = drawing::arrows(&graph);
+        if arrows > MOST_ARROWS {
             command.args(LARGE);
             output::note(&format!(
-                "note: with {} edges the picture is laid out by sfdp; its nodes are not ordered by the flow\n",
-                self.edges
+                "note: with {arrows} arrows the picture is laid out by sfdp; its nodes are not ordered by the flow\n"
             ))?;
         }
         let run = || child::run(&mut command, graph.into_bytes(), self.most);

@@ -14,6 +14,12 @@ pub fn drawn(job: &Job, plan: &[u8], names: &Names) -> String {
     text + &ways_back(job) + "}\n"
 }
 
+/// How many arrows a graph has that is drawn so: of edges, entries, exits and ways back. Each has a line.
+pub fn arrows(graph: &str) -> usize {
+    let is_arrow = |line: &&str| line.split_whitespace().nth(1) == Some("->");
+    graph.lines().filter(is_arrow).count()
+}
+
 /// How walks come in again and return: arrows to two nodes of their own, and on from there.
 fn ways_back(job: &Job) -> String {
     let calls = job.reentrant();
@@ -99,6 +105,18 @@ fn quoted(text: &str) -> String {
 #[cfg(test)]
 mod tests {
     use super::*;
+
+    #[test]
+    fn arrows_are_those_that_are_drawn() {
+        let pair = include_str!("../tests/expected/pair.dot");
+        // two edges, an entry and an exit
+        assert_eq!(arrows(pair), 4);
+        // four edges, an entry, an exit, and two ways with two arrows each
+        assert_eq!(arrows(include_str!("../tests/expected/regroup.dot")), 10);
+        // a name is no arrow
+        assert_eq!(arrows(&pair.replace("0: symbol", "n0 -> n1: symbol")), 4);
+        assert_eq!(arrows(&pair.replace("0: symbol", " -> ")), 4);
+    }
 
     #[test]
     fn labels_hold_any_text() {

@@ -9,8 +9,9 @@ use std::path::{Path, PathBuf};
 use std::sync::atomic::{AtomicUsize, Ordering};
 use std::thread;
 
-/// The ending of a job file's name.
+/// The endings of the names of job files and plan files.
 const JOB: &str = "job";
+pub const PLAN: &str = "plan";
 
 /// The job files of a folder.
 pub struct Folder {
@@ -23,42 +24,16 @@ pub struct Folder {
 impl Folder {
     /// The job files of a folder, which has one or more.
     pub fn read(folder: &Path) -> Result<Self, String> {
-        let (mut jobs, mut skipped) = (Vec::new(), Vec::new());
-        for path in entries(folder)? {
-            let name = name_of(&path);
-            let hidden = name.as_bytes().starts_with(b".");
-            match path.extension() {
-                None if name.eq_ignore_ascii_case(".job") => skipped.push(name.to_os_string()),
-                Some(ending) if hidden || !ending.eq_ignore_ascii_case(JOB) => {}
-                Some(ending) if ending == JOB => jobs.push(path),
-                Some(_) => skipped.push(name.to_os_string()),
-                None => {}
-            }
+        let (jobs, skipped) = files(folder, JOB)?;
+        match jobs.is_empty() {
+            true => Err(said(folder, "there is no file NAME.job in it") + &skips(&skipped, JOB)),
+            false => Ok(Folder { jobs, skipped }),
         }
-        jobs.sort();
-        skipped.sort();
-        let found = Folder { jobs, skipped };
-        match found.jobs.is_empty() {
-            true => Err(said(folder, "there is no file NAME.job in it") + &found.skips()),
-            false => Ok(found),
-        }
-    }
-
-    /// What is said of the names that are skipped.
-    fn skips(&self) -> String {
-        let skip = |name: &OsString| {
-            let name = shown::name(name);
-            format!("\nnote: {name} is skipped: job files are named NAME.job")
-        };
-        self.skipped.iter().map(skip).collect()
     }
 
     /// Says which names are skipped.
     pub fn note_skipped(&self) -> Result<(), String> {
-        match self.skips().strip_prefix('\n') {
-            Some(notes) => output::note(&format!("{notes}\n")),
-            None => Ok(()),
-        }
+        note_skipped(&self.skipped, JOB)
     }
 
     /// Does the work for each job, on all cores; those that a stop left out have no outcome.
@@ -93,8 +68,46 @@ impl Folder {
     }
 }
 
+/// The files of a folder with this ending, and the names that almost have it, each in order. Hidden files are
+/// passed over.
+pub fn files(folder: &Path, ending: &str) -> Result<(Vec<PathBuf>, Vec<OsString>), String> {
+    let (mut files, mut skipped) = (Vec::new(), Vec::new());
+    for path in entries(folder)? {
+        let name = name_of(&path);
+        let hidden = name.as_bytes().starts_with(b".");
+        let alone = format!(".{ending}");
+        match path.extension() {
+            None if name.eq_ignore_ascii_case(alone) => skipped.push(name.to_os_string()),
+            Some(found) if hidden || !found.eq_ignore_ascii_case(ending) => {}
+            Some(found) if found == ending => files.push(path),
+            Some(_) => skipped.push(name.to_os_string()),
+            None => {}
+        }
+    }
+    files.sort();
+    skipped.sort();
+    Ok((files, skipped))
+}
+
+/// What is said of names that are skipped.
+fn skips(skipped: &[OsString], ending: &str) -> String {
+    let skip = |name: &OsString| {
+        let name = shown::name(name);
+        format!("\nnote: {name} is skipped: {ending} files are named NAME.{ending}")
+    };
+    skipped.iter().map(skip).collect()
+}
+
+/// Says which names are skipped.
+pub fn note_skipped(skipped: &[OsString], ending: &str) -> Result<(), String> {
+    match skips(skipped, ending).strip_prefix('\n') {
+        Some(notes) => output::note(&format!("{notes}\n")),
+        None => Ok(()),
+    }
+}
+
 /// What a folder has in it.
-pub fn entries(folder: &Path) -> Result<Vec<PathBuf>, String> {
+fn entries(folder: &Path) -> Result<Vec<PathBuf>, String> {
     let entries = fs::read_dir(folder).map_err(|why| said(folder, why))?;
     let paths = entries.map(|entry| Ok(entry?.path()));
     let paths: Result<_, std::io::Error> = paths.collect();
@@ -113,7 +126,7 @@ pub fn shown(path: &Path) -> String {
 
 /// The plan file of a job in a folder.
 pub fn plan_of(job: &Path, folder: &Path) -> PathBuf {
-    folder.join(name_of(job)).with_extension("plan")
+    folder.join(name_of(job)).with_extension(PLAN)
 }
 
 /// The name of a file in its folder.

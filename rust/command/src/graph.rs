@@ -28,9 +28,9 @@ come back in (re-entrant calls) with a double line, plain nodes ellipses. An ent
 its set of start states, an exit one to `exit`. Dashed arrows lead from re-entrant calls by way of
 `comes in again` to the entries, and from exits by way of `returns` to re-entrant calls. A plan that
 is different is drawn too, with a note on standard error.
-A picture of more than 400 edges is laid out by Graphviz's sfdp, which takes seconds where dot takes
-minutes and does not order the nodes by the flow; a note says so. An interrupt ends dot too, and no
-file is written.
+A picture of more than 250 arrows is laid out by Graphviz's sfdp, which takes seconds where dot can
+take minutes and does not order the nodes by the flow; a note says so. An interrupt ends dot too, and
+no file is written.
 Exit status: 0 drawn; 2 a refused job or plan, or something else that is wrong.
 ",
     names: &["JOB"],
@@ -75,11 +75,7 @@ fn run(given: &Given) -> Result<u8, String> {
     let bytes = match picture {
         None => text.into_bytes(),
         Some(format) => {
-            let picture = Picture {
-                format,
-                edges: job.edges.len(),
-                most,
-            };
+            let picture = Picture { format, most };
             picture.of(text)?
         }
     };

@@ -79,7 +79,10 @@ fn run(words: &[OsString]) -> Result<u8, String> {
     };
     match first.to_str() {
         Some("--help" | "-h") => print(&help()),
-        Some("--version" | "-V") => print(&format!("dapohiru {}\n", env!("CARGO_PKG_VERSION"))),
+        Some("--version" | "-V") => match words.first() {
+            Some(extra) => Err(too_many("--version", extra, "--version")),
+            None => print(&format!("dapohiru {}\n", env!("CARGO_PKG_VERSION"))),
+        },
         Some("help") => asked_help(words),
         _ => {
             let command = command(first)?;
@@ -108,11 +111,14 @@ fn asked_help(words: &[OsString]) -> Result<u8, String> {
         [] => print(&help()),
         [name] if ["help", "--help", "-h"].iter().any(|help| name == help) => print(&help()),
         [name] => print(&command(name)?.help()),
-        [_, extra, ..] => Err(format!(
-            "help: {} is one name too many\nusage: dapohiru help [COMMAND]",
-            shown::name(extra)
-        )),
+        [_, extra, ..] => Err(too_many("help", extra, "help [COMMAND]")),
     }
+}
+
+/// What is said of a word that is too many, with the usage.
+fn too_many(what: &str, extra: &OsStr, usage: &str) -> String {
+    let extra = shown::name(extra);
+    format!("{what}: {extra} is one name too many\nusage: dapohiru {usage}")
 }
 
 /// The names of the commands, for a message.

@@ -7,8 +7,8 @@ use std::sync::Mutex;
 const WIDTH: usize = 40;
 const LEAST: usize = 4;
 
-/// Takes the line away.
-const AWAY: &str = "\r\x1b[K";
+/// Takes away what stands in the line from here on.
+const REST: &str = "\x1b[K";
 
 /// A bar that threads share.
 pub struct Progress {
@@ -40,17 +40,21 @@ impl Progress {
 
     fn draw(&self, done: usize) {
         if self.done.is_some() {
-            let line = line(done, self.all, terminal::columns(&io::stderr()));
-            let _ = write!(io::stderr(), "\r{line}");
+            show(&line(done, self.all, terminal::columns(&io::stderr())));
         }
     }
 
     /// Takes the bar away.
     pub fn end(self) {
         if self.done.is_some() {
-            let _ = write!(io::stderr(), "{AWAY}");
+            show("");
         }
     }
+}
+
+/// Writes a text in the place of the line.
+fn show(text: &str) {
+    let _ = io::stderr().write_all(format!("\r{text}{REST}").as_bytes());
 }
 
 /// The bar and the count, in fewer columns than the terminal has: without the bar where it has no room, and
@@ -78,7 +82,7 @@ pub fn during<T>(what: &str, work: impl FnOnce() -> T) -> T {
     }
     let done = work();
     if shown {
-        let _ = write!(io::stderr(), "{AWAY}");
+        show("");
     }
     done
 }

@@ -15,15 +15,17 @@ pub const COMMAND: Command = Command {
              NAME.JOB and the like are named as skipped
   -o OUTDIR  the folder for the plan files NAME.plan, made where it is missing; without it DIR
   --check    writes nothing, and checks each NAME.plan that is there against its NAME.job: whether it is
-             faithful, whether it is as planned (the plan that `plan` makes), and whether it is older
-             than the job file
+             faithful, whether it is as planned (digit for digit what `plan` makes), and whether it is
+             older than the job file; standard error names each job whose plan is different, missing
+             or refused, and NAME.PLAN and the like as skipped
   --json     a JSON document and no table
 
 The jobs are planned on all cores, once it is sure that files can be made in OUTDIR. Each plan file is
 written whole or not at all. A table of the planned jobs goes to standard output, a list of the refused
 ones to standard error; the plan file that a refused job had before stays as it is. An interrupt
 finishes the jobs that are under way and begins no others; another one, a second or more later, ends
-the program at once. On a terminal that is too narrow the names in the table are cut in the middle.
+the program at once. On a terminal that is too narrow the names in the table are cut in the middle,
+but for those that would look alike.
 Exit status: 0 all are planned; 1 one or more are refused; 2 something else is wrong.
 With --check: 0 each job has a faithful plan and each plan file a job, whatever its age; 1 a plan is
 different, refused or missing, a job is refused, or a plan file has no job; 2 something else is wrong.

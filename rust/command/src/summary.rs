@@ -5,6 +5,7 @@ use crate::refusal::Told;
 use crate::table::{table, Side};
 use crate::{output, shown};
 use dapohiru::Counts;
+use std::borrow::Borrow;
 use std::path::Path;
 use std::time::Duration;
 
@@ -140,7 +141,7 @@ pub fn complaints(outcomes: &[(&Path, Outcome)], all: usize) -> u8 {
 }
 
 /// Says of some of so many jobs, if there are any, what became of them.
-pub fn complain(became: &str, said: &[&str], all: usize) {
+pub fn complain(became: &str, said: &[impl Borrow<str>], all: usize) {
     if !said.is_empty() {
         let (count, list) = (said.len(), said.join("\n"));
         output::complain(&format!("{count} of {all} jobs {became}:\n{list}"));

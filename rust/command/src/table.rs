@@ -1,5 +1,6 @@
 //! Tables with headings, in columns as wide as what stands in them, or on a terminal as wide as it has room for.
 use crate::{shown, terminal};
+use std::collections::{HashMap, HashSet};
 use std::io;
 
 /// The side of its column on which a cell stands.
@@ -22,7 +23,8 @@ pub fn table<const N: usize>(sides: [Side; N], rows: &[[String; N]]) -> String {
 }
 
 /// The rows with two spaces between columns. Where so many columns of a terminal are too few, names are cut in
-/// the middle, and then one space stands between columns; all else stays whole.
+/// the middle, and then one space stands between columns; all else stays whole, and so do names that would look
+/// alike.
 fn fitted<const N: usize>(sides: [Side; N], rows: &[[String; N]], room: Option<usize>) -> String {
     let width = |column: usize| {
         let cells = rows.iter().map(|row| shown::width(&row[column]));
@@ -46,14 +48,43 @@ fn fitted<const N: usize>(sides: [Side; N], rows: &[[String; N]], room: Option<u
         .flat_map(|gap| (LEAST..=widest).rev().map(move |most| (most, gap)));
     let (most, gap) = shapes.find(fits).unwrap_or((LEAST, 1));
     let widths = widths(most);
-    let line = |row: &[String; N]| {
-        let cells = row.iter().zip(&widths).zip(sides);
+    let columns: Vec<_> = (0..N)
+        .map(|column| {
+            let cells: Vec<_> = rows.iter().map(|row| row[column].as_str()).collect();
+            told_apart(&cells, widths[column])
+        })
+        .collect();
+    let line = |row: usize| {
+        let cells = columns.iter().zip(&widths).zip(sides);
         let cells: Vec<_> = cells
-            .map(|((cell, &width), side)| padded(&cut(cell, width), width, side))
+            .map(|((cells, &width), side)| padded(&cells[row], width, side))
             .collect();
         cells.join(&" ".repeat(gap)).trim_end().to_string() + "\n"
     };
-    rows.iter().map(line).collect()
+    (0..rows.len()).map(line).collect()
+}
+
+/// The cells of a column, cut to so many columns, but for those that would be shown as another cell is.
+fn told_apart(cells: &[&str], most: usize) -> Vec<String> {
+    let mut shown: HashMap<String, &str> = HashMap::new();
+    let mut alike = HashSet::new();
+    for &cell in cells {
+        let cut = cut(cell, most);
+        match shown.get(&cut) {
+            Some(&other) if other != cell => {
+                alike.insert(cut);
+            }
+            _ => {
+                shown.insert(cut, cell);
+            }
+        }
+    }
+    let told = |&cell: &&str| {
+        Some(cut(cell, most))
+            .filter(|cut| !alike.contains(cut))
+            .unwrap_or_else(|| cell.to_string())
+    };
+    cells.iter().map(told).collect()
 }
 
 /// A cell in so many columns.
@@ -125,6 +156,34 @@ mod tests {
                 "{printed}"
             );
         }
+    }
+
+    #[test]
+    fn names_that_would_look_alike_are_whole() {
+        let long = |middle: &str| format!("{}{middle}{}.job", "a".repeat(20), "z".repeat(20));
+        let (one, two) = (long("1"), long("2"));
+        // the last is what the first would be cut to
+        let names = [
+            &one,
+            &two,
+            &long("1"),
+            "a.job",
+            "bbbbbbbbbbbbbbbbbb",
+            "aaaaa...job",
+        ];
+        let rows = names.map(|name| [name.to_string(), "3".to_string()]);
+        let printed = fitted([Side::Name(LEAST), Side::Right], &rows, Some(14));
+        let wanted = format!(
+            "{one}  3\n{two}  3\n{one}  3\na.job        3\nbbbbb..bbbb  3\naaaaa...job  3\n"
+        );
+        assert_eq!(printed, wanted);
+        let rows = [&one, "aaaaa...job"].map(|name| [name.to_string(), "3".to_string()]);
+        let printed = fitted([Side::Name(LEAST), Side::Right], &rows, Some(14));
+        assert_eq!(printed, format!("{one}  3\naaaaa...job  3\n"));
+        // in any order
+        let rows = ["aaaaa...job", &one].map(|name| [name.to_string(), "3".to_string()]);
+        let printed = fitted([Side::Name(LEAST), Side::Right], &rows, Some(14));
+        assert_eq!(printed, format!("aaaaa...job  3\n{one}  3\n"));
     }
 
     #[test]

@@ -91,9 +91,22 @@ fn every_plan_is_held_against_its_job() {
         .lines()
         .filter(|line| !line.starts_with("  "))
         .collect();
-    assert_eq!(lines.len(), 6);
-    assert_eq!(lines[0], "dapohiru: 4 of 9 jobs refused, or their plans:");
-    for (line, begins) in lines[1..].iter().zip([
+    let told = |name: &str, word: &str| {
+        let shown = folder.display();
+        format!("{shown}/{name}.job: {shown}/{name}.plan is {word}")
+    };
+    assert_eq!(lines.len(), 10, "{wrong}");
+    assert_eq!(
+        lines[..5],
+        [
+            "dapohiru: 1 of 9 jobs with a different plan:",
+            &told("c-different", "different"),
+            "dapohiru: 1 of 9 jobs without a plan:",
+            &told("h-missing", "missing"),
+            "dapohiru: 4 of 9 jobs refused or with a refused plan:",
+        ]
+    );
+    for (line, begins) in lines[5..].iter().zip([
         format!("{short}: refused 11: "),
         format!("{digit}: refused 12: "),
         format!("{text}: line 1, column 3: found `x`"),
@@ -136,7 +149,13 @@ fn release_is_found_faithful_and_as_planned() {
     );
     // beside the jobs there are none
     let (status, printed, wrong) = check(&jobs, &[]);
-    assert_eq!((status, wrong.as_str()), (1, ""));
+    let shown = jobs.display();
+    let missing = format!(
+        "dapohiru: 2 of 2 jobs without a plan:\n\
+         {shown}/a.job: {shown}/a.plan is missing\n\
+         {shown}/b.job: {shown}/b.plan is missing\n"
+    );
+    assert_eq!((status, wrong), (1, missing));
     assert_eq!(printed.matches(" missing\n").count(), 2);
     assert!(!jobs.join("a.plan").exists());
 }
@@ -159,13 +178,51 @@ fn one_thing_wrong_is_enough_for_status_1() {
     }
     // hidden files and files of other names are nobody's plan
     let folder = folder("audit-others");
-    for name in ["a.plan", ".b.plan", "c.plan~", "d.PLAN"] {
+    for name in ["a.plan", ".b.plan", "c.plan~", "plan"] {
         file(&folder, name, b"011\n");
     }
     file(&folder, "a.job", PAIR.as_bytes());
     assert_eq!(
         (check(&folder, &[]).0, check(&folder, &[]).2),
         (0, String::new())
+    );
+}
+
+#[test]
+fn names_that_are_almost_those_of_plans_are_told_as_skipped() {
+    let folder = folder("audit-skipped");
+    for name in ["a.plan", "d.PLAN", "a.Plan", ".plan"] {
+        file(&folder, name, b"011\n");
+    }
+    file(&folder, "a.job", PAIR.as_bytes());
+    file(&folder, "E.JOB", PAIR.as_bytes());
+    let (status, _, wrong) = check(&folder, &[]);
+    let skipped = |name: &str, kind: &str| {
+        format!("note: {name} is skipped: {kind} files are named NAME.{kind}\n")
+    };
+    let plans = [".plan", "a.Plan", "d.PLAN"].map(|name| skipped(name, "plan"));
+    assert_eq!(
+        (status, wrong),
+        (0, skipped("E.JOB", "job") + &plans.concat())
+    );
+    let (_, printed, _) = check(&folder, &["--json"]);
+    let listed = ",\"skipped\":[\"E.JOB\",\".plan\",\"a.Plan\",\"d.PLAN\"],";
+    assert!(printed.contains(listed), "{printed}");
+    // planning reads no plan
+    let words = ["release", folder.to_str().unwrap()];
+    assert_eq!(run(&words, "").2, skipped("E.JOB", "job"));
+}
+
+#[test]
+fn plan_without_its_line_end_is_as_planned() {
+    let folder = folder("audit-digits");
+    age(&file(&folder, "a.job", PAIR.as_bytes()), 10);
+    file(&folder, "a.plan", b"011");
+    let (status, printed, wrong) = check(&folder, &[]);
+    assert_eq!((status, wrong.as_str()), (0, ""));
+    assert!(
+        printed.contains("\na.job  faithful  yes         no\n"),
+        "{printed}"
     );
 }
 
@@ -178,7 +235,7 @@ fn what_cannot_be_read_is_status_2() {
     assert_eq!(status, 2);
     assert!(printed.contains("\na.job  not read\n"), "{printed}");
     let said = format!(
-        "dapohiru: 1 of 1 jobs not read, or their plans:\n{}/a.plan: it is no regular file\n",
+        "dapohiru: 1 of 1 jobs not read or with a plan that is not read:\n{}/a.plan: it is no regular file\n",
         folder.display()
     );
     assert_eq!(wrong, said);

@@ -4,6 +4,7 @@ use dapohiru_generators::large::{job_of, Order};
 use dapohiru_generators::random::Random;
 use dapohiru_generators::reentry::Reentry;
 use dapohiru_generators::samples::one_seal;
+use dapohiru_second::job::{EVENT, REENTRANT};
 use std::fs;
 use std::path::Path;
 use std::process::{Child, Command, Stdio};
@@ -192,29 +193,48 @@ fn picture_that_takes_too_long_is_given_up() {
     }
 }
 
-/// A job of so many edges.
-fn edges(count: u64) -> String {
+/// A job of so many nodes of a kind, each an entry and an exit, and so many edges.
+fn dense(nodes: usize, kind: u64, edges: u64) -> String {
     let mut job = one_seal(0);
-    let node = job.nodes[0].clone();
-    job.nodes = vec![node; 64];
-    job.edges = (0..count).map(|edge| (edge / 64, edge % 64)).collect();
+    job.nodes[0].kind = kind;
+    job.nodes = vec![job.nodes[0].clone(); nodes];
+    let nodes = nodes as u64;
+    job.edges = (0..edges)
+        .map(|edge| (edge / 16 % nodes, edge % 16 * 7 % nodes))
+        .collect();
+    job.edges.sort();
     String::from_utf8(job.file()).unwrap()
 }
 
 #[test]
-fn large_graphs_are_laid_out_by_sfdp() {
+fn graphs_of_many_arrows_are_laid_out_by_sfdp() {
     let folder = folder("child-large");
     let dot = "#!/bin/sh\ncat > /dev/null; echo \"$@\"\n";
-    let note = "note: with 401 edges the picture is laid out by sfdp; its nodes are not ordered by the flow\n";
-    for (count, words, said) in [
-        (400, "-Tpng\n", ""),
-        (401, "-Tpng -Ksfdp -Goverlap=prism\n", note),
+    for (nodes, kind, edges, arrows) in [
+        // two arrows for the entry and the exit of each node
+        (64, EVENT, 122, 250),
+        (64, EVENT, 123, 251),
+        // four more for the ways back
+        (40, REENTRANT, 10, 250),
+        (40, REENTRANT, 11, 251),
+        (100, REENTRANT, 400, 1_000),
     ] {
-        let job = file(&folder, "large.job", edges(count).as_bytes());
+        let job = file(&folder, "large.job", dense(nodes, kind, edges).as_bytes());
         let done = with_dot(&folder, dot, &["graph", &job, "--png"]);
-        assert_eq!(done, (0, words.to_string(), said.to_string()));
+        let (words, said) = match arrows {
+            ..=250 => ("-Tpng\n", String::new()),
+            _ => (
+                "-Tpng -Ksfdp -Goverlap=prism\n",
+                format!(
+                    "note: with {arrows} arrows the picture is laid out by sfdp; its nodes are not ordered by the flow\n"
+                ),
+            ),
+        };
+        assert_eq!(done, (0, words.to_string(), said));
         // as text there is nothing to lay out
-        assert_eq!(run(&["graph", &job], "").2, "");
+        let (_, printed, wrong) = run(&["graph", &job], "");
+        assert_eq!(wrong, "");
+        assert_eq!(printed.matches(" -> ").count(), arrows);
     }
 }
 
@@ -233,5 +253,10 @@ fn graph_of_full_size_is_drawn_where_dot_is_installed() {
         let (status, printed, wrong) = run(&["graph", &job, "--svg"], "");
         assert_eq!((status, wrong.lines().count()), (0, 1), "{wrong}");
         assert!(printed.matches("class=\"node\"").count() >= 512);
+        // few edges, and many arrows
+        let job = file(&folder, "back.job", dense(100, REENTRANT, 400).as_bytes());
+        let (status, printed, _) = run(&["graph", &job, "--svg"], "");
+        assert_eq!(status, 0);
+        assert_eq!(printed.matches("class=\"edge\"").count(), 1_000);
     }
 }

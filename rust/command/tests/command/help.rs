@@ -43,6 +43,10 @@ fn version_is_printed() {
     for words in [&["--version"][..], &["-V"]] {
         assert_eq!(run(words, ""), (0, printed.clone(), String::new()));
     }
+    let wrong = "dapohiru: --version: list is one name too many\nusage: dapohiru --version\n";
+    for words in [&["--version", "list"][..], &["-V", "list", "plan"]] {
+        assert_eq!(run(words, ""), (2, String::new(), wrong.to_string()));
+    }
     let wrong = "dapohiru: help: list is one name too many\nusage: dapohiru help [COMMAND]\n";
     let done = run(&["help", "plan", "list"], "");
     assert_eq!(done, (2, String::new(), wrong.to_string()));

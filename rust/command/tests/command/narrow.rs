@@ -16,6 +16,9 @@ fn jobs(name: &str) -> PathBuf {
     folder
 }
 
+/// What takes away the rest of a terminal's line.
+const REST: &str = "\x1b[K";
+
 /// The columns of a line, of which one of these characters takes two.
 fn columns(line: &str) -> usize {
     let wide = line.matches('\u{5c01}').count();
@@ -39,6 +42,7 @@ fn table_of_a_release_fits_the_terminal() {
         assert_eq!(status, 0);
         let (bars, table) = printed.rsplit_once("\r\x1b[K").unwrap();
         assert_eq!(table.lines().count(), 6, "{table}");
+        let bars = bars.replace(REST, "");
         for line in table.lines().take(5).chain(bars.split('\r')) {
             assert!(columns(line) <= width, "{width}: {line}");
         }
@@ -70,6 +74,78 @@ fn bar_is_left_out_where_it_has_no_room() {
         assert_eq!(first.matches('.').count(), bar, "{first}");
         assert_eq!(first.contains("0 of 4 jobs"), width > 11, "{first}");
     }
+}
+
+/// What stands in a terminal's line after each text that is written over it.
+fn lines(written: &str) -> Vec<String> {
+    let mut line = String::new();
+    let over = |text: &str| {
+        let (text, rest) = match text.strip_suffix(REST) {
+            Some(text) => (text, ""),
+            None => (text, line.get(text.len()..).unwrap_or_default()),
+        };
+        line = text.to_string() + rest;
+        line.clone()
+    };
+    written.split('\r').map(over).collect()
+}
+
+#[test]
+fn nothing_stays_of_a_bar_that_was_longer() {
+    let folder = folder("narrow-shorter");
+    for number in 0..12 {
+        file(&folder, &format!("{number}.job"), PAIR.as_bytes());
+    }
+    let (status, printed, _) = narrow(20, &["release", folder.to_str().unwrap()]);
+    assert_eq!(status, 0);
+    let (bars, _) = printed.rsplit_once("\r\x1b[K").unwrap();
+    let wanted = (0..=12).map(|done| match done {
+        // the bar has no room beside two digits
+        10.. => format!("{done} of 12 jobs"),
+        _ => {
+            let filled = 4 * done / 12;
+            let bar = "#".repeat(filled) + &".".repeat(4 - filled);
+            format!("[{bar}] {done} of 12 jobs")
+        }
+    });
+    assert_eq!(lines(bars)[1..], wanted.collect::<Vec<_>>());
+}
+
+#[test]
+fn jobs_that_differ_in_the_middle_of_their_names_are_told_apart() {
+    let folder = folder("narrow-alike");
+    let name = |middle: &str| format!("{}{middle}{}", "n".repeat(40), "m".repeat(40));
+    for middle in ["1", "2", "3"] {
+        file(&folder, &format!("{}.job", name(middle)), PAIR.as_bytes());
+    }
+    let plan = |middle: &str, text: &str| {
+        file(&folder, &format!("{}.plan", name(middle)), text.as_bytes())
+    };
+    let different = plan("1", "001\n");
+    plan("2", "011\n");
+    let (status, printed, _) = narrow(60, &["release", folder.to_str().unwrap(), "--check"]);
+    assert_eq!(status, 1);
+    let (_, told) = printed.rsplit_once("\r\x1b[K").unwrap();
+    let (table, wrong) = told.split_once("dapohiru: ").unwrap();
+    for (middle, word) in [
+        ("1", "different "),
+        ("2", "faithful "),
+        ("3", "missing\r\n"),
+    ] {
+        let row = format!("\n{}.job  {word}", name(middle));
+        assert_eq!(table.matches(&row).count(), 1, "{table}");
+    }
+    let shown = |middle: &str| format!("{}/{}", folder.display(), name(middle));
+    assert_eq!(
+        wrong,
+        format!(
+            "1 of 3 jobs with a different plan:\r\n{}.job: {different} is different\r\n\
+             dapohiru: 1 of 3 jobs without a plan:\r\n{}.job: {}.plan is missing\r\n",
+            shown("1"),
+            shown("3"),
+            shown("3")
+        )
+    );
 }
 
 #[test]

@@ -203,8 +203,9 @@ fn progress_bar_is_for_a_terminal() {
     assert_eq!((status, wrong.as_str()), (0, ""));
     let done = terminal(&["release", jobs.to_str().unwrap()]);
     assert_eq!(done.0, 0);
-    assert!(done.1.contains("] 0 of 1 jobs\r["), "{}", done.1);
-    assert!(done.1.contains("] 1 of 1 jobs\r\x1b[Kjob "), "{}", done.1);
+    assert!(done.1.contains("] 0 of 1 jobs\x1b[K\r["), "{}", done.1);
+    let last = "] 1 of 1 jobs\x1b[K\r\x1b[Kjob ";
+    assert!(done.1.contains(last), "{}", done.1);
 }
 
 #[test]
