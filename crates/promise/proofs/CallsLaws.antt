@@ -60,8 +60,8 @@ module _ (m : Automaton) (a : ℕ) (wf : WellFormed m) (small : a < 2 ^ 64) wher
   -- the call of an event with the bytes and numbers of the rule can be passed by value
   given-passable : GivenFits (givenWith (ruleBytes m) (numbersOf m) a)
   given-passable =
-      given-fits (ruleBytes m) (m .states) (m .symbols) (m .finals) a (rule-bytes-are m wf) (omega (arith, wf .few-states))
-      (omega (arith, wf .few-symbols)) (finals-fit m wf) small
+      given-fits (ruleBytes m) _ _ _ a (rule-bytes-are m wf) (omega (arith, wf .few-states, wf .few-symbols))
+      (omega (arith, wf .few-states, wf .few-symbols)) (finals-fit m wf) small
 
   -- it gives the rule and the symbol, on values
   pub value-gives-rule : (r : Record) → GivesRule valueForm m a (givenWith (ruleBytes m) (numbersOf m) a) r

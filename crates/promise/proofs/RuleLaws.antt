@@ -13,7 +13,7 @@ use Rattle.eventbytes.specs.Form.{callForm}
 use Rattle.planoutcome.proofs.PlanAfterLaws.{plan-answer-reads}
 use Rattle.ruleoutcome.specs.RuleCall.{ruleSize, ruleAnswer, numbersOf, ruledOf, ruleAfter, ruleValue}
 use Rattle.ruleoutcome.proofs.RuleLaws.{rule-well-formed}
-use Rattle.ruleoutcome.proofs.RuleSays.{rule-answer-says, ruled-by-number, rule-value-says}
+use Rattle.ruleoutcome.proofs.RuleSays.{rule-bytes-say, rule-answer-says, ruled-by-number, rule-value-says}
 use Rattle.promise.specs.Promise.{byteCallWith, givenWith, GivesRule, TiedBytes, TiedTable, RuleTied}
 use Rattle.promise.proofs.CallsLaws.{value-gives-rule, lent-gives-rule, call-gives-rule}
 
@@ -58,5 +58,7 @@ rule-tied =
           rule-answer-says .accepts file work ruleSize j .1 (room, refl, plan-answer-reads file size (length plan) j e);
       in-bytes = tied-bytes;
       by-value = tied-table;
+      rule-bytes = rule-bytes-say;
+      rule-value = rule-value-says;
       rule-seen = ruled-by-number;
     }

@@ -21,7 +21,7 @@ use Rattle.planoutcome.specs.PlanSays.{PlanBytesSay, SeenByNumber}
 use Rattle.ruleoutcome.specs.declared.rule.RuleNumbers.{RuleNumbers}
 use Rattle.ruleoutcome.specs.declared.rule.RuleAnswer.the-variants.{Rule}
 use Rattle.ruleoutcome.specs.RuleCall.{ruleSize, ruleAnswer, numbersOf, ruledOf, ruleAfter, ruleValue, ruleNumber}
-use Rattle.ruleoutcome.specs.RuleSays.{ruledRead, RuledByNumber}
+use Rattle.ruleoutcome.specs.RuleSays.{RuleBytesSay, ruledRead, RuledByNumber, RuleValueSays}
 use Rattle.eventbytes.specs.Event.{recordSize}
 use Rattle.eventbytes.specs.Form.{HeldBytes, ByteCall, callForm}
 
@@ -90,8 +90,8 @@ pub record TiedTable (file : List ℕ) (work : ℕ) (j : Job) : Type 0 where
       → GivesRule lentForm (j .rule) a (givenWith (ruleValue (ruleAnswer file work ruleSize) .table) (numbersOf (j .rule)) a) h
 
 -- the statement: where planning accepts a file, so does the rule call, with the same job; the bytes that it leaves and the numbers that are read
--- back from its number, or the table and the numbers by value, are the rule of that job in every call of the event step; and by the number a
--- caller sees whether there is such a rule. So a caller who plans with `dapohiru_plan`, takes the rule with `dapohiru_rule` and reports events
+-- back from its number, or the table and the numbers by value, are the rule of that job in every call of the event step; a refusal is told as that
+-- refusal and leaves the rule buffer, and by the number a caller sees whether there is such a rule. So a caller who plans with `dapohiru_plan`, takes the rule with `dapohiru_rule` and reports events
 -- with `dapohiru_event` has calls as both halves ask for
 pub record RuleTied : Type 0 where
   pub rule-accepts
@@ -99,6 +99,8 @@ pub record RuleTied : Type 0 where
       → ruleAnswer file work ruleSize ≡ accepted j
   pub in-bytes : (file rule : List ℕ) (work : ℕ) (j : Job) → ruleAnswer file work (length rule) ≡ accepted j → TiedBytes file rule work j
   pub by-value : (file : List ℕ) (work : ℕ) (j : Job) → ruleAnswer file work ruleSize ≡ accepted j → TiedTable file work j
+  pub rule-bytes : RuleBytesSay
+  pub rule-value : RuleValueSays
   pub rule-seen : RuledByNumber
 
 -- the third promise: nobody who sees the alarms alone can tell the planned monitor from the fully watched one, and no watched point can

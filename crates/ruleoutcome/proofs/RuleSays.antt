@@ -134,6 +134,7 @@ rule-answer-says =
 pub ruled-by-number : RuledByNumber
 ruled-by-number =
     record {
+      number = λ file work rule j e. ap (λ (x : Answer). ruleNumber (ruledOf x)) e;
       accepted-seen = λ file work rule. (
         λ large. number-accepted file work rule (ruleAnswer file work rule) refl large,
         λ a. subst (λ (x : Answer). acceptedFrom ≤ ruleNumber (ruledOf x)) (sym (a .1)) (omega arith),
@@ -147,8 +148,8 @@ ruled-by-number =
 pub rule-work-says : RuleWorkSays
 rule-work-says =
     record {
-      left = λ file work rule k e some few. ap (λ (x : Answer). workAfter x work) e ∙ left k work some few;
-      clears = λ file work rule k e past. ap (λ (x : Answer). workAfter x work) e ∙ left-past k work past;
+      left = λ file work rule k e some few. ap (λ (x : Answer). workAfter x work) e ∙ left k work some (omega (arith, few));
+      clears = λ file work rule k e past. ap (λ (x : Answer). workAfter x work) e ∙ left-past k work (omega (arith, past));
       clears-after = λ file work rule j e. ap (λ (x : Answer). workAfter x work) e;
     }
   where

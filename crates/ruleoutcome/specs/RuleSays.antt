@@ -75,8 +75,13 @@ ruledRead n =
     cond (ltb n acceptedFrom) (Refused n)
     (Rule (record { states = n / 2 ^ 32 % 2 ^ 16; symbols = n / 2 ^ 16 % 2 ^ 16; finals = n % 2 ^ 16 }))
 
--- the statement: a caller sees by the number whether the rule was handed over, and reads back its numbers or the refusal
+-- the statement: the number of a rule that is handed over; a caller sees by the number whether there is one, and reads back its numbers or the
+-- refusal
 pub record RuledByNumber : Type 0 where
+  pub number
+      : (file : List ℕ) (work rule : ℕ) (j : Job) → ruleAnswer file work rule ≡ accepted j
+      → ruleNumber (ruledOf (ruleAnswer file work rule))
+      ≡ acceptedFrom + j .rule .states * 2 ^ 32 + j .rule .symbols * 2 ^ 16 + j .rule .finals
   pub accepted-seen
       : (file : List ℕ) (work rule : ℕ)
       → (acceptedFrom ≤ ruleNumber (ruledOf (ruleAnswer file work rule))) ↔ ((j : Job) × (ruleAnswer file work rule ≡ accepted j))
