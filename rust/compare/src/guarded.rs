@@ -1,10 +1,11 @@
 //! Buffers between two pages that fault: who reads or writes a byte beside one ends the process with
-//! SIGSEGV. The calls of the tests are made on such copies too, flush with their ends and with their
-//! starts.
+//! SIGSEGV, and so does who writes to one that is only lent to be read. The calls of the tests are made on such
+//! copies too, flush with their ends and with their starts.
 use std::array;
 use std::cell::RefCell;
 use std::ffi::c_void;
 use std::fmt::Debug;
+use std::ops::Range;
 use std::ptr::{self, NonNull};
 
 /// The memory calls of the C library, with their numbers on Linux.
@@ -12,6 +13,7 @@ mod ffi {
     use std::ffi::{c_int, c_void};
 
     pub const PROT_NONE: c_int = 0;
+    pub const PROT_READ: c_int = 1;
     pub const PROT_READ_WRITE: c_int = 1 | 2;
     pub const MAP_PRIVATE_ANONYMOUS: c_int = 0x02 | 0x20;
 
@@ -50,6 +52,8 @@ impl Flush {
 /// Memory between two pages that fault.
 pub struct Room {
     bytes: NonNull<[u8]>,
+    /// Whether a byte of it may be written.
+    open: bool,
 }
 
 impl Room {
@@ -68,24 +72,65 @@ impl Room {
             );
             assert!(all.addr() != usize::MAX, "mmap gives no memory");
             let first = all.cast::<u8>().add(GUARD);
-            let opened = ffi::mprotect(first.cast(), len, ffi::PROT_READ_WRITE);
-            assert_eq!(opened, 0, "mprotect refuses");
             NonNull::new(ptr::slice_from_raw_parts_mut(first, len))
         };
-        Room {
+        let mut room = Room {
             bytes: bytes.expect("a mapping is not at 0"),
+            open: false,
+        };
+        room.open(true);
+        room
+    }
+
+    /// Lets its bytes be read and written, or only read.
+    fn open(&mut self, open: bool) {
+        if self.open != open {
+            let protection = match open {
+                true => ffi::PROT_READ_WRITE,
+                false => ffi::PROT_READ,
+            };
+            let first = self.bytes.as_ptr().cast::<c_void>();
+            // SAFETY: the pages are those of this room, of which nobody has a byte borrowed.
+            let done = unsafe { ffi::mprotect(first, self.bytes.len(), protection) };
+            assert_eq!(done, 0, "mprotect refuses");
+            self.open = open;
+        }
+    }
+
+    /// Where a buffer of this length stands.
+    fn place(&self, len: usize, flush: Flush) -> Range<usize> {
+        match flush {
+            Flush::End => self.bytes.len() - len..self.bytes.len(),
+            Flush::Start => 0..len,
         }
     }
 
     /// A buffer of this length in the room; it holds what was there.
     pub fn buffer(&mut self, len: usize, flush: Flush) -> &mut [u8] {
+        self.open(true);
+        let place = self.place(len, flush);
+        // SAFETY: the bytes are of this room's mapping, which lives as long as the room and is open.
+        unsafe { &mut self.bytes.as_mut()[place] }
+    }
+
+    /// What a buffer of this length in the room holds.
+    fn held(&self, len: usize, flush: Flush) -> &[u8] {
         // SAFETY: the bytes are of this room's mapping, which lives as long as the room.
-        let bytes = unsafe { self.bytes.as_mut() };
-        let from = match flush {
-            Flush::End => bytes.len() - len,
-            Flush::Start => 0,
-        };
-        &mut bytes[from..from + len]
+        unsafe { &self.bytes.as_ref()[self.place(len, flush)] }
+    }
+
+    /// A buffer that holds these bytes.
+    fn holding(&mut self, bytes: &[u8], flush: Flush) -> &mut [u8] {
+        let buffer = self.buffer(bytes.len(), flush);
+        buffer.copy_from_slice(bytes);
+        buffer
+    }
+
+    /// A buffer that holds these bytes and faults where it is written to.
+    pub fn only_read(&mut self, bytes: &[u8], flush: Flush) -> &[u8] {
+        self.holding(bytes, flush);
+        self.open(false);
+        self.held(bytes.len(), flush)
     }
 }
 
@@ -105,12 +150,8 @@ impl Drop for Room {
 struct Rooms(Vec<Room>);
 
 impl Rooms {
-    /// Places for buffers of these lengths, each in a room of its own.
-    fn buffers<'a>(
-        &'a mut self,
-        lens: &'a [usize],
-        flush: Flush,
-    ) -> impl Iterator<Item = &'a mut [u8]> {
+    /// Rooms for buffers of these lengths, one for each.
+    fn of(&mut self, lens: &[usize]) -> &mut [Room] {
         for (place, &len) in lens.iter().enumerate() {
             if self.0.len() == place {
                 self.0.push(Room::new(len));
@@ -118,8 +159,7 @@ impl Rooms {
                 self.0[place] = Room::new(len);
             }
         }
-        let rooms = self.0.iter_mut().zip(lens);
-        rooms.map(move |(room, &len)| room.buffer(len, flush))
+        &mut self.0[..lens.len()]
     }
 }
 
@@ -129,7 +169,8 @@ thread_local! {
 }
 
 /// Makes a call on these buffers, and again on two guarded copies of them. Gives its answer, and panics
-/// if one of the copies gets another or is left with other bytes, or if a buffer of `read` is written.
+/// if one of the copies gets another or is left with other bytes. A copy of a buffer of `read` faults where it is
+/// written to.
 pub fn lend<const R: usize, const W: usize, T: PartialEq + Debug>(
     read: [&[u8]; R],
     mut written: [&mut [u8]; W],
@@ -141,25 +182,22 @@ pub fn lend<const R: usize, const W: usize, T: PartialEq + Debug>(
         .collect();
     ROOMS.with_borrow_mut(|rooms| {
         let answers = array::from_fn::<T, 2, _>(|side| {
-            let mut buffers = rooms[side].buffers(&lens, Flush::BOTH[side]);
-            let mut copied = |bytes: &[u8]| {
-                let buffer = buffers.next().expect("a buffer for each");
-                buffer.copy_from_slice(bytes);
-                buffer
-            };
-            let read = read.map(|bytes| &*copied(bytes));
-            let written = array::from_fn(|place| copied(&*written[place]));
+            let flush = Flush::BOTH[side];
+            let mut rooms = rooms[side].of(&lens).iter_mut();
+            let mut room = || rooms.next().expect("a room for each");
+            let read = read.map(|bytes| room().only_read(bytes, flush));
+            let written = array::from_fn(|place| room().holding(&*written[place], flush));
             call(read, written)
         });
         let answer = call(read, written.each_mut().map(|bytes| &mut **bytes));
         for (side, copy) in answers.into_iter().enumerate() {
             let flush = Flush::BOTH[side];
             assert_eq!(copy, answer, "on buffers flush with their {flush:?}");
-            let left = rooms[side].buffers(&lens, flush);
+            let left = rooms[side].of(&lens).iter();
             let wanted = read.into_iter().chain(written.iter().map(|bytes| &**bytes));
             for (place, (left, wanted)) in left.zip(wanted).enumerate() {
                 assert!(
-                    left == wanted,
+                    left.held(wanted.len(), flush) == wanted,
                     "after {answer:?} buffer {place}, flush with its {flush:?}, has other bytes"
                 );
             }
