@@ -128,8 +128,11 @@ impl Room {
 
     /// A buffer that holds these bytes and faults where it is written to.
     pub fn only_read(&mut self, bytes: &[u8], flush: Flush) -> &[u8] {
-        self.holding(bytes, flush);
-        self.open(false);
+        // one that holds them since the call before stays as it is
+        if self.open || self.held(bytes.len(), flush) != bytes {
+            self.holding(bytes, flush);
+            self.open(false);
+        }
         self.held(bytes.len(), flush)
     }
 }
