@@ -1,6 +1,6 @@
 //! Guarded buffers do what they are for: a byte read or written beside one is fatal, by hand and by the
 //! library, and so is a byte written to one that is lent to be read. Each test runs itself again as a child that must die.
-use dapohiru_compare::guarded::{lend, Flush, Room};
+use dapohiru_compare::guarded::{lend, Flush, ReadRoom, Room};
 use dapohiru_generators::samples::pair;
 use dapohiru_generators::{prices, volumes};
 use std::env;
@@ -263,12 +263,13 @@ fn library_dies_where_a_buffer_that_it_writes_to_may_only_be_read() {
     if let Ok(name) = env::var(TASK) {
         let file = pair().file();
         let mut rooms: Vec<_> = (0..5).map(|_| Room::new(1 << 17)).collect();
+        let mut only_read = ReadRoom::new(1 << 17);
         let mut rooms = rooms.iter_mut();
         let mut lent = |of: &str, len: usize| {
             let room = rooms.next().expect("a room for each");
             let first = match of == name {
-                true => room
-                    .only_read(&vec![0; len], Flush::End)
+                true => only_read
+                    .holding(&vec![0; len], Flush::End)
                     .as_ptr()
                     .cast_mut(),
                 false => room.buffer(len, Flush::End).as_mut_ptr(),
