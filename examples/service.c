@@ -1,7 +1,8 @@
 /*
  * A service in C: plans a job, prices the plan, by a price file if it is given one, takes the job's rule and the symbols
  * of its points, then takes the events of one walk on two records, one with all points watched and one under the plan.
- * Nothing of the job is written here, but the walk's nodes: those of PAIR.
+ * Nothing of the job is written here, but the walk's nodes: those of PAIR. The walk begins in the state that its first
+ * node admits; a first node that is no entry, or that admits several states, is refused.
  *
  *     cc -std=c99 -Iinclude examples/service.c target/staticlib/libdapohiru.a -o service
  *     ./service examples/pair.job examples/pair.volumes
@@ -53,6 +54,31 @@ static int symbol_of(size_t node, uint64_t *symbol)
     return 0;
 }
 
+/*
+ * The set of states that a node of an accepted job admits, empty where it is no entry: the fourth field of its P line.
+ * Every line has its length: the J line 26 bytes, each R line 14 and 6 for each symbol, each P line 38.
+ */
+static uint64_t admitted(const uint8_t *job, size_t node)
+{
+    const size_t states = (size_t)DAPOHIRU_STATES(numbers), symbols = (size_t)DAPOHIRU_SYMBOLS(numbers);
+    return field(job + 26 + states * (14 + 6 * symbols) + 38 * node + 19);
+}
+
+/* The state in which a walk begins at a node that admits this set. Whether it is the only one; else it is told. */
+static int start_of(const char *name, size_t node, uint64_t set, uint8_t *state)
+{
+    const int several = (set & (set - 1)) != 0;
+    *state = 0;
+    if (set == 0 || several) {
+        fprintf(stderr, "service: node %zu of %s %s\n", node, name,
+                several ? "admits several states, and the walk begins in one of them" : "is no entry");
+        return 0;
+    }
+    while (set >> *state != 1)
+        ++*state;
+    return 1;
+}
+
 /* The alarm total of a record. */
 static uint64_t alarms(const uint8_t *rec)
 {
@@ -94,7 +120,6 @@ int main(int argc, char **argv)
     static uint8_t job[DAPOHIRU_JOB_LEN + 1], volumes[DAPOHIRU_VOLUMES_LEN + 1], prices[DAPOHIRU_PRICES_LEN + 1];
     static uint8_t work[DAPOHIRU_WORK_LEN], plan[DAPOHIRU_PLAN_LEN];
     static const size_t walk[] = {0, 1, 2};
-    /* PAIR's entry admits state 0 */
     uint8_t full[DAPOHIRU_RECORD_LEN] = {0}, planned[DAPOHIRU_RECORD_LEN] = {0};
     uint64_t answer;
     size_t job_len, volumes_len, prices_len = 0, nodes, k;
@@ -129,6 +154,11 @@ int main(int argc, char **argv)
     if (is_refused(numbers) || is_refused(answer))
         return 2;
     listing_len = (size_t)DAPOHIRU_LENGTH(answer);
+    /* the calls have accepted the file, so that its lines are where they should be */
+    if (!start_of(argv[1], *walk, *walk < nodes ? admitted(job, *walk) : 0, full))
+        return 2;
+    *planned = *full;
+    printf("from node %zu, in state %d\n", *walk, *full);
     for (k = 0; k < sizeof walk / sizeof *walk; k++) {
         uint64_t symbol, report, under_plan = DAPOHIRU_QUIET;
         const size_t node = walk[k];

@@ -144,8 +144,10 @@ uint64_t dapohiru_rule(const uint8_t *job, size_t job_len, uint8_t *work, size_t
  *   finals   DAPOHIRU_FINALS of its answer: answer & 0xffff
  *   symbol   for a point the second field of its W line (dapohiru_list); for an event of a call word or an after word
  *            the symbol that is reported
- *   rec      DAPOHIRU_RECORD_LEN bytes: at first a state of the entry set (the fourth field of a P line) of the node
- *            where the procedure is entered, and any alarm total, 0 for a new one; then what the call before left
+ *   rec      DAPOHIRU_RECORD_LEN bytes: at first a state of the entry set of the node where the procedure is entered,
+ *            and any alarm total, 0 for a new one; then what the call before left. The entry set, bit q for state q,
+ *            is the fourth field of the node's P line: in a file that is accepted the six columns from byte
+ *            26 + states * (14 + 6 * symbols) + 38 * node + 19 on
  * A rule and numbers of dapohiru_rule are never refused as 13.
  */
 uint64_t dapohiru_event(const uint8_t *rule, size_t rule_len, uint64_t states, uint64_t symbols, uint64_t finals, uint64_t symbol, uint8_t *rec, size_t rec_len);

@@ -2,9 +2,13 @@
 //! `DAPOHIRU_LIB_DIR` names another folder than `target/staticlib` of the repository.
 use std::{env, path::PathBuf, process};
 
+/// Names the folder with the library.
+const VARIABLE: &str = "DAPOHIRU_LIB_DIR";
+
 fn main() {
-    println!("cargo:rerun-if-env-changed=DAPOHIRU_LIB_DIR");
-    let folder = match env::var_os("DAPOHIRU_LIB_DIR") {
+    println!("cargo:rerun-if-env-changed={VARIABLE}");
+    let named = env::var_os(VARIABLE);
+    let folder = match &named {
         Some(folder) => PathBuf::from(folder),
         // asked for when it runs, so that a checkout may be moved with what was built in it
         None => {
@@ -16,10 +20,11 @@ fn main() {
     let archive = folder.join("libdapohiru.a");
     println!("cargo:rerun-if-changed={}", archive.display());
     if !archive.is_file() {
-        eprintln!(
-            "{} is missing: run `tools/built library` at the top of the repository",
-            archive.display()
-        );
+        let mend = match named {
+            Some(_) => format!("{VARIABLE} names this folder; name another, or unset it"),
+            None => "run `tools/built library` at the top of the repository".to_string(),
+        };
+        eprintln!("{} is missing: {mend}", archive.display());
         process::exit(1);
     }
     println!("cargo:rustc-link-search=native={}", folder.display());

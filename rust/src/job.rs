@@ -13,9 +13,13 @@ use dapohiru_second::job::members;
 /// [`list`](crate::list()). These calls are proved. The entries with their admitted states are read by
 /// `dapohiru_second`, the second implementation, which is tested against the proved calls and not proved:
 /// it reads a file that they have accepted, and where it has another rule, other nodes or other points, there
-/// is no `Job`. So on every walk of the job a batch that begins by [`start`](Job::start) and whose events are
-/// all reported, by [`report`](Job::report) and [`other`](Job::other), has the alarms of a monitor that is given
-/// every event.
+/// is no `Job`.
+///
+/// What holds of a batch: its walk is one of the job, and begins at the entry and in the state that
+/// [`start`](Job::start) was given; each of its events is reported once and in walk order, by
+/// [`report`](Job::report) or [`other`](Job::other), on the record of that `start`. Then it has the alarms of a
+/// monitor that begins alike and is given every event. That the entry admits the state is what the second
+/// implementation has read: so this holds if the entries are read rightly, which is tested and not proved.
 ///
 /// The two constructors and a clone allocate; no other function does, and none panics.
 ///

@@ -1,74 +1,20 @@
 //! `include/dapohiru.h`: a C program that calls every function of it, and its declarations and numbers
 //! beside those of the wrapper; the wrapper's own beside the Rattle source.
+mod compiled;
+
+use compiled::{run, top, C99, CPP};
 use std::fs;
-use std::path::{Path, PathBuf};
-use std::process::Command;
+use std::path::Path;
 
 /// The program that calls every function.
 const CALLS: &str = "rust/tests/c/calls.c";
 /// What it prints.
 const ALL_HOLD: &str = "685 tests, 0 failed\n";
-/// The service of the examples.
-const SERVICE: &str = "examples/service.c";
-/// What the C compiler is told.
-const C99: &[&str] = &["-std=c99", "-pedantic"];
-/// What the C++ compiler is told.
-const CPP: &[&str] = &["-x", "c++", "-std=c++11"];
-
-/// A path from the top of the repository.
-fn top(path: &str) -> PathBuf {
-    Path::new(env!("CARGO_MANIFEST_DIR")).join("..").join(path)
-}
 
 /// The text of a file, with every run of white space as one space.
 fn text(path: &Path) -> String {
     let text = fs::read_to_string(path).unwrap_or_else(|why| panic!("{}: {why}", path.display()));
     text.split_whitespace().collect::<Vec<_>>().join(" ")
-}
-
-/// The static library that the wrapper links.
-fn library() -> PathBuf {
-    let folder = std::env::var_os("DAPOHIRU_LIB_DIR");
-    let folder = folder.map_or_else(|| top("target/staticlib"), PathBuf::from);
-    folder.join("libdapohiru.a")
-}
-
-/// Builds a C program with this compiler; nothing without the compiler.
-fn built(program: &Path, source: &str, compiler: &str, options: &[&str]) -> Option<()> {
-    let built = Command::new(compiler)
-        .args(options)
-        .args(["-Wall", "-Wextra", "-Werror", "-I"])
-        .arg(top("include"))
-        .arg(top(source))
-        .args(["-x", "none"])
-        .arg(library())
-        .arg("-o")
-        .arg(program)
-        .output()
-        .ok()?;
-    let errors = String::from_utf8_lossy(&built.stderr);
-    assert!(built.status.success(), "{compiler}: {errors}");
-    Some(())
-}
-
-/// Builds a C program of this name with this compiler and runs it; says what it prints, or nothing without
-/// the compiler.
-fn run(
-    name: &str,
-    source: &str,
-    compiler: &str,
-    options: &[&str],
-    arguments: &[PathBuf],
-) -> Option<String> {
-    let program = Path::new(env!("CARGO_TARGET_TMPDIR")).join(name);
-    built(&program, source, compiler, options)?;
-    let ran = Command::new(&program)
-        .args(arguments)
-        .output()
-        .expect("the program runs");
-    let said = String::from_utf8_lossy(&ran.stdout).into_owned();
-    assert!(ran.status.success(), "{compiler}: {said}");
-    Some(said)
 }
 
 #[test]
@@ -84,76 +30,6 @@ fn header_is_c_plus_plus_too() {
         Some(said) => assert_eq!(said, ALL_HOLD),
         None => println!("no C++ compiler is installed"),
     }
-}
-
-#[test]
-fn service_of_the_examples_prints_what_the_docs_show() {
-    let files = ["examples/pair.job", "examples/pair.volumes"].map(top);
-    let said = run("service", SERVICE, "cc", C99, &files).expect("cc is installed");
-    let wanted = fs::read_to_string(top("rust/tests/expected/service.txt"));
-    assert_eq!(said, wanted.expect("the stored output is there"));
-    let docs = fs::read_to_string(top("docs/SERVICE.md")).expect("the docs are there");
-    assert!(docs.contains(&said), "docs/SERVICE.md shows another output");
-}
-
-#[test]
-fn service_of_the_examples_prices_by_a_price_file_that_is_given() {
-    let [job, volumes, prices] = [
-        "examples/pair.job",
-        "examples/pair.volumes",
-        "examples/association.prices",
-    ]
-    .map(top);
-    let bytes = |path: &Path| fs::read(path).expect("the file is there");
-    let cents = dapohiru::price_by(&bytes(&job), &[0, 1, 1], &bytes(&volumes), &bytes(&prices));
-    let wanted = format!("\n{} cents a day\n", cents.expect("it has a price"));
-    let files = [job, volumes, prices];
-    let said = run("service-own-prices", SERVICE, "cc", C99, &files).expect("cc is installed");
-    assert!(said.contains(&wanted), "{said}");
-}
-
-#[test]
-fn service_of_the_examples_takes_the_rule_of_the_job_that_it_is_given() {
-    // the same walk of other jobs: one without a final state, one with another symbol, one with a node that is no point
-    let pair = fs::read_to_string(top("examples/pair.job")).expect("the job is there");
-    let volumes = top("examples/pair.volumes");
-    let folder = Path::new(env!("CARGO_TARGET_TMPDIR"));
-    let service = |name: &str, job: String| {
-        let path = folder.join(format!("{name}.job"));
-        fs::write(&path, job).expect("the job is written");
-        let program = folder.join(format!("service-{name}"));
-        built(&program, SERVICE, "cc", C99).expect("cc is installed");
-        let ran = Command::new(&program).arg(path).arg(&volumes).output();
-        ran.expect("the program runs")
-    };
-    for (name, from, to, wanted) in [
-        (
-            "no-final",
-            "R     2     1",
-            "R     2     0",
-            "symbol 2: full quiet",
-        ),
-        (
-            "reopen",
-            "P     2     1     2",
-            "P     2     1     1",
-            "symbol 1: full quiet",
-        ),
-    ] {
-        let ran = service(name, pair.replace(from, to));
-        let said = String::from_utf8_lossy(&ran.stdout).into_owned();
-        assert!(ran.status.success(), "{said}");
-        let wanted = format!("\nnode 2, {wanted}, under the plan quiet (not told)\n");
-        assert!(said.contains(&wanted), "{said}");
-        assert!(said.ends_with("\nalarm totals 0 and 0\n"), "{said}");
-    }
-    let ran = service("no-point", pair.replace("P     1     1", "P     1     0"));
-    assert_eq!(ran.status.code(), Some(2));
-    let said = String::from_utf8_lossy(&ran.stderr).into_owned();
-    assert!(
-        said.contains("service: node 1 of the walk is no point of "),
-        "{said}"
-    );
 }
 
 /// A call as a source declares it: its name, and its arguments with their C types.

@@ -1,6 +1,6 @@
 //! Guarded buffers do what they are for: a byte read or written beside one is fatal, by hand and by the
-//! library. Each test runs itself again as a child that must die.
-use dapohiru_compare::guarded::{lend, Flush, Room};
+//! library, and so is a byte written to one that is lent to be read. Each test runs itself again as a child that must die.
+use dapohiru_compare::guarded::{lend, Flush, ReadRoom, Room};
 use dapohiru_generators::samples::pair;
 use dapohiru_generators::{prices, volumes};
 use std::env;
@@ -208,6 +208,94 @@ fn call_that_touches_a_byte_beside_any_buffer_lent_to_it_dies() {
             );
             assert_eq!(signal, wanted, "{task}");
         }
+    }
+}
+
+#[test]
+fn call_that_writes_to_a_buffer_that_is_lent_to_be_read_dies() {
+    let lens = [300, 65_537, 16, 65_536];
+    if let Ok(task) = env::var(TASK) {
+        let (place, at) = task.split_once(' ').expect("a buffer and a byte");
+        let place: usize = place.parse().expect("a buffer");
+        let at = match at {
+            "first" => 0,
+            _ => lens[place] - 1,
+        };
+        let [one, other, mut third, mut fourth] = lens.map(|len| vec![7; len]);
+        return lend(
+            [&one, &other],
+            [&mut third, &mut fourth],
+            |[one, other], [third, fourth]| {
+                let buffers: [&[u8]; 4] = [one, other, third, fourth];
+                // the byte that is there, so that none differs afterwards
+                touch(buffers[place].as_ptr(), at as isize, true);
+            },
+        );
+    }
+    for place in 0..lens.len() {
+        for at in ["first", "last"] {
+            let task = format!("{place} {at}");
+            let signal = ended_by(
+                "call_that_writes_to_a_buffer_that_is_lent_to_be_read_dies",
+                &task,
+            );
+            assert_eq!(signal, (place < 2).then_some(SIGSEGV), "{task}");
+        }
+    }
+}
+
+#[test]
+fn buffer_that_was_lent_to_be_read_is_lent_to_be_written_next() {
+    // after a call that came to its end, and after one that did not
+    let calls: [fn(&[u8]) -> usize; 2] = [<[u8]>::len, |_| panic!("no end")];
+    for call in calls {
+        let _ = catch_unwind(|| lend([&[4; 3]], [], |[read], []| call(read)));
+        let mut buffer = [1, 2, 3];
+        lend([], [&mut buffer], |[], [written]| written[2] = 9);
+        assert_eq!(buffer, [1, 2, 9]);
+        assert_eq!(lend([&[5; 3]], [], |[read], []| read[0]), 5);
+    }
+}
+
+#[test]
+fn library_dies_where_a_buffer_that_it_writes_to_may_only_be_read() {
+    const NAMES: [&str; 6] = ["nothing", "work", "plan", "listing", "taken", "record"];
+    if let Ok(name) = env::var(TASK) {
+        let file = pair().file();
+        let mut rooms: Vec<_> = (0..5).map(|_| Room::new(1 << 17)).collect();
+        let mut only_read = ReadRoom::new(1 << 17);
+        let mut rooms = rooms.iter_mut();
+        let mut lent = |of: &str, len: usize| {
+            let room = rooms.next().expect("a room for each");
+            let first = match of == name {
+                true => only_read
+                    .holding(&vec![0; len], Flush::End)
+                    .as_ptr()
+                    .cast_mut(),
+                false => room.buffer(len, Flush::End).as_mut_ptr(),
+            };
+            // SAFETY: of a buffer that may only be read, none: the process is to die when the library writes to it.
+            unsafe { slice::from_raw_parts_mut(first, len) }
+        };
+        let work = lent("work", 65_536);
+        let plan = lent("plan", 512);
+        let listing = lent("listing", 32_768);
+        let taken = lent("taken", 256);
+        let record = lent("record", 16);
+        black_box([
+            dapohiru::numbers::plan(&file, work, plan),
+            dapohiru::numbers::list(&file, work, listing),
+            dapohiru::numbers::rule(&file, work, taken),
+            dapohiru::numbers::event(&[0; 256], 16, 16, 1, 15, record),
+        ]);
+        return;
+    }
+    for name in NAMES {
+        let signal = ended_by(
+            "library_dies_where_a_buffer_that_it_writes_to_may_only_be_read",
+            name,
+        );
+        assert_eq!(signal, (name != "nothing").then_some(SIGSEGV), "{name}");
     }
 }
 

@@ -9,7 +9,9 @@ pub struct Walker<'a> {
     /// For each place whether some way from there never ends, with no word that never ends.
     lasting: Vec<bool>,
     place: Place,
-    /// The state in which the monitors begin, admitted at the entry where the walk begins.
+    /// The entry where the walk begins.
+    pub entry: usize,
+    /// The state in which the monitors begin, admitted at that entry.
     pub start: usize,
     /// For each point how often the walk has come to it.
     pub visits: Vec<u64>,
@@ -29,6 +31,7 @@ impl<'a> Walker<'a> {
             walks,
             lasting: lasting(walks),
             place: Place::Before(entry),
+            entry,
             start: random.pick(&states),
             visits: vec![0; job.nodes.len()],
             came_in: 0,

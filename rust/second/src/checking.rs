@@ -4,6 +4,7 @@ use crate::reading::{LONGEST, WORK};
 use crate::search::{difference, Difference};
 use crate::slip::Slip;
 use crate::walk::Walks;
+use crate::work::Left;
 
 /// What a file holds: a job, or the refusal, 3 to 10, that it deserves.
 pub type Held<'a> = Result<&'a Walks<'a>, u64>;
@@ -53,12 +54,21 @@ pub fn check(call: &Call, slip: Option<Slip>) -> Outcome {
         Answer::Different(_) => slip == Some(Slip::DifferentLeavesWork),
         _ => false,
     };
-    let cleared = match slip {
-        _ if unchanged => 0,
-        Some(Slip::ClearsAllOfWork) => call.work_len,
-        _ => WORK.min(call.work_len),
+    let rest_cleared = match (slip, &answer) {
+        (Some(Slip::ClearsAllOfWork), _) => !unchanged,
+        (Some(Slip::CheckOfLongFileClearsRest), Answer::Refused(1))
+        | (Some(Slip::CheckOfNoJobClearsRest), Answer::Refused(3..=10))
+        | (Some(Slip::PlanRefusalClearsRest), Answer::Refused(11 | 12)) => true,
+        _ => false,
     };
-    Outcome { answer, cleared }
+    let left = Left {
+        unchanged,
+        rest_cleared,
+    };
+    Outcome {
+        cleared: left.cleared(call.work_len),
+        answer,
+    }
 }
 
 /// The first refusal that applies.

@@ -20,3 +20,4 @@ pub mod serving;
 pub mod slip;
 pub mod step;
 pub mod walk;
+mod work;

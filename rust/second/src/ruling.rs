@@ -3,6 +3,7 @@
 use crate::job::Job;
 use crate::reading::{LONGEST, WORK};
 use crate::slip::Slip;
+use crate::work::Left;
 
 /// The length of a rule: sixteen rows of sixteen next states.
 pub const RULE: usize = 256;
@@ -171,10 +172,17 @@ impl Ruling {
             Answer::Refused(_) => self.slips(Slip::WrongLengthLeavesWork),
             Answer::Taken(_) => self.slips(Slip::TakenRuleLeavesWork),
         };
-        match self.slip {
-            _ if unchanged => 0,
-            Some(Slip::ClearsAllOfWork) => call.work_len,
-            _ => WORK.min(call.work_len),
-        }
+        let rest_cleared = match (self.slip, answer) {
+            (Some(Slip::ClearsAllOfWork), _) => !unchanged,
+            (Some(Slip::RuleOfLongFileClearsRest), Answer::Refused(1))
+            | (Some(Slip::RuleOfNoJobClearsRest), Answer::Refused(3..=10))
+            | (Some(Slip::WrongLengthClearsRest), Answer::Refused(13)) => true,
+            _ => false,
+        };
+        let left = Left {
+            unchanged,
+            rest_cleared,
+        };
+        left.cleared(call.work_len)
     }
 }

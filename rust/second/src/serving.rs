@@ -5,6 +5,7 @@ use crate::planning::{plan, Planned};
 use crate::reading::{LONGEST, WORK};
 use crate::slip::Slip;
 use crate::walk::Walks;
+use crate::work::Left;
 
 /// Which of the two calls it is.
 #[derive(Clone, Copy, Debug, PartialEq, Eq, PartialOrd, Ord)]
@@ -102,15 +103,21 @@ pub fn serve(call: &Call, slip: Option<Slip>) -> Outcome {
         Some(_) => slip == Some(Slip::FileRefusalLeavesWork),
         None => slip == Some(Slip::AcceptedLeavesWork),
     };
-    let cleared = match slip {
-        _ if unchanged => 0,
-        Some(Slip::ClearsAllOfWork) => call.work_len,
-        _ => WORK.min(call.work_len),
+    let rest_cleared = match (slip, refused) {
+        (Some(Slip::ClearsAllOfWork), _) => !unchanged,
+        (Some(Slip::LongFileClearsRest), Some(1))
+        | (Some(Slip::ShortLentClearsRest), Some(2))
+        | (Some(Slip::FileRefusalClearsRest), Some(3..)) => true,
+        _ => false,
+    };
+    let left = Left {
+        unchanged,
+        rest_cleared,
     };
     Outcome {
         answer,
         written,
-        cleared,
+        cleared: left.cleared(call.work_len),
     }
 }
 

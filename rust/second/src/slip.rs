@@ -207,6 +207,12 @@ slips! {
         PlanRefusalLeavesWork,
         /// The answer different leaves the work buffer as it is.
         DifferentLeavesWork,
+        /// Refusal 1 clears a work buffer of more than 65,536 bytes, to its end.
+        CheckOfLongFileClearsRest,
+        /// Refusals 3 to 10 clear the bytes past 65,536 too.
+        CheckOfNoJobClearsRest,
+        /// Refusals 11 and 12 clear the bytes past 65,536 too.
+        PlanRefusalClearsRest,
     }
 
     /// Slips of prices, of what counts, and of cents.
@@ -435,6 +441,12 @@ slips! {
         FileRefusalLeavesWork,
         /// Accepted planning leaves the work buffer as it is.
         AcceptedLeavesWork,
+        /// Refusal 1 clears a work buffer of more than 65,536 bytes, to its end.
+        LongFileClearsRest,
+        /// Refusal 2 for a plan or listing buffer clears a work buffer of more than 65,536 bytes, to its end.
+        ShortLentClearsRest,
+        /// Refusals by what the file holds clear the bytes past 65,536 too.
+        FileRefusalClearsRest,
         /// The bytes of nodes that are no points are not written.
         OtherNodesNotWritten,
     }
@@ -518,5 +530,11 @@ slips! {
         WrongLengthLeavesWork,
         /// An accepted call leaves the work buffer as it is.
         TakenRuleLeavesWork,
+        /// Refusal 1 clears a work buffer of more than 65,536 bytes, to its end.
+        RuleOfLongFileClearsRest,
+        /// Refusals by what the file holds clear the bytes past 65,536 too.
+        RuleOfNoJobClearsRest,
+        /// Refusal 13 clears the bytes past 65,536 too.
+        WrongLengthClearsRest,
     }
 }

@@ -89,6 +89,13 @@ pub fn read(arguments: impl Iterator<Item = OsString>) -> Result<Asked, String> 
         ["soak", events] => Asked::Soak {
             events: count(events, "EVENTS")?,
         },
+        [word @ ("help" | "slips" | "--version" | "-V"), after, ..] => {
+            let after = after.escape_debug();
+            return Err(format!("nothing follows {word}, and '{after}' does"));
+        }
+        ["again", ..] => return Err(goes_with("again", &["SEED", "NUMBER"], &words)),
+        ["memory", ..] => return Err(goes_with("memory", &["SEED", "N"], &words)),
+        ["soak", ..] => return Err(goes_with("soak", &["EVENTS"], &words)),
         [seed, rounds] => Asked::Rounds(Rounds {
             seed: numeral(seed, "SEED")?,
             numbers: 0..count(rounds, "N")?,
@@ -101,6 +108,15 @@ pub fn read(arguments: impl Iterator<Item = OsString>) -> Result<Asked, String> 
         }
     };
     Ok(asked)
+}
+
+/// That a word goes with these numbers and not with those that follow it.
+fn goes_with(word: &str, numbers: &[&str], words: &[&str]) -> String {
+    let numbers = numbers.join(" and ");
+    match words[1..].join(" ").escape_debug().to_string() {
+        none if none.is_empty() => format!("{word} goes with {numbers}, and nothing follows it"),
+        after => format!("{word} goes with {numbers}, and '{after}' follows it"),
+    }
 }
 
 /// A decimal number.

@@ -160,20 +160,17 @@ impl Rounds {
     fn damaged(&mut self, random: &mut Random) -> Result<(), String> {
         for _ in 0..8 {
             let damaged = Damaged::random(random);
-            let cases = Service::BOTH.map(|service| serving::Case::of_damaged(service, &damaged));
-            self.rule_cases(&[ruling::Case::of_damaged(&damaged)])?;
-            let Damaged { file, unread, job } = damaged;
-            self.serve_cases(&job, &cases)?;
+            let cases =
+                Service::BOTH.map(|service| serving::Case::of_damaged(random, service, &damaged));
+            self.rule_cases(&[ruling::Case::of_damaged(random, &damaged)])?;
+            let job = &damaged.job;
+            self.serve_cases(job, &cases)?;
             let plan = match random.below(2) {
                 0 => job.all_watched(),
                 _ => job.plan_of(&[]),
             };
-            let case = checking::Case {
-                file,
-                unread,
-                ..checking::Case::of(&job, plan)
-            };
-            self.check_cases(&job, std::slice::from_ref(&case))?;
+            let case = checking::Case::of_damaged(random, &damaged, plan);
+            self.check_cases(job, std::slice::from_ref(&case))?;
             let volumes = volumes::any(&mut self.lines, job.nodes.len());
             self.price_both(&case, volumes)?;
         }

@@ -122,7 +122,7 @@ fn calls_on_exact_allocations_find_no_difference() {
 
 #[test]
 fn wrong_arguments_are_status_2_with_the_usage() {
-    let wrong: [&[&str]; 20] = [
+    let wrong: [&[&str]; 23] = [
         &[],
         &["1"],
         &["1", "x"],
@@ -141,6 +141,9 @@ fn wrong_arguments_are_status_2_with_the_usage() {
         &["slips", "--slip", "AlwaysQuiet"],
         &["slips", "1"],
         &["--version", "1"],
+        &["help", "1"],
+        &["memory", "1"],
+        &["soak", "1", "2"],
         &["+1", "5"],
         &["1", "18446744073709551616"],
     ];
@@ -168,6 +171,35 @@ fn wrong_arguments_are_status_2_with_the_usage() {
         (
             &["\u{1b}[31m", "1"],
             "SEED is a decimal number, and '\\u{1b}[31m' is none",
+        ),
+        (&["help", "x"], "nothing follows help, and 'x' does"),
+        (&["slips", "x"], "nothing follows slips, and 'x' does"),
+        (&["slips", "1", "2"], "nothing follows slips, and '1' does"),
+        (
+            &["--version", "\u{1b}x"],
+            "nothing follows --version, and '\\u{1b}x' does",
+        ),
+        (&["-V", "x"], "nothing follows -V, and 'x' does"),
+        (
+            &["again", "7"],
+            "again goes with SEED and NUMBER, and '7' follows it",
+        ),
+        (
+            &["again"],
+            "again goes with SEED and NUMBER, and nothing follows it",
+        ),
+        (
+            &["again", "7", "8", "9"],
+            "again goes with SEED and NUMBER, and '7 8 9' follows it",
+        ),
+        (
+            &["memory", "7"],
+            "memory goes with SEED and N, and '7' follows it",
+        ),
+        (&["soak"], "soak goes with EVENTS, and nothing follows it"),
+        (
+            &["soak", "1", "2"],
+            "soak goes with EVENTS, and '1 2' follows it",
         ),
         (
             &["1", "2", "--slip", "Nothing"],

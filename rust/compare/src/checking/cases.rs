@@ -1,7 +1,9 @@
 //! Random calls: small jobs with all kinds of plans, and calls with faults.
 use super::memory::{Memory, Seen};
-use crate::memory::{start_of, MOST_WORK};
+use crate::memory::start_of;
 use crate::on_file::OnFile;
+use crate::on_work::OnWork;
+use dapohiru_generators::damage::Damaged;
 use dapohiru_generators::faults::{lengthen, possible, refused, short_work, NUMBERS};
 use dapohiru_generators::random::Random;
 use dapohiru_generators::small;
@@ -28,6 +30,12 @@ impl OnFile for Case {
     }
 }
 
+impl OnWork for Case {
+    fn work_len(&mut self) -> &mut usize {
+        &mut self.work_len
+    }
+}
+
 impl Case {
     /// A job and a plan, with a work buffer that is just long enough.
     pub fn of(job: &Job, plan: Vec<u8>) -> Self {
@@ -37,6 +45,15 @@ impl Case {
             unread: None,
             plan,
             work_len: WORK,
+        }
+    }
+
+    /// A damaged file, with this plan for the job that it holds and a work buffer that is long enough.
+    pub fn of_damaged(random: &mut Random, damaged: &Damaged, plan: Vec<u8>) -> Self {
+        Case {
+            file: damaged.file.clone(),
+            unread: damaged.unread,
+            ..Case::of(&damaged.job, plan).with_any_work(random)
         }
     }
 
@@ -135,16 +152,18 @@ pub fn cases(random: &mut Random, job: &Job) -> Vec<Case> {
     let plans = small::plans(random, job);
     let mut cases: Vec<_> = plans
         .iter()
-        .map(|plan| Case::of(job, plan.clone()).with_zeros(random))
+        .map(|plan| {
+            let case = Case::of(job, plan.clone()).with_zeros(random);
+            match random.once_in(4) {
+                true => case.with_longer_work(random),
+                false => case,
+            }
+        })
         .collect();
-    for case in &mut cases {
-        if random.once_in(4) {
-            case.work_len = random.pick(&[WORK + 1, WORK + 64, MOST_WORK]);
-        }
-    }
     for _ in 0..4 {
         let plan = plans[random.place(plans.len())].clone();
         let case = Case::of(job, plan).with_zeros(random);
+        let case = case.with_any_work(random);
         cases.push(faulty_case(random, case));
     }
     cases

@@ -1,7 +1,8 @@
 //! Random calls: jobs with buffers of the right lengths, and calls with faults.
 use super::memory::{self, Memory, MOST_RULE};
-use crate::memory::{start_of, MOST_WORK};
+use crate::memory::start_of;
 use crate::on_file::OnFile;
+use crate::on_work::OnWork;
 use crate::seen::{held_to, Seen};
 use dapohiru_generators::damage::Damaged;
 use dapohiru_generators::faults::{lengthen, possible, refused, short_work, NUMBERS};
@@ -44,6 +45,12 @@ impl OnFile for Case {
     }
 }
 
+impl OnWork for Case {
+    fn work_len(&mut self) -> &mut usize {
+        &mut self.work_len
+    }
+}
+
 impl Case {
     /// A job, with buffers of the right lengths.
     pub fn of(job: &Job) -> Self {
@@ -56,12 +63,12 @@ impl Case {
         }
     }
 
-    /// A damaged file, with buffers of the right lengths.
-    pub fn of_damaged(damaged: &Damaged) -> Self {
+    /// A damaged file, with a rule buffer of the right length and a work buffer that is long enough.
+    pub fn of_damaged(random: &mut Random, damaged: &Damaged) -> Self {
         Case {
             file: damaged.file.clone(),
             unread: damaged.unread,
-            ..Case::of(&damaged.job)
+            ..Case::of(&damaged.job).with_any_work(random)
         }
     }
 
@@ -144,12 +151,12 @@ fn leaves(seen: &Seen) -> String {
 pub fn cases(random: &mut Random, job: &Job) -> Vec<Case> {
     let mut cases = vec![
         Case::of(job).with_zeros(random),
-        Case::of(job).with_zeros(random),
+        Case::of(job).with_zeros(random).with_longer_work(random),
     ];
-    cases[1].work_len = random.pick(&[WORK + 1, WORK + 64, MOST_WORK]);
-    cases.push(Case::of(job).with_zeros(random).with_fault(random, 13));
+    let case = Case::of(job).with_zeros(random).with_any_work(random);
+    cases.push(case.with_fault(random, 13));
     for _ in 0..3 {
-        let case = Case::of(job).with_zeros(random);
+        let case = Case::of(job).with_zeros(random).with_any_work(random);
         cases.push(faulty_case(random, case));
     }
     cases

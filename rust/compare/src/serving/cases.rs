@@ -1,7 +1,8 @@
 //! Random calls of planning and listing: jobs with buffers that are long enough, and calls with faults.
 use super::memory::{self, Memory, Said, MOST_LENT};
-use crate::memory::{start_of, MOST_WORK};
+use crate::memory::start_of;
 use crate::on_file::OnFile;
+use crate::on_work::OnWork;
 use crate::seen::{held_to, Seen};
 use dapohiru_generators::damage::Damaged;
 use dapohiru_generators::faults::{lengthen, possible, refused, short_work, NUMBERS};
@@ -28,6 +29,12 @@ impl OnFile for Case {
     }
 }
 
+impl OnWork for Case {
+    fn work_len(&mut self) -> &mut usize {
+        &mut self.work_len
+    }
+}
+
 impl Case {
     /// A job, with buffers that are just long enough.
     pub fn of(service: Service, job: &Job) -> Self {
@@ -40,12 +47,12 @@ impl Case {
         }
     }
 
-    /// A damaged file, with buffers that are just long enough.
-    pub fn of_damaged(service: Service, damaged: &Damaged) -> Self {
+    /// A damaged file, with a plan or listing buffer that is just long enough and any work buffer that is.
+    pub fn of_damaged(random: &mut Random, service: Service, damaged: &Damaged) -> Self {
         Case {
             file: damaged.file.clone(),
             unread: damaged.unread,
-            ..Case::of(service, &damaged.job)
+            ..Case::of(service, &damaged.job).with_any_work(random)
         }
     }
 
@@ -131,14 +138,15 @@ fn leaves(seen: &Seen) -> String {
 pub fn cases(random: &mut Random, job: &Job) -> Vec<Case> {
     let mut cases: Vec<_> = Service::BOTH
         .map(|service| Case::of(service, job).with_zeros(random))
+        .map(|case| case.with_any_work(random))
         .into();
     for case in &mut cases {
         let least = case.lent_len;
-        case.work_len = random.pick(&[WORK, WORK, WORK + 1, WORK + 64, MOST_WORK]);
         case.lent_len = random.pick(&[least, least, least + 1, least + 64, MOST_LENT]);
     }
     for service in Service::BOTH {
         let case = Case::of(service, job).with_zeros(random);
+        let case = case.with_any_work(random);
         cases.push(faulty_case(random, job, case));
     }
     cases

@@ -2,6 +2,7 @@
 use dapohiru_compare::checking::{Case, Memory, Said};
 use dapohiru_compare::memory::Counts;
 use dapohiru_compare::on_file::OnFile;
+use dapohiru_compare::on_work::OnWork;
 use dapohiru_compare::wrapper::WRAPPER;
 use dapohiru_generators::faults::NUMBERS;
 use dapohiru_generators::random::Random;
@@ -43,7 +44,8 @@ fn lower_of_two_faults_decides() {
             (one..=12).filter(|&other| !(from_file(one) && from_file(other) && one != other))
         {
             for _ in 0..40 {
-                let mut case = Case::of(&job, vec![1, 1, 1, 0]).with_zeros(&mut random);
+                let case = Case::of(&job, vec![1, 1, 1, 0]).with_zeros(&mut random);
+                let mut case = case.with_any_work(&mut random);
                 let mut faults = vec![one, other];
                 faults.sort_by_key(|&number| (!from_file(number), number == 12));
                 faults.dedup();

@@ -64,10 +64,8 @@ impl Told {
     /// Takes one walk of at most so many events.
     fn walk(&mut self, random: &mut Random, job: &Job, walks: &Walks, most: u64) {
         let mut walker = Walker::begin(random, walks);
-        let start = walker.start as u64;
-        let entry = job.entries().iter().find(|entry| entry.admits(start));
-        let entry = entry.expect("the walk's state is admitted");
-        let mut record = job.start(entry.node, start).expect("it is admitted");
+        let start = job.start(walker.entry, walker.start as u64);
+        let mut record = start.expect("the walk's entry admits the state");
         let mut full = Full {
             read: walks.job,
             state: walker.start,

@@ -14,7 +14,7 @@ fn damaged_files_are_refused_or_planned_for_what_they_spell() {
     for number in 0..FILES {
         let damaged = Damaged::random(&mut random);
         let given = Given::of(&Walks::new(&damaged.job, None));
-        for case in Service::BOTH.map(|service| Case::of_damaged(service, &damaged)) {
+        for case in Service::BOTH.map(|service| Case::of_damaged(&mut random, service, &damaged)) {
             calls.agree(format_args!("file {number}"), &given, &case);
         }
     }

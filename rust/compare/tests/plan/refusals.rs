@@ -1,6 +1,7 @@
 //! Every refusal, alone and beside another fault.
 use crate::agreement::Calls;
 use dapohiru_compare::on_file::OnFile;
+use dapohiru_compare::on_work::OnWork;
 use dapohiru_compare::serving::{Case, Said};
 use dapohiru_generators::faults::NUMBERS;
 use dapohiru_generators::random::Random;
@@ -19,7 +20,8 @@ fn lower_of_two_faults_decides() {
         for one in 1..=10 {
             for other in (1..=2).filter(|&other| other <= one) {
                 for _ in 0..30 {
-                    let mut case = Case::of(service, &job).with_zeros(&mut random);
+                    let case = Case::of(service, &job).with_zeros(&mut random);
+                    let mut case = case.with_any_work(&mut random);
                     for number in if one == other {
                         vec![one]
                     } else {
@@ -49,6 +51,7 @@ fn every_refusal_leaves_plan_and_listing_buffer() {
                     continue;
                 }
                 let case = Case::of(service, &job).with_zeros(&mut random);
+                let case = case.with_any_work(&mut random);
                 let case = case.with_fault(&mut random, &job, fault);
                 let seen = calls.agree(format_args!("job {number}"), &given, &case);
                 assert_eq!(seen.number, fault, "job {number}");

@@ -26,7 +26,7 @@ fn damaged_files_are_refused_or_give_the_rule_that_they_spell() {
     let mut calls = Calls::new();
     for number in 0..FILES {
         let damaged = Damaged::random(&mut random);
-        let case = Case::of_damaged(&damaged);
+        let case = Case::of_damaged(&mut random, &damaged);
         calls.agree(format_args!("file {number}"), &case);
         if random.once_in(4) {
             let case = case.with_fault(&mut random, 13);

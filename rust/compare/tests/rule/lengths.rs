@@ -30,6 +30,18 @@ fn rule_buffer_of_any_length_but_256_is_13_and_left() {
 }
 
 #[test]
+fn rule_buffer_of_256_bytes_in_the_lowest_24_bits_of_its_length_is_13_and_left() {
+    let file = pair().file();
+    for library in LIBRARIES {
+        let mut work = vec![9; WORK];
+        let mut rule = vec![99; (1 << 24) + RULE];
+        assert_eq!((library.rule)(&file, &mut work, &mut rule), 13);
+        assert!(rule.iter().all(|&byte| byte == 99));
+        assert!(work.iter().all(|&byte| byte == 0));
+    }
+}
+
+#[test]
 fn work_buffer_below_65536_bytes_is_2_whatever_the_rule_buffer() {
     let file = pair().file();
     for library in LIBRARIES {

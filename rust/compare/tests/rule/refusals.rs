@@ -1,6 +1,7 @@
 //! Every refusal, alone and beside other faults.
 use crate::agreement::Calls;
 use dapohiru_compare::on_file::OnFile;
+use dapohiru_compare::on_work::OnWork;
 use dapohiru_compare::ruling::{Case, Said};
 use dapohiru_generators::faults::NUMBERS;
 use dapohiru_generators::random::Random;
@@ -35,7 +36,8 @@ fn lower_of_two_or_three_faults_decides() {
                 }
                 faults.sort_by_key(|number| !from_file(number));
                 for _ in 0..20 {
-                    let mut case = Case::of(&job).with_zeros(&mut random);
+                    let case = Case::of(&job).with_zeros(&mut random);
+                    let mut case = case.with_any_work(&mut random);
                     for &number in &faults {
                         case = case.with_fault(&mut random, number);
                     }
@@ -63,6 +65,7 @@ fn every_refusal_leaves_the_rule_buffer() {
                 continue;
             }
             let case = Case::of(&job).with_zeros(&mut random);
+            let case = case.with_any_work(&mut random);
             let case = case.with_fault(&mut random, fault);
             let seen = calls.agree(format_args!("job {number}"), &case);
             assert_eq!(seen.number, fault, "job {number}");
