@@ -265,7 +265,7 @@ mod tests {
         );
         for text in [&b"0\r1\r2\r"[..], b"0\r1\r2", b"0\r"] {
             assert_eq!(hint(text), told);
-            assert_eq!(told_of_lines(text), [told.clone()]);
+            assert_eq!(told_of_lines(text), std::slice::from_ref(&told));
         }
         assert_eq!(told_of_lines(b"0\n1\r2\r")[1], told);
         let windows = Some(r"Windows line ends, mended by `tr -d '\r' < FILE > NEW`".to_string());

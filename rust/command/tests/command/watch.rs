@@ -284,6 +284,13 @@ fn planned_monitor_has_the_alarms_of_the_full_one_on_walks() {
 }
 
 #[test]
+fn closed_input_has_no_events() {
+    let done = shell("\"$1\" watch \"$2\" <&-", &[&example("pair.job")]);
+    let printed = BEGIN.to_string() + &totals([0; 6]);
+    assert_eq!(done, (0, printed, String::new()));
+}
+
+#[test]
 fn input_that_cannot_be_read_is_told_with_the_totals() {
     let done = shell("\"$1\" watch \"$2\" < /", &[&example("pair.job")]);
     let wrong = "dapohiru: standard input: after line 0: Is a directory (os error 21)\n";
