@@ -1,6 +1,5 @@
 //! The events of the input of `watch`: what a line stands for.
-use crate::lines::LONGEST;
-use crate::{encoding, shown};
+use crate::lines::Line;
 use dapohiru_second::job::{Job, EVENT};
 
 /// An event of the input.
@@ -12,26 +11,20 @@ pub enum Event<'a> {
     Word(u64, &'a str),
 }
 
-/// The event of a job that a line without its end stands for, or why it stands for none.
-pub fn event<'a>(job: &Job, line: &'a [u8], number: u64) -> Result<Event<'a>, String> {
-    let shown = || shown::bytes(line);
-    if let Some(hint) = encoding::hint_of_line(line, number) {
-        return Err(format!("`{}` is no event: it has {hint}", shown()));
+/// The event of a job that a line stands for, or why it stands for none.
+pub fn event<'a>(job: &Job, line: &'a Line) -> Result<Event<'a>, String> {
+    if line.is_long() {
+        return Err(format!("{} is longer than any event", line.shown()));
     }
-    if line.len() > LONGEST {
-        return Err(format!("`{}..` is longer than any event", shown()));
-    }
-    let text = line.trim_ascii();
+    let text = trimmed(&line.bytes);
     let (digits, is_word) = match text.strip_prefix(b"=") {
         Some(digits) => (digits, true),
         None => (text, false),
     };
-    // spaces are passed over, a carriage return is not
-    let value = decimal(digits).filter(|_| !line.contains(&b'\r'));
-    let (Some(value), Ok(digits)) = (value, str::from_utf8(digits)) else {
+    let (Some(value), Ok(digits)) = (decimal(digits), str::from_utf8(digits)) else {
         return Err(format!(
-            "`{}` is neither a node number nor = and a symbol",
-            shown()
+            "{} is neither a node number nor = and a symbol",
+            line.shown()
         ));
     };
     if is_word {
@@ -45,6 +38,17 @@ pub fn event<'a>(job: &Job, line: &'a [u8], number: u64) -> Result<Event<'a>, St
             "there is no node {digits}; the nodes are 0 to {last}"
         )),
     }
+}
+
+/// A line without the spaces and tabs around it.
+fn trimmed(line: &[u8]) -> &[u8] {
+    let is_text = |byte: &u8| !matches!(byte, b' ' | b'\t');
+    let begin = line.iter().position(is_text).unwrap_or(line.len());
+    let end = line
+        .iter()
+        .rposition(is_text)
+        .map_or(begin, |last| last + 1);
+    &line[begin..end]
 }
 
 /// The number that decimal digits write; one past 2^64-1 counts as 2^64-1.

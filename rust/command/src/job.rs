@@ -40,13 +40,19 @@ pub fn given_plan(job: &Input, plan: Plan) -> Result<Vec<u8>, String> {
 
 /// The same with names for what is said of a refusal.
 pub fn named_plan(job: &Input, plan: Plan, names: &Names) -> Result<Vec<u8>, String> {
-    if checked(job, &plan, names)? == Verdict::Different {
+    judged_plan(job, plan, names).map(|(bytes, _)| bytes)
+}
+
+/// The same with what the proved call finds of the plan.
+pub fn judged_plan(job: &Input, plan: Plan, names: &Names) -> Result<(Vec<u8>, Verdict), String> {
+    let verdict = checked(job, &plan, names)?;
+    if verdict == Verdict::Different {
         let shown = &plan.shown;
         output::note(&format!(
             "note: {shown} is different: on some walk it has other alarms than all points watched\n"
         ))?;
     }
-    Ok(plan.bytes)
+    Ok((plan.bytes, verdict))
 }
 
 /// The job of a file, once the proved call has accepted it.

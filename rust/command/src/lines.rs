@@ -1,4 +1,5 @@
 //! The lines of standard input, which a stop ends too.
+use crate::shown;
 use crate::stop::{self, Wait};
 use std::fs::File;
 use std::io::{self, BufRead, BufReader, Read};
@@ -7,6 +8,28 @@ use std::time::Duration;
 
 /// The longest line that is kept whole; no event is as long.
 pub const LONGEST: usize = 64;
+
+/// A line without its end.
+#[derive(Debug, Default)]
+pub struct Line {
+    /// Its bytes; of a long line only the first, more than the longest event has.
+    pub bytes: Vec<u8>,
+    /// Its last byte, also of a long line.
+    pub last: Option<u8>,
+}
+
+impl Line {
+    /// The line in quotes, of a long one the beginning.
+    pub fn shown(&self) -> String {
+        let rest = if self.is_long() { ".." } else { "" };
+        format!("`{}{rest}`", shown::bytes(&self.bytes))
+    }
+
+    /// Whether it is longer than any event.
+    pub fn is_long(&self) -> bool {
+        self.bytes.len() > LONGEST
+    }
+}
 
 /// What comes next in the input.
 #[derive(Debug, PartialEq, Eq)]
@@ -54,7 +77,7 @@ impl Lines {
     }
 
     /// Reads the next line without its end.
-    pub fn next(&mut self, line: &mut Vec<u8>) -> io::Result<Next> {
+    pub fn next(&mut self, line: &mut Line) -> io::Result<Next> {
         if stop::asked() {
             return Ok(Next::End);
         }
@@ -66,10 +89,10 @@ impl Lines {
     }
 }
 
-/// Reads the next line without its end. Of a long line only the first bytes are kept, more than the longest event
-/// has.
-fn next(input: &mut impl BufRead, line: &mut Vec<u8>) -> io::Result<Next> {
-    line.clear();
+/// Reads the next line without its end.
+fn next(input: &mut impl BufRead, line: &mut Line) -> io::Result<Next> {
+    line.bytes.clear();
+    line.last = None;
     let mut any = false;
     loop {
         let bytes = match input.fill_buf() {
@@ -82,8 +105,9 @@ fn next(input: &mut impl BufRead, line: &mut Vec<u8>) -> io::Result<Next> {
         any = true;
         let end = bytes.iter().position(|&byte| byte == b'\n');
         let len = end.unwrap_or(bytes.len());
-        let room = LONGEST + 1 - line.len();
-        line.extend(&bytes[..len.min(room)]);
+        let room = LONGEST + 1 - line.bytes.len();
+        line.bytes.extend(&bytes[..len.min(room)]);
+        line.last = bytes[..len].last().copied().or(line.last);
         input.consume(len + usize::from(end.is_some()));
         if end.is_some() {
             return Ok(Next::Line);
@@ -99,7 +123,7 @@ mod tests {
     fn lines_are_told_from_bytes_without_an_end() {
         for capacity in [1, 2, 3, 100] {
             let mut input = BufReader::with_capacity(capacity, &b"0\n\n12\n2"[..]);
-            let mut line = Vec::new();
+            let mut line = Line::default();
             for (wanted, bytes) in [
                 (Next::Line, &b"0"[..]),
                 (Next::Line, b""),
@@ -108,19 +132,23 @@ mod tests {
                 (Next::End, b""),
             ] {
                 assert_eq!(next(&mut input, &mut line).unwrap(), wanted);
-                assert_eq!(line, bytes);
+                assert_eq!(line.bytes, bytes);
+                assert_eq!(line.last.as_ref(), bytes.last());
             }
         }
     }
 
     #[test]
     fn long_line_is_kept_in_part() {
-        let text = "0".repeat(1_000) + "\n1\n";
+        let text = "0".repeat(1_000) + "x\n1\n";
         let mut input = BufReader::with_capacity(7, text.as_bytes());
-        let mut line = Vec::new();
+        let mut line = Line::default();
         assert_eq!(next(&mut input, &mut line).unwrap(), Next::Line);
-        assert_eq!(line, "0".repeat(LONGEST + 1).as_bytes());
+        let begin = "0".repeat(LONGEST + 1);
+        assert_eq!((&line.bytes[..], line.last), (begin.as_bytes(), Some(b'x')));
+        assert_eq!(line.shown(), format!("`{begin}..`"));
         assert_eq!(next(&mut input, &mut line).unwrap(), Next::Line);
-        assert_eq!(line, b"1");
+        assert_eq!((&line.bytes[..], line.last), (&b"1"[..], Some(b'1')));
+        assert_eq!(line.shown(), "`1`");
     }
 }

@@ -18,6 +18,7 @@ mod graph;
 mod input;
 mod job;
 mod json;
+mod lease;
 mod lines;
 mod list;
 mod listing;

@@ -1,12 +1,12 @@
 //! The monitor of `watch`: events taken one by one, with the walk that they follow and what is counted beside the
 //! record.
+use crate::encoding::Seen;
 use crate::events::{event, Event};
-use crate::lines::{Lines, Next};
+use crate::lines::{Line, Lines, Next};
 use crate::places::Walk;
 use crate::record::{text, Held};
 use crate::recordfile::RecordFile;
 use crate::reports::Reports;
-use crate::shown;
 use dapohiru::{Refusal, Report, Rule};
 use dapohiru_second::job::Job;
 use std::time::Duration;
@@ -29,6 +29,7 @@ pub struct Watch<'a> {
     pub plan: Vec<u8>,
     pub walk: Walk<'a>,
     pub held: Held,
+    pub seen: Seen,
     pub reports: Reports<'a>,
     pub kept: Option<Kept>,
 }
@@ -56,7 +57,7 @@ impl Watch<'_> {
 
     /// Takes the event of each line, up to the end of the input, a stop, or what cannot be read or written.
     fn take_all(&mut self, input: &mut Lines) -> Result<(), String> {
-        let mut line = Vec::new();
+        let mut line = Line::default();
         loop {
             if let Some(kept) = &mut self.kept {
                 let is_due = |left: Duration| left.is_zero() || !input.comes_within(left);
@@ -86,10 +87,13 @@ impl Watch<'_> {
     }
 
     /// Takes the event of a line, if it is one.
-    fn take_line(&mut self, line: &[u8]) -> Result<(), String> {
+    fn take_line(&mut self, line: &Line) -> Result<(), String> {
         self.held.line += 1;
-        let taken = event(self.job, line, self.held.line)
-            .and_then(|event| self.reported(event).map(|report| (event, report)));
+        let taken = match self.seen.hint(line, self.held.line, true) {
+            Some(hint) => Err(format!("{} is no event: it has {hint}", line.shown())),
+            None => event(self.job, line)
+                .and_then(|event| self.reported(event).map(|report| (event, report))),
+        };
         match taken {
             Ok((event, report)) => self.follow(event, report),
             Err(why) => {
@@ -100,11 +104,13 @@ impl Watch<'_> {
     }
 
     /// Leaves the last line, which has no end, as no event. The record does not hold it.
-    fn leave(&mut self, line: &[u8]) -> Result<(), String> {
-        let shown = shown::bytes(line);
-        let why = format!("`{shown}` is no event: the input ends before the end of the line");
+    fn leave(&mut self, line: &Line) -> Result<(), String> {
+        let (shown, number) = (line.shown(), self.held.line + 1);
+        let hint = self.seen.hint(line, number, false);
+        let hint = hint.map_or(String::new(), |hint| format!("; it has {hint}"));
+        let why = format!("{shown} is no event: the input ends before the end of the line{hint}");
         self.held.wrong += 1;
-        self.reports.no_event(self.held.line + 1, &why)
+        self.reports.no_event(number, &why)
     }
 
     /// Gives an event to the monitor where it is watched; a refusal says why it is none.

@@ -147,22 +147,32 @@ pub fn target(path: &Path) -> Result<(PathBuf, Option<Permissions>), String> {
     }
 }
 
-/// A name beside a file that this program has not used.
-pub fn name_beside(place: &Path) -> PathBuf {
+/// Makes something beside a file under a hidden name that no other has; the name has this word.
+pub fn beside<T>(
+    place: &Path,
+    word: &str,
+    make: impl Fn(&Path) -> io::Result<T>,
+) -> io::Result<(PathBuf, T)> {
     static COUNT: AtomicU64 = AtomicU64::new(0);
-    let count = COUNT.fetch_add(1, Ordering::Relaxed);
-    place.with_file_name(format!(".dapohiru-{}-{count}.tmp", process::id()))
-}
-
-/// A new file beside a file, under a name that no other has.
-pub fn temporary(place: &Path) -> io::Result<(PathBuf, File)> {
     loop {
-        let name = name_beside(place);
-        match OpenOptions::new().write(true).create_new(true).open(&name) {
+        let count = COUNT.fetch_add(1, Ordering::Relaxed);
+        let name = place.with_file_name(format!("{word}-{}-{count}.tmp", process::id()));
+        match make(&name) {
+            // another program's, or left by one that was killed
             Err(why) if why.kind() == ErrorKind::AlreadyExists => {}
-            opened => return opened.map(|file| (name, file)),
+            made => return made.map(|made| (name, made)),
         }
     }
+}
+
+/// A file that is not there yet.
+pub fn new_file(name: &Path) -> io::Result<File> {
+    OpenOptions::new().write(true).create_new(true).open(name)
+}
+
+/// A new file beside a file.
+fn temporary(place: &Path) -> io::Result<(PathBuf, File)> {
+    beside(place, ".dapohiru", new_file)
 }
 
 /// Writes all bytes of a new file, down to the disk.

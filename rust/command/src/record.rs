@@ -1,6 +1,7 @@
 //! The record of `watch` as a text: a monitor after a line of its input, and of which job, plan and start it is.
 //! Its last line is a digest of all before it, so that a cut or damaged one is told.
 use crate::digest::sha256;
+use crate::encoding;
 use crate::input::Input;
 use crate::start::Start;
 use dapohiru::Record;
@@ -11,6 +12,8 @@ use dapohiru_second::walk::Place;
 const FORM: &str = "dapohiru watch record 1";
 /// The beginning of the last line.
 const END: &str = "end ";
+/// What is said of a record without its end.
+const CUT: &str = "it is cut: its last line is not that of a record";
 
 /// What a record is of.
 pub struct Subject<'a> {
@@ -59,6 +62,17 @@ impl Held {
             record,
             places,
         }
+    }
+
+    /// Whether the events are no walk of the job.
+    pub fn is_left(&self) -> bool {
+        self.places.is_empty()
+    }
+
+    /// The first event in no walk of the job: all after it are in none either.
+    pub fn left_at(&self) -> Option<u64> {
+        let is_counted = (1..=self.events).contains(&self.outside);
+        is_counted.then(|| self.events - self.outside + 1)
     }
 }
 
@@ -159,22 +173,29 @@ fn sound(text: &str) -> Result<&str, String> {
     if !text.starts_with(FORM) || !text[FORM.len()..].starts_with('\n') {
         return Err(whole(text.as_bytes()));
     }
-    let cut = || "it is cut: its last line is not that of a record".to_string();
+    let hint = || encoding::told(text.as_bytes());
+    let cut = || format!("{CUT}{}", hint());
     let body = text.strip_suffix('\n').ok_or_else(cut)?;
     let last = body.rfind('\n').ok_or_else(cut)? + 1;
     let digest = body[last..].strip_prefix(END).ok_or_else(cut)?;
     let body = &text[..last];
     match digest == sha256(body.as_bytes()) {
         true => Ok(body),
-        false => Err("it is cut or damaged: its digest is of another text".to_string()),
+        false => Err(format!(
+            "it is cut or damaged: its digest is of another text{}",
+            hint()
+        )),
     }
 }
 
 /// What is wrong with a text that has not the first line.
 fn whole(text: &[u8]) -> String {
     match FORM.as_bytes().starts_with(text) {
-        true => "it is cut: its last line is not that of a record".to_string(),
-        false => format!("it is no record of this form, whose first line is `{FORM}`"),
+        true => CUT.to_string(),
+        false => format!(
+            "it is no record of this form, whose first line is `{FORM}`{}",
+            encoding::told(text)
+        ),
     }
 }
 

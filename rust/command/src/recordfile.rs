@@ -1,12 +1,14 @@
 //! The file of a record: whole after each line, and locked, so that one program alone goes on with it.
 //! Two hidden files beside it are written in turn, and the one that was written takes the record's name. So no
-//! space is claimed after the first lines, and some ten thousand lines a second can be kept.
-use crate::output::{is_same, name_beside, target, temporary};
-use crate::shown;
+//! space is claimed after the first lines, and some ten thousand lines a second can be kept. One that somebody else
+//! has open or has linked is not written again: another takes its turn.
+use crate::digest::sha256;
+use crate::output::{beside, is_same, new_file, target};
+use crate::{lease, shown};
 use std::ffi::OsStr;
 use std::fs::{self, File, Permissions, TryLockError};
 use std::io::{self, ErrorKind, Read};
-use std::os::unix::fs::FileExt;
+use std::os::unix::fs::{FileExt, MetadataExt};
 use std::path::{Path, PathBuf};
 use std::time::{Duration, Instant};
 
@@ -19,13 +21,15 @@ const UNSYNCED: Duration = Duration::from_secs(1);
 pub struct RecordFile {
     shown: String,
     place: PathBuf,
+    /// What the names of its hidden files begin with.
+    hidden: String,
     permissions: Option<Permissions>,
     /// The record that was there, which holds its lock until another is written.
     found: Option<File>,
-    /// Whether there is a record.
-    is_there: bool,
-    /// The hidden files, the one that is written next first.
-    sides: Vec<Side>,
+    /// The hidden file that is the record too.
+    current: Option<Side>,
+    /// The hidden file that was the record before, and is written next.
+    spare: Option<Side>,
     /// When the first line was written that is not on the disk yet.
     unsynced: Option<Instant>,
 }
@@ -34,6 +38,23 @@ pub struct RecordFile {
 struct Side {
     name: PathBuf,
     file: File,
+}
+
+impl Side {
+    /// Writes a text in the place of the one before, and says whether it did: not where somebody else holds that.
+    fn rewrite(&self, text: &str) -> io::Result<bool> {
+        if self.file.metadata()?.nlink() > 1 {
+            return Ok(false);
+        }
+        let written = lease::alone(&self.file, || self.fill(text));
+        written.transpose().map(|written| written.is_some())
+    }
+
+    /// Writes a text, and nothing after it.
+    fn fill(&self, text: &str) -> io::Result<()> {
+        self.file.write_all_at(text.as_bytes(), 0)?;
+        self.file.set_len(text.len() as u64)
+    }
 }
 
 impl Drop for Side {
@@ -58,11 +79,12 @@ impl RecordFile {
         }
         let record = RecordFile {
             shown,
+            hidden: hidden(&place),
             place,
             permissions,
-            is_there: found.is_some(),
             found,
-            sides: Vec::new(),
+            current: None,
+            spare: None,
             unsynced: None,
         };
         Ok((record, text))
@@ -70,24 +92,36 @@ impl RecordFile {
 
     /// Puts a text in the record's place, whole.
     pub fn write(&mut self, text: &str) -> Result<(), String> {
-        while self.sides.len() < 2 {
-            let side = self
-                .side()
-                .map_err(|why| format!("{}: no file can be made beside it: {why}", self.shown))?;
-            self.sides.push(side);
+        let not_written = |why: io::Error| format!("{} is not written: {why}", self.shown);
+        let mut side = self.spare.take();
+        if let Some(spare) = &side {
+            if !spare.rewrite(text).map_err(not_written)? {
+                side = None;
+            }
         }
-        self.put(text)
-            .map_err(|why| format!("{} is not written: {why}", self.shown))?;
-        self.is_there = true;
-        self.found = None;
-        self.sides.swap(0, 1);
+        let side = match side {
+            Some(side) => side,
+            None => {
+                let made = self.side();
+                let side = made.map_err(|why| {
+                    format!("{}: no file can be made beside it: {why}", self.shown)
+                })?;
+                side.fill(text).map_err(not_written)?;
+                side
+            }
+        };
+        self.put(&side).map_err(not_written)?;
+        self.spare = self.current.replace(side);
+        if self.found.take().is_some() {
+            self.clear();
+        }
         self.unsynced.get_or_insert_with(Instant::now);
         Ok(())
     }
 
     /// A new hidden file.
     fn side(&self) -> io::Result<Side> {
-        let (name, file) = temporary(&self.place)?;
+        let (name, file) = beside(&self.place, &self.hidden, new_file)?;
         let side = Side { name, file };
         if let Some(permissions) = &self.permissions {
             side.file.set_permissions(permissions.clone())?;
@@ -96,20 +130,36 @@ impl RecordFile {
         Ok(side)
     }
 
-    /// Writes the hidden file that is not the record, and gives it the record's name.
-    fn put(&mut self, text: &str) -> io::Result<()> {
-        let Side { name, file } = &self.sides[0];
-        file.write_all_at(text.as_bytes(), 0)?;
-        file.set_len(text.len() as u64)?;
-        if !self.is_there {
+    /// Gives a hidden file the record's name.
+    fn put(&self, side: &Side) -> io::Result<()> {
+        if self.found.is_none() && self.current.is_none() {
             // a record that another program has made meanwhile stays
-            return fs::hard_link(name, &self.place);
+            return fs::hard_link(&side.name, &self.place);
         }
-        let link = name_beside(&self.place);
-        fs::hard_link(name, &link)?;
+        let link = |link: &Path| fs::hard_link(&side.name, link);
+        let (link, ()) = beside(&self.place, &self.hidden, link)?;
         fs::rename(&link, &self.place).inspect_err(|_| {
             let _ = fs::remove_file(&link);
         })
+    }
+
+    /// Removes the hidden files of this record that a program has left which was killed: nobody has them locked.
+    fn clear(&self) {
+        let is_left = |name: &OsStr| {
+            let rest = name.as_encoded_bytes().strip_prefix(self.hidden.as_bytes());
+            rest.is_some_and(|rest| rest.starts_with(b"-") && rest.ends_with(b".tmp"))
+        };
+        let entries = fs::read_dir(folder(&self.place));
+        for entry in entries.into_iter().flatten().flatten() {
+            let name = entry.path();
+            let is_file = entry.file_type().is_ok_and(|kind| kind.is_file());
+            if is_file && is_left(&entry.file_name()) {
+                let file = File::open(&name);
+                if file.is_ok_and(|file| file.try_lock().is_ok()) {
+                    let _ = fs::remove_file(&name);
+                }
+            }
+        }
     }
 
     /// How long the record may still stand in memory alone, if it is not on the disk.
@@ -124,19 +174,28 @@ impl RecordFile {
             return Ok(());
         }
         // both, since the name can come to the disk before what is written later
-        for side in self.sides.iter().rev() {
+        for side in self.spare.iter().chain(&self.current) {
             let synced = side.file.sync_all();
             synced.map_err(|why| format!("{}: {why}", self.shown))?;
         }
         // the name too, where the folder's file system can
-        let folder = self
-            .place
-            .parent()
-            .filter(|folder| *folder != Path::new(""));
-        let folder = File::open(folder.unwrap_or(Path::new(".")));
+        let folder = File::open(folder(&self.place));
         let _ = folder.and_then(|folder| folder.sync_all());
         Ok(())
     }
+}
+
+/// The folder of a file.
+fn folder(place: &Path) -> &Path {
+    let folder = place.parent().filter(|folder| *folder != Path::new(""));
+    folder.unwrap_or(Path::new("."))
+}
+
+/// What the names of a record's hidden files begin with: no other record's in the folder do, and any name fits.
+fn hidden(place: &Path) -> String {
+    let name = place.file_name().unwrap_or_default();
+    let digest = sha256(name.as_encoded_bytes());
+    format!(".dapohiru-{}", &digest[..16])
 }
 
 /// The file of this name with its lock, if it is there.

@@ -1,10 +1,10 @@
 //! What `watch` tells: in words, or each thing as a line of JSON.
-use crate::clock;
 use crate::events::Event;
 use crate::json::Json;
 use crate::names::Names;
-use crate::output;
 use crate::record::Held;
+use crate::{check, clock, output};
+use dapohiru::Verdict;
 use dapohiru_second::job::Job;
 use std::ffi::OsStr;
 use std::time::SystemTime;
@@ -18,7 +18,9 @@ pub struct Reports<'a> {
     pub names: &'a Names,
     /// The names of the job's file and of the plan's, if there is one.
     pub files: (&'a OsStr, Option<&'a OsStr>),
-    /// The same for the words of an alarm.
+    /// What the proved check finds of the plan, if there is one.
+    pub verdict: Option<Verdict>,
+    /// The job and the plan for the words of an alarm.
     pub subject: String,
     /// Whether an alarm has its time.
     pub is_timed: bool,
@@ -31,7 +33,7 @@ impl Reports<'_> {
         let text = format!("starts {}", held.start.shown(self.names));
         let entries = held.start.entries.iter();
         let fields = || {
-            let mut fields = self.subject_fields();
+            let mut fields = self.judged_fields();
             fields.push((
                 "nodes",
                 Json::List(entries.map(|&node| Json::number(node)).collect()),
@@ -47,10 +49,21 @@ impl Reports<'_> {
     pub fn goes_on(&self, held: &Held) -> Result<(), String> {
         let (line, alarms) = (held.line, held.record.alarms);
         let state = self.names.state(held.record.state as usize);
-        let text = format!("goes on after line {line} of the input, in state {state}, alarm total {alarms}; give the events after line {line}");
+        let (is_left, since) = (held.is_left(), held.left_at());
+        let left = match (is_left, since) {
+            (false, _) => String::new(),
+            (true, None) => "; the events are no walk of the job".to_string(),
+            (true, Some(event)) => {
+                format!("; the events are no walk of the job since event {event}")
+            }
+        };
+        let text = format!("goes on after line {line} of the input, in state {state}, alarm total {alarms}{left}; give the events after line {line}");
         self.print("goes on", &text, || {
-            let mut fields = self.subject_fields();
+            let mut fields = self.judged_fields();
             fields.extend(counts(held));
+            fields.push(("walk", Json::Bool(!is_left)));
+            let since = since.filter(|_| is_left);
+            fields.extend(since.map(|event| ("since", Json::Number(event))));
             fields.push(("names", self.names.json()));
             fields
         })
@@ -169,6 +182,14 @@ impl Reports<'_> {
         let (job, plan) = self.files;
         let mut fields = vec![("job", Json::name(job))];
         fields.extend(plan.map(|plan| ("plan", Json::name(plan))));
+        fields
+    }
+
+    /// The same, with what the proved check finds of the plan.
+    fn judged_fields(&self) -> Vec<Field> {
+        let mut fields = self.subject_fields();
+        let word = self.verdict.map(check::word);
+        fields.extend(word.map(|word| ("verdict", Json::text(word))));
         fields
     }
 }

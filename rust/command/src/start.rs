@@ -40,6 +40,16 @@ impl Asked {
         })
     }
 
+    /// Whether a record that began so may go on: nothing is asked for, or just this start. An entry alone leaves the
+    /// state open.
+    pub fn allows(self, start: &Start, job: &Job, names: &Names) -> bool {
+        match (self.entry, self.state) {
+            (None, None) => true,
+            (Some(entry), None) => start.entries == [entry],
+            _ => self.start(job, names).is_ok_and(|asked| asked == *start),
+        }
+    }
+
     /// The start that is asked for, if it is admitted and one state is fixed.
     pub fn start(self, job: &Job, names: &Names) -> Result<Start, String> {
         let admits = |entry: usize, state: usize| job.nodes[entry].entry >> state & 1 == 1;

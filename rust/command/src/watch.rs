@@ -1,5 +1,6 @@
 //! The command `watch`: the monitor of a job, under a plan or with all points watched.
 use crate::args::{Command, Given};
+use crate::encoding::Seen;
 use crate::lines::Lines;
 use crate::monitor::{Kept, Watch};
 use crate::names::Names;
@@ -41,7 +42,8 @@ and is counted; so is a last line without its end.
 A record is written whole after each line, once its alarm is printed. Where it is there already, the
 job and the plan must be its own, and --entry and --state, if they are given; it prints the last line
 that it holds, and the events after that line are to be given again. An alarm that was printed just
-before the program was killed can come twice; none is lost.
+before the program was killed can come twice; none is lost. The file system of a record must have hard
+links and locks.
 Exit status: 0 no alarm, events of a walk, no other line; 1 one or more alarms; 3 no alarm, and the
 events are no walk; 4 neither, and a line that is no event; 2 a refused job, plan, start or record, or
 something that cannot be read or written, which wins over all. So it is after a signal too, and a record
@@ -72,9 +74,12 @@ fn run(given: &Given) -> Result<u8, String> {
     let job = job::accepted(&file)?;
     let rule = job::rule(&file)?;
     let names = Names::read(names, &job)?;
-    let plan = match plan_name {
-        None => job.all_watched(),
-        Some(plan) => job::named_plan(&file, input::plan(plan)?, &names)?,
+    let (plan, verdict) = match plan_name {
+        None => (job.all_watched(), None),
+        Some(plan) => {
+            let (plan, verdict) = job::judged_plan(&file, input::plan(plan)?, &names)?;
+            (plan, Some(verdict))
+        }
     };
     let plan_shown = plan_name.map(shown::name);
     let asked = Asked::of(&job, given.value("--entry"), given.value("--state"))?;
@@ -82,6 +87,7 @@ fn run(given: &Given) -> Result<u8, String> {
         job: &job,
         names: &names,
         files: (name, plan_name),
+        verdict,
         subject: match &plan_shown {
             Some(plan) => format!("job {}, plan {plan}", file.shown),
             None => format!("job {}, {ALL_WATCHED}", file.shown),
@@ -109,6 +115,7 @@ fn run(given: &Given) -> Result<u8, String> {
         walk: Walk::at(&job, &held.places),
         plan: plan.clone(),
         held,
+        seen: Seen::default(),
         reports,
         kept,
     };
@@ -141,19 +148,16 @@ fn recorded(
     let Some(text) = text else {
         return Ok((None, kept));
     };
-    let held = subject.held(&text).and_then(|held| {
-        let is_other = asked.state.is_some_and(|state| state != held.start.state)
-            || asked
-                .entry
-                .is_some_and(|entry| held.start.entries != [entry]);
-        match is_other {
-            true => Err(format!(
-                "it began {}, and --entry and --state ask for another start",
-                held.start.shown(names)
-            )),
-            false => Ok(held),
-        }
-    });
+    let held =
+        subject
+            .held(&text)
+            .and_then(|held| match asked.allows(&held.start, subject.job, names) {
+                true => Ok(held),
+                false => Err(format!(
+                    "it began {}, and --entry and --state ask for another start",
+                    held.start.shown(names)
+                )),
+            });
     let held = held.map_err(|why| format!("{}: {why}", shown::name(name)))?;
     Ok((Some(held), kept))
 }

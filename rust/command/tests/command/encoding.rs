@@ -12,6 +12,7 @@ fn wide(text: &str, bytes: fn(u16) -> [u8; 2]) -> Vec<u8> {
 /// Ways to write a text that no input has, with what is said of each.
 fn ways(text: &str) -> Vec<(Vec<u8>, &'static str)> {
     let windows = text.replace('\n', "\r\n");
+    let returns = text.replace('\n', "\r");
     let marked = |text: &str| format!("\u{feff}{text}");
     let (low, high) = (u16::to_le_bytes, u16::to_be_bytes);
     vec![
@@ -31,6 +32,11 @@ fn ways(text: &str) -> Vec<(Vec<u8>, &'static str)> {
         (
             wide(&marked(&windows), high),
             "UTF-16 characters and Windows line ends",
+        ),
+        (returns.clone().into(), "carriage returns as line ends"),
+        (
+            wide(&returns, high),
+            "UTF-16 characters and carriage returns as line ends",
         ),
     ]
 }
@@ -126,7 +132,7 @@ fn events_written_in_other_ways_are_told_with_what_mends_them() {
         let is_mark_alone = found == "a byte order mark";
         assert_eq!(status, if is_mark_alone { 1 } else { 4 }, "{wrong}");
         assert!(is_mark_alone || printed.contains("\nevents 0 "));
-        let told = format!(" is no event: it has {found}, mended by `");
+        let told = format!(" it has {found}, mended by `");
         let first = wrong.lines().next().unwrap();
         assert!(
             first.starts_with("dapohiru: standard input: line 1: `"),
@@ -135,6 +141,29 @@ fn events_written_in_other_ways_are_told_with_what_mends_them() {
         let (_, mend) = first.split_once(&told).expect(&wrong);
         mended(mend.strip_suffix('`').unwrap(), &name);
         assert_eq!(shell(script, &[&job, &name]), wanted);
+    }
+}
+
+#[test]
+fn record_written_in_other_ways_is_told_with_what_mends_it() {
+    let folder = folder("encoding-record");
+    let (job, record) = (example("pair.job"), folder.join("r").display().to_string());
+    let words = ["watch", "--no-time", &job, "--record", &record];
+    assert_eq!(run(&words, "0\n1\n").0, 0);
+    let text = fs::read_to_string(&record).unwrap();
+    let (begin, end) = text.split_at(text.find("\nline").unwrap());
+    let windows = [begin, &end.replace('\n', "\r\n")].concat();
+    let some_windows = (windows.into_bytes(), "Windows line ends");
+    for (bytes, found) in [ways(&text), vec![some_windows]].concat() {
+        let name = file(&folder, "r", &bytes);
+        let (status, printed, wrong) = run(&words, "");
+        assert_eq!((status, printed.as_str()), (2, ""), "{found}");
+        let told = format!("\n  the file has {found}, mended by `");
+        let (_, mend) = wrong.split_once(&told).expect(&wrong);
+        mended(mend.strip_suffix("`\n").unwrap(), &name);
+        assert_eq!(fs::read_to_string(&record).unwrap(), text);
+        let (status, printed, _) = run(&words, "");
+        assert!(status == 0 && printed.starts_with("goes on after line 2 "));
     }
 }
 

@@ -23,6 +23,7 @@ mod running;
 mod shown;
 mod stop;
 mod watch;
+mod watch_files;
 mod watch_record;
 mod watch_refused;
 mod watch_signal;

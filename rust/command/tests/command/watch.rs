@@ -66,7 +66,7 @@ fn alarm_is_printed_with_its_event_job_and_plan_and_ends_with_status_1() {
 fn symbols_of_words_are_always_taken() {
     let job = example("pair.job");
     let plan = file(&folder("watch-words"), "pair.plan", b"011\n");
-    let done = watch(&[&job, &plan], "=0\n=2\n =2 \n=1\n=002\n");
+    let done = watch(&[&job, &plan], "=0\n=2\n =2\t\n=1\n\t =002 \n");
     let alarm = |event: u64| {
         format!("alarm at event {event} (line {event}): symbol 2 of a word, state 2 [job {job}, plan {plan}]\n")
     };
@@ -134,6 +134,17 @@ fn line_that_is_no_event_is_named_and_the_rest_is_taken() {
         ("0x1", format!("`0x1` {words}")),
         ("\r2", format!("`\\r2` {words}")),
         ("0\r2", format!("`0\\r2` {words}")),
+        ("\u{b}2", format!("`\\u{{b}}2` {words}")),
+        ("2\u{c}", format!("`2\\u{{c}}` {words}")),
+        ("2\0", format!("`2\\0` {words}")),
+        ("\t", format!("`\\t` {words}")),
+        (
+            &format!("{long}\r"),
+            format!(
+                "`{}..` is no event: it has Windows line ends, mended by `tr -d '\\r' < FILE > NEW`",
+                "0".repeat(65)
+            ),
+        ),
         ("1", "node 1 is no event node".to_string()),
         ("3", "there is no node 3; the nodes are 0 to 2".to_string()),
         (
@@ -169,10 +180,23 @@ fn line_that_is_no_event_is_named_and_the_rest_is_taken() {
 #[test]
 fn last_line_without_its_end_is_told_and_not_taken() {
     let job = example("pair.job");
-    for (line, shown) in [("2", "2"), (" 0", " 0"), ("1\r", "1\\r"), ("seal", "seal")] {
+    let long = "0".repeat(100_000);
+    let windows = "; it has Windows line ends, mended by `tr -d '\\r' < FILE > NEW`";
+    for (line, shown, has) in [
+        ("2", "2", ""),
+        (" 0", " 0", ""),
+        ("1\r", "1\\r", windows),
+        ("seal", "seal", ""),
+        (&long, &format!("{}..", "0".repeat(65)), ""),
+        (
+            &format!("{long}\r"),
+            &format!("{}..", "0".repeat(65)),
+            windows,
+        ),
+    ] {
         let done = watch(&[&job], &format!("0\n1\n{line}"));
         let printed = BEGIN.to_string() + &totals([2, 0, 0, 0, 1, 1]);
-        let why = format!("`{shown}` is no event: the input ends before the end of the line");
+        let why = format!("`{shown}` is no event: the input ends before the end of the line{has}");
         let wrong = format!("dapohiru: standard input: line 3: {why}\n");
         assert_eq!(done, (4, printed, wrong));
     }
@@ -257,6 +281,13 @@ fn planned_monitor_has_the_alarms_of_the_full_one_on_walks() {
         unwatched += usize::from(!planned.1.contains("unwatched 0 "));
     }
     println!("{alarms} alarms, {unwatched} walks with events at unwatched points");
+}
+
+#[test]
+fn closed_input_has_no_events() {
+    let done = shell("\"$1\" watch \"$2\" <&-", &[&example("pair.job")]);
+    let printed = BEGIN.to_string() + &totals([0; 6]);
+    assert_eq!(done, (0, printed, String::new()));
 }
 
 #[test]

@@ -9,7 +9,7 @@ use std::thread::sleep;
 use std::time::{Duration, Instant};
 
 /// PAIR, its plan and a record, which is not there yet.
-fn files(folder: &Path) -> [String; 3] {
+pub fn files(folder: &Path) -> [String; 3] {
     let plan = file(folder, "pair.plan", b"011\n");
     let record = folder.join("pair.record").display().to_string();
     [example("pair.job"), plan, record]
@@ -81,6 +81,12 @@ fn record_goes_on_where_it_was() {
     }
 }
 
+/// The first line of JSON of a run without an event.
+fn printed_json(words: &[&str]) -> String {
+    let (_, printed, _) = watch(&[words, &["--json"]].concat(), "");
+    printed.lines().next().unwrap().to_string()
+}
+
 #[test]
 fn record_of_a_walk_that_was_left_does_not_tell_it_again() {
     let [job, plan, record] = files(&folder("record-left"));
@@ -91,9 +97,17 @@ fn record_of_a_walk_that_was_left_does_not_tell_it_again() {
     assert!(fs::read_to_string(&record)
         .unwrap()
         .contains("\nplaces none\n"));
-    let done = watch(&words, "1\n");
-    let printed = goes_on(2, 0, 0) + &totals([3, 2, 2, 0, 0, 1]);
-    assert_eq!(done, (3, printed, String::new()));
+    for (events, line, state) in [("1\n", 2, 0), ("=0\n", 3, 1)] {
+        let (status, printed, wrong) = watch(&words, events);
+        assert_eq!((status, wrong.as_str()), (3, ""));
+        let left = "; the events are no walk of the job since event 2; give";
+        let begin = goes_on(line, state, 0).replace("; give", left);
+        assert!(printed.starts_with(&begin), "{printed}");
+    }
+    assert!(printed_json(&words).contains("\"state\":1,\"walk\":false,\"since\":2,"));
+    fs::remove_file(&record).unwrap();
+    assert_eq!(watch(&words, "0\n").0, 0);
+    assert!(printed_json(&words).contains("\"state\":0,\"walk\":true,\"names\":"));
 }
 
 #[test]
@@ -111,7 +125,7 @@ fn line_without_its_end_is_not_held() {
 }
 
 /// Waits until a record holds this line.
-fn holds(record: &str, line: u64) {
+pub fn holds(record: &str, line: u64) {
     let begin = Instant::now();
     let held = format!("\nline {line}\n");
     while !fs::read_to_string(record).is_ok_and(|text| text.contains(&held)) {
@@ -139,8 +153,8 @@ fn killed_program_goes_on_after_its_last_line() {
         let begin = goes_on(number as u64 + 1, state, u64::from(number == 2));
         assert!(printed.starts_with(&begin), "{printed}");
     }
-    let ours = |name: &String| !name.starts_with("pair") && !name.starts_with(".dapohiru-");
-    assert!(!names(&folder).iter().any(ours));
+    // what was left is gone
+    assert_eq!(names(&folder), ["pair.plan", "pair.record"]);
 }
 
 #[test]
@@ -191,8 +205,13 @@ fn start_that_is_not_the_records_is_refused() {
         (
             &["--entry=1", "--state=1"],
             "node 1",
-            vec![&[], &["--state=1"], &["--entry=1"]],
-            vec![&["--entry=0"], &["--entry=1", "--state=0"], &["--state=2"]],
+            vec![&[], &["--entry=1", "--state=1"], &["--entry=1"]],
+            vec![
+                &["--entry=0"],
+                &["--entry=1", "--state=0"],
+                &["--state=1"],
+                &["--state=2"],
+            ],
         ),
     ] {
         let _ = fs::remove_file(&record);

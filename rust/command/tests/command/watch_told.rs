@@ -1,6 +1,7 @@
 //! What `watch` tells: times, names, JSON, and bytes from outside.
 use crate::program::{example, file, folder, run, run_bytes, shell};
 use crate::watch::{alarm, watch, NO_WALK};
+use std::fs;
 use std::time::SystemTime;
 
 #[test]
@@ -35,7 +36,7 @@ fn each_thing_is_told_as_a_line_of_json() {
     let words = [&job, &plan, "--json", "--names", &names];
     let done = watch(&words, "0\n\"\n1\n2\n0\n=2\n");
     let printed = format!(
-        "{{\"told\":\"start\",{subject},\"nodes\":[0],\"state\":0,\"names\":{{\"symbols\":[{{\"number\":2,\"name\":\"a \\\"b\\\"\"}}],\"nodes\":[{{\"number\":1,\"name\":\"c\"}}],\"states\":[]}}}}\n\
+        "{{\"told\":\"start\",{subject},\"verdict\":\"faithful\",\"nodes\":[0],\"state\":0,\"names\":{{\"symbols\":[{{\"number\":2,\"name\":\"a \\\"b\\\"\"}}],\"nodes\":[{{\"number\":1,\"name\":\"c\"}}],\"states\":[]}}}}\n\
          {{\"told\":\"no event\",\"line\":2,\"why\":\"`\\\"` is neither a node number nor = and a symbol\"}}\n\
          {{\"told\":\"alarm\",{subject},\"event\":3,\"line\":4,\"node\":2,\"symbol\":2,\"state\":2}}\n\
          {{\"told\":\"no walk\",\"event\":4,\"line\":5,\"node\":0,\"symbol\":0}}\n\
@@ -53,6 +54,27 @@ fn each_thing_is_told_as_a_line_of_json() {
         line.contains(&format!("Z\",\"job\":\"{job}\",\"event\":3,")),
         "{line}"
     );
+}
+
+#[test]
+fn lines_of_json_that_begin_a_run_have_the_verdict() {
+    let folder = folder("watch-verdict");
+    let job = example("pair.job");
+    let record = folder.join("pair.record").display().to_string();
+    for (digits, verdict) in [("011", "faithful"), ("001", "different")] {
+        let _ = fs::remove_file(&record);
+        let plan = file(&folder, "pair.plan", digits.as_bytes());
+        let subject = format!("\"job\":\"{job}\",\"plan\":\"{plan}\",\"verdict\":\"{verdict}\",");
+        for told in ["start", "goes on"] {
+            let (status, printed, note) = watch(&[&job, &plan, "--json", "--record", &record], "");
+            let begins = format!("{{\"told\":\"{told}\",{subject}");
+            assert!(status == 0 && printed.starts_with(&begins), "{printed}");
+            assert_eq!(note.is_empty(), verdict == "faithful");
+        }
+    }
+    // all points watched need no verdict
+    let (_, printed, _) = watch(&[&job, "--json"], "");
+    assert!(!printed.contains("verdict"), "{printed}");
 }
 
 #[test]
