@@ -22,6 +22,8 @@ pub struct Reports<'a> {
     pub verdict: Option<Verdict>,
     /// The job and the plan for the words of an alarm.
     pub subject: String,
+    /// Whether names are given.
+    pub is_named: bool,
     /// Whether an alarm has its time.
     pub is_timed: bool,
     pub is_json: bool,
@@ -39,7 +41,7 @@ impl Reports<'_> {
                 Json::List(entries.map(|&node| Json::number(node)).collect()),
             ));
             fields.push(("state", Json::number(held.start.state)));
-            fields.push(("names", self.names.json()));
+            fields.extend(self.named_fields());
             fields
         };
         self.print("start", &text, fields)
@@ -64,9 +66,14 @@ impl Reports<'_> {
             fields.push(("walk", Json::Bool(!is_left)));
             let since = since.filter(|_| is_left);
             fields.extend(since.map(|event| ("since", Json::Number(event))));
-            fields.push(("names", self.names.json()));
+            fields.extend(self.named_fields());
             fields
         })
+    }
+
+    /// The names, where they are given.
+    fn named_fields(&self) -> Option<(&'static str, Json)> {
+        self.is_named.then(|| ("names", self.names.json()))
     }
 
     /// An alarm at the last event.

@@ -92,6 +92,7 @@ fn run(given: &Given) -> Result<u8, String> {
             Some(plan) => format!("job {}, plan {plan}", file.shown),
             None => format!("job {}, {ALL_WATCHED}", file.shown),
         },
+        is_named: given.value("--names").is_some(),
         is_timed: !given.has("--no-time"),
         is_json: given.has("--json"),
     };

@@ -126,13 +126,16 @@ fn agree(random: &mut Random, decoded: &mut Decoded, work: &mut [u8], file: &[u8
     }
 }
 
+/// A reader in plain Rust, with what it decodes into and a work buffer.
+type PlainReader<T> = fn(&[u8], &mut Decoded, &mut [u8]) -> Result<T, Refusal>;
+
 /// Times two readers on these files, in turn, and prints the medians and their ratio.
 fn print<T>(
     what: &str,
     files: &[Vec<u8>],
     work: &mut [u8],
     our: fn(&[u8], &mut [u8]) -> Result<T, Refusal>,
-    their: fn(&[u8], &mut Decoded, &mut [u8]) -> Result<T, Refusal>,
+    their: PlainReader<T>,
 ) {
     let mut decoded = Decoded::new();
     let (mut ours, mut theirs) = (Vec::new(), Vec::new());

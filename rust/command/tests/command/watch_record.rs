@@ -104,10 +104,10 @@ fn record_of_a_walk_that_was_left_does_not_tell_it_again() {
         let begin = goes_on(line, state, 0).replace("; give", left);
         assert!(printed.starts_with(&begin), "{printed}");
     }
-    assert!(printed_json(&words).contains("\"state\":1,\"walk\":false,\"since\":2,"));
+    assert!(printed_json(&words).ends_with("\"state\":1,\"walk\":false,\"since\":2}"));
     fs::remove_file(&record).unwrap();
     assert_eq!(watch(&words, "0\n").0, 0);
-    assert!(printed_json(&words).contains("\"state\":0,\"walk\":true,\"names\":"));
+    assert!(printed_json(&words).ends_with("\"state\":0,\"walk\":true}"));
 }
 
 #[test]
