@@ -1,7 +1,7 @@
 //! The file of a record: whole after each line, and locked, so that one program alone goes on with it.
 //! Two hidden files beside it are written in turn, and the one that was written takes the record's name. So no
-//! space is claimed after the first lines, and some ten thousand lines a second can be kept. One that somebody else
-//! has open or has linked is not written again: another takes its turn.
+//! space is claimed after the first lines. One that somebody else has open, has linked or has removed is not written
+//! again: another takes its turn.
 use crate::digest::sha256;
 use crate::output::{beside, is_same, new_file, target};
 use crate::{lease, shown};
@@ -41,9 +41,12 @@ struct Side {
 }
 
 impl Side {
-    /// Writes a text in the place of the one before, and says whether it did: not where somebody else holds that.
+    /// Writes a text in the place of the one before, and says whether it did: not where somebody else holds that, or
+    /// has removed the file.
     fn rewrite(&self, text: &str) -> io::Result<bool> {
-        if self.file.metadata()?.nlink() > 1 {
+        let held = self.file.metadata()?;
+        let is_own = fs::symlink_metadata(&self.name).is_ok_and(|there| is_same(&there, &held));
+        if !is_own || held.nlink() > 1 {
             return Ok(false);
         }
         let written = lease::alone(&self.file, || self.fill(text));
@@ -217,5 +220,31 @@ fn locked(place: &Path) -> Result<Option<File>, String> {
         if fs::metadata(place).is_ok_and(|there| is_same(&there, &held)) {
             return Ok(Some(file));
         }
+    }
+}
+
+#[cfg(test)]
+mod tests {
+    use super::*;
+
+    #[test]
+    fn hidden_files_that_are_removed_meanwhile_are_made_anew() {
+        let folder = std::env::temp_dir().join(format!("dapohiru-hidden-{}", std::process::id()));
+        fs::create_dir(&folder).unwrap();
+        let place = folder.join("record");
+        let (mut record, _) = RecordFile::open(place.as_os_str()).unwrap();
+        for text in ["first", "second", "third", "fourth"] {
+            record.write(text).unwrap();
+            assert_eq!(fs::read_to_string(&place).unwrap(), text);
+            let entries = fs::read_dir(&folder).unwrap().flatten();
+            for hidden in entries
+                .map(|entry| entry.path())
+                .filter(|path| *path != place)
+            {
+                fs::remove_file(hidden).unwrap();
+            }
+        }
+        drop(record);
+        fs::remove_dir_all(&folder).unwrap();
     }
 }

@@ -165,8 +165,8 @@ fn record_on_a_full_disk_stays_as_it_was() {
         script,
         &[&example("pair.job"), &later, folder.to_str().unwrap()],
     );
-    let wrong =
-        format!("dapohiru: {later} is not written: No such file or directory (os error 2)\n");
+    let why = "no file can be made beside it: No such file or directory (os error 2)";
+    let wrong = format!("dapohiru: {later}: {why}\n");
     let printed = BEGIN.to_string() + &totals([2, 0, 0, 0, 0, 1]);
     assert_eq!(done, (2, printed, wrong));
 }
