@@ -1,14 +1,20 @@
 -- Files alike get the same answer of every call: they have one length and are read alike, and no call looks at more of its file. Volume files
--- alike have the same volumes or none, price files alike the same prices or none, and pricing looks at no more of them.
+-- alike have the same volumes or none, price files alike the same prices or none, and pricing looks at no more of them; texts of rows alike have
+-- the same rows or none.
 -- Assumes nothing.
-use mathlib.Core.Path.{_≡_, refl, sym, ap, _∙_}
+use mathlib.Core.Path.{_≡_, refl, sym, ap, ap₂, _∙_}
 use mathlib.Core.Logic.{_≢_}
-use mathlib.Core.Bool.{Bool, false, _||_}
+use mathlib.Core.Bool.{Bool, false, cond, _&&_, _||_, and-false}
 use mathlib.Core.List.{List}
-use Prim.Native.Nat.{ℕ}
-use lib.Dec.{ltb}
+use Prim.Native.Nat.{ℕ, _<_}
+use lib.Dec.{eqb, leb, ltb}
 use lib.ListN.{length}
+use borrow.Author.Tests.{lt-leb}
+use Rattle.automaton.specs.Automaton.{numbersFit}
+use Rattle.automaton.specs.Table.{ruleSize}
+use Rattle.automaton.specs.Made.{Made, refuses}
 use Rattle.job.specs.Job.{Job}
+use Rattle.lines.specs.Alike.{AlikeFiles}
 use Rattle.jobfile.specs.File.{Answer, accepted, readJob}
 use Rattle.jobfile.specs.Alike.{Alike}
 use Rattle.jobfile.proofs.AlikeLaws.{alike-says}
@@ -18,7 +24,6 @@ use Rattle.checking.specs.declared.check.Verdict.{Verdict}
 use Rattle.checking.specs.Checking.{answered, checked}
 use Rattle.pricing.specs.Numbered.{Column, column, not-these-lines, columnIn}
 use Rattle.pricing.specs.Pricing.{volumeLine, housePrices, pricedJob, answeredAt, pricedAt}
-use Rattle.pricing.specs.NumberedAlike.{AlikeColumn}
 use Rattle.pricing.specs.PricingSays.{PriceRefused, job-refused, other-length, other-mark, other-lines}
 use Rattle.pricing.proofs.PricingLaws.{priced-job}
 use Rattle.pricing.proofs.PricingSays.{price-refused}
@@ -28,8 +33,10 @@ use Rattle.pricelist.specs.PriceListSays.{OwnPriceRefused, without-prices, othe
 use Rattle.pricelist.proofs.PriceListSays.{own-price-refused}
 use Rattle.planoutcome.specs.PlanCall.{planSize, planAnswer}
 use Rattle.listoutcome.specs.ListCall.{listingSize, listAnswer}
-use Rattle.ruleoutcome.specs.RuleCall.{ruleSize, fitted, ruleAnswer}
-use Rattle.alikecalls.specs.SameAnswers.{planGives, listGives, checkGives, priceGives, ruleGives, valueGives, printGives, OneAnswer, OnePrice, OneOwnPrice, SameAnswers}
+use Rattle.ruleoutcome.specs.RuleCall.{fitted, ruleAnswer}
+use Rattle.rulerows.specs.RuleRows.{Rows, rowsIn, maxText, ruleOfRows, ruleFrom, rowsMade, rowsValue}
+use Rattle.rulerows.proofs.AlikeRows.{rows-say-alike}
+use Rattle.alikecalls.specs.SameAnswers.{planGives, listGives, checkGives, priceGives, ruleGives, valueGives, printGives, rowsGives, OneAnswer, OnePrice, OneOwnPrice, OneRule, SameAnswers}
 
 -- the answer of pricing is one, whatever the prices
 abbrev SamePrice : List ℕ → List ℕ → List ℕ → List ℕ → List ℕ → Type 0
@@ -122,7 +129,7 @@ same-refusal file plan f g h (other-lines e bytes marks none) = absurd (h refl)
 
 -- job files alike beside volume files alike, at any prices
 job-and-volumes
-    : (file other f g plan : List ℕ) (j : Job) → Alike file other → readJob file ≡ accepted j → AlikeColumn volumeLine (length (j .nodes)) f g
+    : (file other f g plan : List ℕ) (j : Job) → Alike file other → readJob file ≡ accepted j → AlikeFiles volumeLine (length (j .nodes)) f g
     → SamePrice file other plan f g
 job-and-volumes file other f g plan j a spells v prices =
     same-volumes file f g j spells (numbered-say-alike .read-alike volumeLine (length (j .nodes)) f g v) plan prices
@@ -136,7 +143,7 @@ unfolding pricedBy
 one-own-price f g same file plan volumes = ap (λ (x : Column). priceGives (answeredBy x file plan volumes)) same
 
 -- alike ones are
-prices-alike : (f g : List ℕ) → AlikeColumn priceLine 16 f g → pricesIn f ≡ pricesIn g
+prices-alike : (f g : List ℕ) → AlikeFiles priceLine 16 f g → pricesIn f ≡ pricesIn g
 prices-alike f g a = numbered-say-alike .read-alike priceLine 16 f g a
 
 -- any refusal of the second call but 28 is that beside any price file
@@ -150,6 +157,39 @@ own-volumes-last
     : (file plan f g prices : List ℕ) {r : ℕ} → r ≢ 16 → r ≢ 28 → OwnPriceRefused file plan f prices r → OwnPriceRefused file plan g prices r
 own-volumes-last file plan f g prices h k (without-prices b) = without-prices (same-refusal file plan f g h b)
 own-volumes-last file plan f g prices h k (other-prices b none) = absurd (k refl)
+
+-- ---- texts of rule rows
+
+-- those that make the same rule, or get the same refusal, get the same of the call
+one-rule : (s a : ℕ) (f g : List ℕ) (finals : ℕ) → ruleFrom f s a finals ≡ ruleFrom g s a finals → OneRule s a f g finals
+one-rule s a f g finals same =
+    record {
+      made = made;
+      rows = λ rule. ap (λ (x : Made). rowsGives x rule) (made (length rule));
+      by-value = ap rowsValue (made ruleSize);
+    }
+  where
+    made : (rule : ℕ) → rowsMade f s a finals rule ≡ rowsMade g s a finals rule
+    made rule = ap (λ (x : Made). cond (eqb rule ruleSize) x (refuses 13)) same
+
+-- texts of one length with the same rows, or none
+same-rows
+    : (s a : ℕ) (f g : List ℕ) → length f ≡ length g → rowsIn s a f ≡ rowsIn s a g → (finals : ℕ) → ruleFrom f s a finals ≡ ruleFrom g s a finals
+unfolding ruleFrom
+same-rows s a f g long same finals =
+    ap₂ (λ (n : ℕ) (x : Rows). cond (leb n maxText && numbersFit s a finals) (ruleOfRows s a finals x) (refuses 17)) long same
+
+-- texts that are refused before a row is looked at
+too-long-made : (s a : ℕ) (f : List ℕ) (finals : ℕ) → maxText < length f → ruleFrom f s a finals ≡ refuses 17
+unfolding ruleFrom
+too-long-made s a f finals long =
+    ap (λ (b : Bool). cond (b && numbersFit s a finals) (ruleOfRows s a finals (rowsIn s a f)) (refuses 17)) (lt-leb (length f) maxText long)
+
+unfit-made : (s a : ℕ) (f : List ℕ) (finals : ℕ) → numbersFit s a finals ≡ false → ruleFrom f s a finals ≡ refuses 17
+unfolding ruleFrom
+unfit-made s a f finals e =
+    ap (λ (b : Bool). cond b (ruleOfRows s a finals (rowsIn s a f)) (refuses 17))
+    (ap (λ (b : Bool). leb (length f) maxText && b) e ∙ and-false (leb (length f) maxText))
 
 -- ---- the theorem
 
@@ -181,4 +221,10 @@ same-answers =
       own-volumes-last = λ file plan f g prices r h k e.
           own-price-refused file plan g prices r .1
           (own-volumes-last file plan f g prices h k (own-price-refused file plan f prices r .0 e));
+      rows = λ s a f g a′ finals. one-rule s a f g finals (same-rows s a f g (a′ .long) (rows-say-alike .read-alike s a f g a′) finals);
+      rows-no-further = λ s a f g due long d up-to finals.
+          one-rule s a f g finals (same-rows s a f g long (rows-say-alike .no-further s a f g due long d up-to) finals);
+      rows-too-long = λ s a f g h k finals.
+          one-rule s a f g finals (too-long-made s a f finals h ∙ sym (too-long-made s a g finals k));
+      rows-unfit = λ s a f g finals e. one-rule s a f g finals (unfit-made s a f finals e ∙ sym (unfit-made s a g finals e));
     }

@@ -1,18 +1,22 @@
 -- "A file with them", zeros before a number's digits, "must give the same answer as the file written without" (document 02, request 5): of
--- every call that is lent a job file, a volume file or a price file, the answer, its number and every lent byte. Which job files are alike is
--- `jobfile`'s `Alike.antt`: the one written without zeros is alike each file of its job (`ReadsWhatIsWritten` of `Spellable.antt`). Which volume
--- files are alike, and which price files, is `pricing`'s `NumberedAlike.antt`: the one written without zeros is alike each file of its numbers
--- (`written` there).
+-- every call that is lent a job file, a volume file, a price file or a text of rule rows, the answer, its number and every lent byte. Which job
+-- files are alike is `jobfile`'s `Alike.antt`: the one written without zeros is alike each file of its job (`ReadsWhatIsWritten` of
+-- `Spellable.antt`). Which volume files are alike, which price files, and which texts of rows is `AlikeFiles` of `lines`: the one written without
+-- zeros is alike each file of its numbers (`written` of `pricing`'s `NumberedAlike.antt`), and each text of its rows (`written`, `same-rows` of
+-- `rulerows`'s `RowsAlike.antt`).
 -- Assumes nothing.
 use mathlib.Core.Path.{_≡_}
 use mathlib.Core.Logic.{_≢_}
 use mathlib.Core.Bool.{Bool, false}
 use mathlib.Core.List.{List, [], _∷_, _++_}
-use Prim.Native.Nat.{ℕ}
+use Prim.Native.Nat.{ℕ, _<_}
 use lib.ListN.{length, replicate}
+use Rattle.automaton.specs.Automaton.{numbersFit}
+use Rattle.automaton.specs.Table.{ruleSize}
+use Rattle.automaton.specs.Made.{Made, madeAfter}
 use Rattle.job.specs.Job.{Job}
 use Rattle.lines.specs.Written.{FirstBad}
-use Rattle.lines.specs.Alike.{AlikeUpTo}
+use Rattle.lines.specs.Alike.{AlikeUpTo, FileDue, AlikeFiles}
 use Rattle.jobfile.specs.File.{Answer, accepted, readJob}
 use Rattle.jobfile.specs.ListingLines.{printedFor}
 use Rattle.jobfile.specs.Alike.{TurnedDue, Alike}
@@ -22,7 +26,6 @@ use Rattle.checking.specs.Checking.{checked, workLeft, verdictNumber}
 use Rattle.pricing.specs.declared.price.Price.{Price}
 use Rattle.pricing.specs.declared.price.Price.the-variants.{Refused}
 use Rattle.pricing.specs.Pricing.{volumeLine, priced, priceNumber}
-use Rattle.pricing.specs.NumberedAlike.{ColumnDue, AlikeColumn}
 use Rattle.pricelist.specs.PriceList.{priceLine, pricedBy}
 use Rattle.planoutcome.specs.declared.plan.Outcome.{Outcome}
 use Rattle.planoutcome.specs.PlanCall.{planAnswer, outcomeOf, planAfter, planNumber}
@@ -30,7 +33,10 @@ use Rattle.listoutcome.specs.declared.list.Listed.{Listed}
 use Rattle.listoutcome.specs.ListCall.{listAnswer, listedOf, listingAfter, listNumber}
 use Rattle.ruleoutcome.specs.declared.rule.RuleAnswer.{RuleAnswer}
 use Rattle.ruleoutcome.specs.declared.rule.JobRule.{JobRule}
-use Rattle.ruleoutcome.specs.RuleCall.{ruleSize, ruleAnswer, ruledOf, ruleAfter, ruleValue, ruleNumber}
+use Rattle.ruleoutcome.specs.RuleCall.{ruleAnswer, ruledOf, ruleAfter, ruleValue, ruleNumber}
+use Rattle.rulerows.specs.declared.rows.RowsAnswer.{RowsAnswer}
+use Rattle.rulerows.specs.RuleRows.{rowLine, rowsDue, maxText, rowsMade, rowsAnswer, rowsValue, rowsNumber}
+use Rattle.rulerows.specs.RowsAlike.{AlikeRows}
 
 -- what a caller of planning has: counts or refusal, their number, the work buffer, the plan buffer
 pub record PlanResult : Type 0 where
@@ -105,6 +111,16 @@ pub record PrintResult : Type 0 where
 abbrev pub printGives : Answer → List ℕ → PrintResult
 printGives a work = record { text = printedFor a; work = workAfter a work }
 
+-- of the call for rule rows: its answer, the number, the rule buffer
+pub record RowsResult : Type 0 where
+  pub answer : RowsAnswer
+  pub number : ℕ
+  pub rule : List ℕ
+
+-- for what is made
+abbrev pub rowsGives : Made → List ℕ → RowsResult
+rowsGives x rule = record { answer = rowsAnswer x; number = rowsNumber (rowsAnswer x); rule = madeAfter x rule }
+
 -- two files get the same of every call. Each contract of a call names its file in `admitted`, `planAnswer`, `listAnswer`, `checked`, `priced`,
 -- `pricedBy` or `ruleAnswer` alone, so what is said of these is said of all that a call gives
 pub record OneAnswer (f g : List ℕ) : Type 0 where
@@ -141,38 +157,53 @@ pub record OnePrice (file f g : List ℕ) : Type 0 where
 abbrev pub OneOwnPrice : List ℕ → List ℕ → Type 0
 OneOwnPrice f g = (file plan volumes : List ℕ) → priceGives (pricedBy file plan volumes f) ≡ priceGives (pricedBy file plan volumes g)
 
+-- two texts of rows get the same of the call for rule rows, with S, A and a final set
+pub record OneRule (s a : ℕ) (f g : List ℕ) (finals : ℕ) : Type 0 where
+  pub made : (rule : ℕ) → rowsMade f s a finals rule ≡ rowsMade g s a finals rule
+  pub rows
+      : (rule : List ℕ)
+      → rowsGives (rowsMade f s a finals (length rule)) rule ≡ rowsGives (rowsMade g s a finals (length rule)) rule
+  pub by-value : rowsValue (rowsMade f s a finals ruleSize) ≡ rowsValue (rowsMade g s a finals ruleSize)
+
 -- the statement: files alike, cut, damaged or sound, get the same of every call; so do files of one length that are too long, or alike in the
 -- lines up to one that is turned back, whatever follows it. So do volume files, by a V line for each node of the job, and price files, by
 -- sixteen B lines: alike ones, beside other files alike too; those alike in the lines up to one that is turned back; those of one length that
 -- are alike in the lines due, whatever follows these; and any beside what is refused before them, for volume files are looked at after job and
--- plan, and price files last
+-- plan, and price files last. So do texts of rule rows: alike ones; those of one length that are alike in the rows due, whatever follows these;
+-- and any two that are too long, or beside an S, an A or a final set that is refused
 pub record SameAnswers : Type 0 where
   pub alike : (f g : List ℕ) → Alike f g → OneAnswer f g
   pub no-further : (f g due : List ℕ) → length f ≡ length g → TurnedDue f due → AlikeUpTo due f g → OneAnswer f g
   pub volumes
-      : (file f g : List ℕ) (j : Job) → readJob file ≡ accepted j → AlikeColumn volumeLine (length (j .nodes)) f g → OnePrice file f g
+      : (file f g : List ℕ) (j : Job) → readJob file ≡ accepted j → AlikeFiles volumeLine (length (j .nodes)) f g → OnePrice file f g
   pub job-and-volumes
-      : (file other f g plan : List ℕ) (j : Job) → Alike file other → readJob file ≡ accepted j → AlikeColumn volumeLine (length (j .nodes)) f g
+      : (file other f g plan : List ℕ) (j : Job) → Alike file other → readJob file ≡ accepted j → AlikeFiles volumeLine (length (j .nodes)) f g
       → priceGives (priced file plan f) ≡ priceGives (priced other plan g)
   pub volumes-turned-back
       : (file f g : List ℕ) (j : Job) (r : ℕ) → readJob file ≡ accepted j → (b : FirstBad volumeLine (length (j .nodes)) 0 [] f r)
       → AlikeUpTo (replicate (length (b .passed)) 2 ++ (2 ∷ [])) f g → OnePrice file f g
   pub volumes-no-further
       : (file f g due : List ℕ) (j : Job) → readJob file ≡ accepted j → length f ≡ length g
-      → ColumnDue volumeLine (length (j .nodes)) f due → AlikeUpTo due f g → OnePrice file f g
+      → FileDue volumeLine (length (j .nodes)) f due → AlikeUpTo due f g → OnePrice file f g
   pub volumes-last : (file plan f g : List ℕ) (r : ℕ) → r ≢ 16 → priced file plan f ≡ Refused r → priced file plan g ≡ Refused r
-  pub prices : (f g : List ℕ) → AlikeColumn priceLine 16 f g → OneOwnPrice f g
+  pub prices : (f g : List ℕ) → AlikeFiles priceLine 16 f g → OneOwnPrice f g
   pub job-volumes-and-prices
       : (file other f g p q plan : List ℕ) (j : Job) → Alike file other → readJob file ≡ accepted j
-      → AlikeColumn volumeLine (length (j .nodes)) f g → AlikeColumn priceLine 16 p q
+      → AlikeFiles volumeLine (length (j .nodes)) f g → AlikeFiles priceLine 16 p q
       → priceGives (pricedBy file plan f p) ≡ priceGives (pricedBy other plan g q)
   pub prices-turned-back
       : (f g : List ℕ) (r : ℕ) (b : FirstBad priceLine 16 0 [] f r) → AlikeUpTo (replicate (length (b .passed)) 2 ++ (2 ∷ [])) f g
       → OneOwnPrice f g
   pub prices-no-further
-      : (f g due : List ℕ) → length f ≡ length g → ColumnDue priceLine 16 f due → AlikeUpTo due f g → OneOwnPrice f g
+      : (f g due : List ℕ) → length f ≡ length g → FileDue priceLine 16 f due → AlikeUpTo due f g → OneOwnPrice f g
   pub prices-last
       : (file plan volumes f g : List ℕ) (r : ℕ) → r ≢ 28 → pricedBy file plan volumes f ≡ Refused r → pricedBy file plan volumes g ≡ Refused r
   pub own-volumes-last
       : (file plan f g prices : List ℕ) (r : ℕ) → r ≢ 16 → r ≢ 28 → pricedBy file plan f prices ≡ Refused r
       → pricedBy file plan g prices ≡ Refused r
+  pub rows : (s a : ℕ) (f g : List ℕ) → AlikeRows s a f g → (finals : ℕ) → OneRule s a f g finals
+  pub rows-no-further
+      : (s a : ℕ) (f g due : List ℕ) → length f ≡ length g → FileDue (rowLine s a) (rowsDue f) f due → AlikeUpTo due f g → (finals : ℕ)
+      → OneRule s a f g finals
+  pub rows-too-long : (s a : ℕ) (f g : List ℕ) → maxText < length f → maxText < length g → (finals : ℕ) → OneRule s a f g finals
+  pub rows-unfit : (s a : ℕ) (f g : List ℕ) (finals : ℕ) → numbersFit s a finals ≡ false → OneRule s a f g finals

@@ -2,16 +2,17 @@
 -- Assumes nothing.
 use mathlib.Core.Path.{_≡_, sym, ap, _∙_}
 use mathlib.Core.Logic.{_↔_}
-use mathlib.Core.Bool.{true, false, and-eq-true-iff}
+use mathlib.Core.Bool.{Bool, true, false, _&&_, and-eq-true-iff}
 use mathlib.Core.List.{List}
-use Prim.Native.Nat.{ℕ, _^_, _<_, _≤_}
+use Prim.Native.Nat.{ℕ, _/_, _^_, _<_, _≤_}
 use native.Mathlib.Omega.{arith}
-use borrow.Author.Tests.{ltb-true, leb-true, lt-ltb, le-ltb, le-leb}
+use lib.Dec.{eqb}
+use borrow.Author.Tests.{ltb-true, leb-true, lt-ltb, le-ltb, le-leb, eqb-true, eq-eqb}
 use Rattle.laws.specs.Bits.{has}
 use Rattle.laws.proofs.Bounded.{all-at, all-of, all-fails}
-use Rattle.laws.proofs.Bits.{below-says}
+use Rattle.laws.proofs.Bits.{below-says, shr-zero-says}
 use Rattle.laws.proofs.Tests.{fails-of, test-ext}
-use Rattle.automaton.specs.Automaton.{Automaton, automatonOf, cell, cellBelow, cellsBelow, wellFormed, WellFormed, WellFormedSays, SameRule, TestsNoOtherCell}
+use Rattle.automaton.specs.Automaton.{Automaton, automatonOf, cell, cellBelow, cellsBelow, numbersFit, NumbersFit, NumbersFitSays, wellFormed, WellFormed, WellFormedSays, SameRule, TestsNoOtherCell}
 
 -- one next state of s or more in the part is enough
 pub cell-fails : (t : List (List ℕ)) (s a q c : ℕ) → q < s → c < a → cellBelow t s q c ≡ false → cellsBelow t s a ≡ false
@@ -33,14 +34,12 @@ cells-says t s a = (
   λ h. all-of s _ (λ q hq. all-of a (cellBelow t s q) (λ c hc. lt-ltb _ _ (h q c hq hc))),
 )
 
--- `wellFormed` says `WellFormed`
-pub well-formed-says : WellFormedSays
-unfolding wellFormed
-well-formed-says m = (
+-- `numbersFit` says `NumbersFit`
+pub numbers-fit-says : NumbersFitSays
+numbers-fit-says s a f = (
   λ h.
       let outer = and-eq-true-iff _ _ .0 h in
-      let inner = and-eq-true-iff _ _ .0 (outer .0) in
-      let sizes = and-eq-true-iff _ _ .0 (inner .0) in
+      let sizes = and-eq-true-iff _ _ .0 (outer .0) in
       let states = and-eq-true-iff _ _ .0 (sizes .0) in
       let symbols = and-eq-true-iff _ _ .0 (sizes .1) in
       record {
@@ -48,18 +47,53 @@ well-formed-says m = (
         few-states = leb-true _ _ (states .1);
         some-symbol = leb-true _ _ (symbols .0);
         few-symbols = leb-true _ _ (symbols .1);
-        next-below = cells-says (m .table) (m .states) (m .symbols) .0 (outer .1);
-        finals-below = below-says (m .states) (m .finals) .0 (ltb-true _ _ (inner .1));
+        finals-below = below-says s f .0 (ltb-true _ _ (outer .1));
       },
   λ w.
       and-eq-true-iff _ _ .1 (
         and-eq-true-iff _ _ .1 (
-          and-eq-true-iff _ _ .1 (
-            and-eq-true-iff _ _ .1 (le-leb _ _ (w .some-state), le-leb _ _ (w .few-states)),
-            and-eq-true-iff _ _ .1 (le-leb _ _ (w .some-symbol), le-leb _ _ (w .few-symbols)),
-          ),
-          lt-ltb _ _ (below-says (m .states) (m .finals) .1 (w .finals-below)),
+          and-eq-true-iff _ _ .1 (le-leb _ _ (w .some-state), le-leb _ _ (w .few-states)),
+          and-eq-true-iff _ _ .1 (le-leb _ _ (w .some-symbol), le-leb _ _ (w .few-symbols)),
         ),
+        lt-ltb _ _ (below-says s f .1 (w .finals-below)),
+      ),
+)
+
+-- what denies a part of it fails the test
+pub not-fit : (s a f : ℕ) → (NumbersFit s a f → ⊥) → false ≡ numbersFit s a f
+not-fit s a f h = sym (fails-of (numbersFit s a f) (λ e. h (numbers-fit-says s a f .0 e)))
+
+-- past the limits of S and A the final set decides
+pub fit-rest : (s a f : ℕ) → 1 ≤ s → s ≤ 16 → 1 ≤ a → a ≤ 16 → eqb (f / 2 ^ s) 0 ≡ numbersFit s a f
+fit-rest s a f s₁ s₂ a₁ a₂ =
+    test-ext (eqb (f / 2 ^ s) 0) (numbersFit s a f)
+    (λ e. simp (le-leb 1 s s₁, le-leb s 16 s₂, le-leb 1 a a₁, le-leb a 16 a₂, lt-ltb f (2 ^ s) (shr-zero-says s f .0 (eqb-true (f / 2 ^ s) 0 e))))
+    (λ e. eq-eqb (f / 2 ^ s) 0 (shr-zero-says s f .1 (below-says s f .1 (numbers-fit-says s a f .0 e .finals-below))))
+
+-- `wellFormed` says `WellFormed`
+pub well-formed-says : WellFormedSays
+unfolding wellFormed
+well-formed-says m = (
+  λ h.
+      let both = and-eq-true-iff (numbersFit (m .states) (m .symbols) (m .finals)) _ .0 h in
+      let fit = numbers-fit-says (m .states) (m .symbols) (m .finals) .0 (both .0) in
+      record {
+        some-state = fit .some-state;
+        few-states = fit .few-states;
+        some-symbol = fit .some-symbol;
+        few-symbols = fit .few-symbols;
+        next-below = cells-says (m .table) (m .states) (m .symbols) .0 (both .1);
+        finals-below = fit .finals-below;
+      },
+  λ w.
+      and-eq-true-iff (numbersFit (m .states) (m .symbols) (m .finals)) _ .1 (
+        numbers-fit-says (m .states) (m .symbols) (m .finals) .1 (record {
+          some-state = w .some-state;
+          few-states = w .few-states;
+          some-symbol = w .some-symbol;
+          few-symbols = w .few-symbols;
+          finals-below = w .finals-below;
+        }),
         cells-says (m .table) (m .states) (m .symbols) .1 (w .next-below),
       ),
 )
@@ -68,11 +102,14 @@ well-formed-says m = (
 pub not-well-formed : (m : Automaton) → (WellFormed m → ⊥) → false ≡ wellFormed m
 not-well-formed m h = sym (fails-of (wellFormed m) (λ e. h (well-formed-says m .0 e)))
 
--- with its numbers within limits, a rule is one when its cells are below S
-pub well-formed-rest
-    : (t : List (List ℕ)) (s a f : ℕ) → 1 ≤ s → s ≤ 16 → 1 ≤ a → a ≤ 16 → f < 2 ^ s → wellFormed (automatonOf t s a f) ≡ cellsBelow t s a
+-- a rule whose numbers do not fit is none; with numbers that do, it is one when its cells are below S
+pub well-formed-unfit : (t : List (List ℕ)) (s a f : ℕ) → numbersFit s a f ≡ false → wellFormed (automatonOf t s a f) ≡ false
 unfolding wellFormed
-well-formed-rest t s a f s₁ s₂ a₁ a₂ h = simp (le-leb 1 s s₁, le-leb s 16 s₂, le-leb 1 a a₁, le-leb a 16 a₂, lt-ltb f (2 ^ s) h)
+well-formed-unfit t s a f e = ap (λ (b : Bool). b && cellsBelow t s a) e
+
+pub well-formed-rest : (t : List (List ℕ)) (s a f : ℕ) → numbersFit s a f ≡ true → wellFormed (automatonOf t s a f) ≡ cellsBelow t s a
+unfolding wellFormed
+well-formed-rest t s a f e = ap (λ (b : Bool). b && cellsBelow t s a) e
 
 -- to differ past S or A alone goes both ways
 pub same-rule-sym : {m n : Automaton} → SameRule m n → SameRule n m

@@ -15,7 +15,7 @@ use Rattle.laws.specs.Bytes.{AreBytes}
 use Rattle.laws.proofs.Bounded.{length-tab, getD-tab, fill-done}
 use Rattle.laws.proofs.Tests.{fails-of}
 use Rattle.automaton.specs.Automaton.{Automaton, automatonOf, cell, next, WellFormed, SameRule}
-use Rattle.automaton.specs.Table.{tableOf, cellByte, ruleBytes}
+use Rattle.automaton.specs.Table.{tableOf, cellByte, ruleBytes, RuleWritten}
 use Rattle.automaton.proofs.TableLaws.{table-cell}
 
 -- ---- a cell
@@ -77,6 +77,17 @@ rule-bytes-get m i h = getD-tab 256 (λ (k : ℕ). cellByte m (k / 16) (k % 16))
 -- row after row
 pub rule-bytes-at : (m : Automaton) (q a : ℕ) → q < 16 → a < 16 → getD (ruleBytes m) (q * 16 + a) 0 ≡ cellByte m q a
 rule-bytes-at m q a h k = rule-bytes-get m (q * 16 + a) (omega arith) ∙ ap₂ (cellByte m) (omega arith) (omega arith)
+
+-- as they are said to be
+pub rule-written : (m : Automaton) → WellFormed m → RuleWritten m (ruleBytes m)
+rule-written m wf =
+    record {
+      count = rule-bytes-length m;
+      cells = λ q a h k.
+          rule-bytes-at m q a (omega (arith, wf .few-states)) (omega (arith, wf .few-symbols)) ∙ cell-byte-at m q a h k;
+      past-states = λ q a past h k. rule-bytes-at m q a h k ∙ cell-byte-past m q a (inl past);
+      past-symbols = λ q a h past k. rule-bytes-at m q a h k ∙ cell-byte-past m q a (inr past);
+    }
 
 -- all are bytes
 pub rule-bytes-are : (m : Automaton) → WellFormed m → AreBytes (ruleBytes m)

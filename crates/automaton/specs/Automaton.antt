@@ -45,11 +45,25 @@ cellBelow t s q a = ltb (cell t q a) s
 unfoldable pub cellsBelow : List (List ℕ) → ℕ → ℕ → Bool
 cellsBelow t s a = allBelow s (λ q. allBelow a (cellBelow t s q))
 
--- a rule that refusal 13 does not turn back, as a test; a set below 2 ^ S has no member of S or more
+-- S and A within their limits, and no final state of S or more: a set below 2 ^ S has no member of S or more
+abbrev pub numbersFit : ℕ → ℕ → ℕ → Bool
+numbersFit s a f = withinLimits s && withinLimits a && ltb f (2 ^ s)
+
+-- the same in words: `numbersFit s a f ≡ true` if and only if `NumbersFit s a f`
+pub record NumbersFit (s a f : ℕ) : Type 0 where
+  pub some-state : 1 ≤ s
+  pub few-states : s ≤ 16
+  pub some-symbol : 1 ≤ a
+  pub few-symbols : a ≤ 16
+  pub finals-below : (q : ℕ) → has f q ≡ true → q < s
+
+-- the statement of that
+abbrev pub NumbersFitSays : Type 0
+NumbersFitSays = (s a f : ℕ) → (numbersFit s a f ≡ true) ↔ NumbersFit s a f
+
+-- a rule that refusal 13 does not turn back, as a test
 unfoldable pub wellFormed : Automaton → Bool
-wellFormed m =
-    withinLimits (m .states) && withinLimits (m .symbols) && ltb (m .finals) (2 ^ m .states)
-    && cellsBelow (m .table) (m .states) (m .symbols)
+wellFormed m = numbersFit (m .states) (m .symbols) (m .finals) && cellsBelow (m .table) (m .states) (m .symbols)
 
 -- the same in words: `wellFormed m ≡ true` if and only if `WellFormed m`
 pub record WellFormed (m : Automaton) : Type 0 where

@@ -1,4 +1,5 @@
--- The rule and its table.
+-- The rule, its table, and rules that calls make.
 -- Assumes nothing.
 pub mod Automaton
 pub mod Table
+pub mod Made

@@ -5,3 +5,4 @@ pub mod plan; // plan.rt: planning
 pub mod list; // list.rt: listing
 pub mod price; // price.rt: pricing
 pub mod rule; // rule.rt: the rule of a job
+pub mod rows; // rows.rt: rule rows

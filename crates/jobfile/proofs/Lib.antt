@@ -8,6 +8,7 @@ pub mod SpelledFile
 pub mod RefusalLaws
 pub mod AlikeLaws
 pub mod SpellableLaws
+pub mod RuleLinesLaws
 pub mod AnswerLaws
 pub mod Longest
 pub mod FileTrialsPass

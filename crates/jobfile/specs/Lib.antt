@@ -7,4 +7,5 @@ pub mod ListingTrials
 pub mod Refusal
 pub mod Alike
 pub mod Spellable
+pub mod RuleLines
 pub mod ListingFits

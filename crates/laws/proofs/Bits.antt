@@ -3,17 +3,19 @@
 use Prim.Native.Nat.{ℕ, zero, suc, _+_, _*_, _/_, _%_, _^_, _≤_, _<_, min, max}
 use mathlib.Core.Path.{_≡_, refl, sym, ap, subst, _∙_}
 use mathlib.Core.Logic.{_≢_, _↔_, ⊎-elim, by-cases}
-use mathlib.Core.Bool.{Bool, true, false, _&&_, _||_, true≢false, or-true, or-false, and-false}
+use mathlib.Core.Bool.{Bool, true, false, _&&_, _||_, true≢false, or-true, or-false, and-false, and-eq-true-iff}
 use native.Mathlib.Nat.{le-of-suc-le-suc, not-suc-le-zero, lt-of-lt-of-le, lt-of-not-le, le-add-right, le-add-left}
 use native.Mathlib.Nat.{one-mul, pow-suc, mod-lt, mod-eq-of-lt, div-one, div-self, zero-div, div-eq-of-lt, div-lt-iff-lt-mul}
 use native.Mathlib.Numerals.{add-one, one-add}
 use native.Mathlib.Decide.{ℕ-discrete, decLt}
 use native.Mathlib.Omega.{arith}
-use lib.Dec.{eqb, lit<}
+use lib.Dec.{eqb, leb, lit<}
 use lib.Pow.{pow-pos, pow-mono, pow-lt, shl-shr, shr-shr, shr-lt, field, mod-mod-pow}
 use lib.Bits.{bitOr, bitAnd, or-step, and-step, or-shr, and-shr, or-lt, or-disjoint, shifted-half, shifted-even}
-use borrow.Author.Tests.{eq-eqb, ne-eqb, eqb-true, eqb-false}
+use borrow.Author.Tests.{eq-eqb, ne-eqb, eqb-true, eqb-false, le-leb, leb-true}
 use Rattle.laws.specs.Bits.{bit, has, with}
+use Rattle.laws.specs.Bounded.{anyBelow}
+use Rattle.laws.proofs.Bounded.{any-at, any-none-at}
 use Rattle.laws.proofs.Tests.{fails-of, passes-or-fails}
 
 -- ---- bits
@@ -226,6 +228,30 @@ below-says n s = (λ l i. has-below n s i l, members-below n s)
 pub shr-zero-says : (n s : ℕ) → (s / 2 ^ n ≡ 0) ↔ (s < 2 ^ n)
 shr-zero-says n s =
     (λ e. rw one-mul at (div-lt-iff-lt-mul {x = s} {y = 1} (pow-pos n) .0 (omega arith)), div-eq-of-lt)
+
+-- a number is below its own power of two
+below-power : (n : ℕ) → n < 2 ^ n
+below-power zero = lit< tt
+below-power (suc n) = let half = below-power n in rw (pow-suc 2 n) (omega arith)
+
+-- a set whose members are not all below n has one past it
+pub some-past : (n s : ℕ) → (((i : ℕ) → has s i ≡ true → i < n) → ⊥) → (i : ℕ) × (has s i ≡ true) × (n ≤ i)
+some-past n s not-all =
+    ⊎-elim
+    (λ (t : anyBelow s past ≡ true).
+    let (i, l, p) = any-at s past t in
+    let both = and-eq-true-iff (has s i) (leb n i) .0 p in (i, both .0, leb-true n i (both .1)))
+    (λ (f : anyBelow s past ≡ false).
+    absurd (not-all (λ i m.
+    by-cases (decLt i n) (λ l. l)
+    (λ (g : i < n → ⊥).
+    absurd (true≢false
+    (sym (and-eq-true-iff (has s i) (leb n i) .1 (m, le-leb n i (omega arith)))
+    ∙ any-none-at s past f i (has-below s s i (below-power s) m)))))))
+    (passes-or-fails (anyBelow s past))
+  where
+    past : ℕ → Bool
+    past i = has s i && leb n i
 
 -- the members of a set to which a power is added that it does not hold
 pub has-add : (s k i : ℕ) → has s k ≡ false → has (s + 2 ^ k) i ≡ (has s i || eqb i k)

@@ -9,9 +9,9 @@ use native.Mathlib.Nat.{zero-add, suc-mul, zero-mul}
 use native.Mathlib.Omega.{arith}
 use lib.ListN.{length, take, drop, replicate, length-drop}
 use Rattle.lines.specs.Line.{line, writeLines, at, lineLength}
-use Rattle.lines.specs.Lines.{LineKind, lines, linesOf}
+use Rattle.lines.specs.Lines.{LineKind, Lines, lines, refused, linesOf}
 use Rattle.lines.specs.Written.{Holds, columnsOf, LineAt, Stand, GoodLines, good-none, good-more, LinesAt, BadLine, ended, malformed, outside, FirstBad}
-use Rattle.lines.specs.Alike.{AlikeColumns, equal, one-number, AlikeLine, AlikeThen, Equal, AlikeOver, Anything, AlikeUpTo, NoZerosOver, LinesSayAlike}
+use Rattle.lines.specs.Alike.{AlikeColumns, equal, one-number, AlikeLine, AlikeThen, Equal, AlikeOver, Anything, AlikeUpTo, NoZerosOver, FileDue, some-due, all-due, AlikeFiles, LinesSayAlike}
 use Rattle.lines.proofs.SpelledField.{holds-one}
 use Rattle.lines.proofs.SpelledLine.{line-long, line-only, written-no-zeros}
 use Rattle.lines.proofs.SpelledLines.{write-cons, written-past, lines-says, refused-says}
@@ -182,6 +182,68 @@ module _ (k : LineKind) where
         rw (written-past k ns after count) (written-only ks rest more none),
       )
 
+-- ---- files of lines of one kind
+
+-- two files read alike: the same lines, with as many bytes after them, or the same refusal
+pub data ReadAlike : Lines → Lines → Type 0 where
+  same-lines : {ls : List (List ℕ)} {rest other : List ℕ} → length rest ≡ length other → ReadAlike (lines ls rest) (lines ls other)
+  same-refusal : {r : ℕ} → ReadAlike (refused r) (refused r)
+
+module _ (k : LineKind) (c : ℕ) where
+  -- every file has its lines due
+  pub file-due : (file : List ℕ) → (due : List ℕ) × FileDue k c file due
+  file-due file = go (linesOf k c 0 [] file) refl
+    where
+      go : (x : Lines) → linesOf k c 0 [] file ≡ x → (due : List ℕ) × FileDue k c file due
+      go (lines ls rest) e = (_, all-due (lines-says k c 0 [] file ls rest .0 e))
+      go (refused r) e = (_, some-due (refused-says k c 0 [] file r .0 e))
+
+  module _ (f g : List ℕ) where
+    -- where a line is turned back, what follows it is not looked at
+    pub turned-alike
+        : (r : ℕ) (b : FirstBad k c 0 [] f r) → AlikeUpTo (counts k (b .passed) (k .count ∷ [])) f g
+        → ReadAlike (linesOf k c 0 [] f) (linesOf k c 0 [] g)
+    turned-alike r b a =
+        let read : linesOf k c 0 [] f ≡ refused r = refused-says k c 0 [] f r .1 b in
+        let other : linesOf k c 0 [] g ≡ refused r = sym (bad-read k c 0 [] f g r b a) ∙ read in
+        rw (read, other) same-refusal
+
+    -- of files of one length, what follows the lines due is not looked at
+    pub due-alike
+        : (due : List ℕ) → length f ≡ length g → FileDue k c f due → AlikeUpTo due f g
+        → ReadAlike (linesOf k c 0 [] f) (linesOf k c 0 [] g)
+    due-alike due long (some-due {r} b) a = turned-alike r b a
+    due-alike due long (all-due {ls} {rest} l) a =
+        let (other, m, any) = lines-alike Anything k [] l a in
+        let past : length rest ≡ length other =
+        omega (arith, long, stand-length k ls f rest (l .stand), stand-length k ls g other (m .stand)) in
+        rw (lines-says k c 0 [] f ls rest .1 l, lines-says k c 0 [] g ls other .1 m) (same-lines past)
+
+    -- so are files alike
+    pub files-alike : AlikeFiles k c f g → ReadAlike (linesOf k c 0 [] f) (linesOf k c 0 [] g)
+    files-alike a = due-alike (a .due) (a .long) (a .lines) (over-up-to (a .due) f g (a .over))
+
+    -- the other has the same lines due
+    due-other : {due : List ℕ} → FileDue k c f due → AlikeOver due f g → FileDue k c g due
+    due-other (some-due b) a =
+        let up-to = over-up-to (counts k (b .passed) (k .count ∷ [])) f g a in
+        let (d, passed) = first-bad-alike Anything k b up-to in
+        rw (← passed) (some-due d)
+    due-other (all-due l) a = let (other, m, same) = lines-alike Equal k [] l a in all-due m
+
 -- lines of a kind alike are read alike
 pub lines-say-alike : LinesSayAlike
-lines-say-alike = record { columns = λ l m n h k. one-number h k; good = good-read; bad = bad-read }
+lines-say-alike =
+    record {
+      columns = λ l m n h k. one-number h k;
+      itself = λ k c f. let (due, stand) = file-due k c f in record { long = refl; due = due; lines = stand; over = over-same due f };
+      either-way = λ k c f g a.
+          record {
+            long = sym (a .long);
+            due = a .due;
+            lines = due-other k c f g (a .lines) (a .over);
+            over = over-turned (a .due) f g (a .over);
+          };
+      good = good-read;
+      bad = bad-read;
+    }

@@ -2,15 +2,17 @@
 -- first line that is not. By induction on the number of lines due, each by the law of one line.
 -- Assumes nothing.
 use Prim.Native.Nat.{ℕ, zero, suc, _+_, _*_, _<_}
-use mathlib.Core.Path.{_≡_, refl, sym, ap, _∙_}
+use mathlib.Core.Path.{_≡_, refl, sym, ap, _∙_, subst}
 use mathlib.Core.Logic.{_≢_, _↔_}
 use mathlib.Core.Bool.{Bool, true, false, cond}
 use mathlib.Core.List.{List, [], _∷_, _++_, append-assoc}
-use native.Mathlib.Nat.{add-zero, suc-add, add-suc, zero-mul, suc-mul}
+use native.Mathlib.Nat.{add-comm, add-zero, suc-add, add-suc, zero-mul, suc-mul}
 use native.Mathlib.Omega.{arith}
-use lib.ListN.{length, drop, length-append}
+use lib.ListN.{length, drop, getD, length-append}
+use lib.Seq.{drop-drop}
 use Rattle.lines.specs.Line.{line, Due, ends, no-line, found, lineLength, lineOf, writeLines}
 use Rattle.lines.specs.Lines.{LineKind, Lines, lines, refused, consLine, onDue, linesOf}
+use Rattle.lines.specs.Places.{numbersOf}
 use Rattle.lines.specs.Written.{LineAt, Stand, GoodLines, good-none, good-more, LinesAt, BadLine, ended, malformed, outside, lastOf, FirstBad}
 use Rattle.lines.proofs.SpelledLine.{line-length, line-drop, line-fits, line-found, found-line, line-written, ends-says}
 
@@ -197,3 +199,45 @@ module _ (k : LineKind) where
     where
       only : Outcome c i before bytes (refused r) → FirstBad k c i before bytes r
       only (one-bad f) = f
+
+-- ---- one of some lines that stand
+
+-- the line at one place is one
+pub line-once : (letter k : ℕ) (bytes ns ms : List ℕ) → LineAt letter k bytes ns → LineAt letter k bytes ms → ns ≡ ms
+line-once letter k bytes ns ms l m =
+    ap numbersOf (sym (line-found letter k bytes ns l) ∙ line-found letter k bytes ms m)
+
+module _ (k : LineKind) where
+  -- the bytes past one line more
+  past-first : (n : ℕ) (f : List ℕ) → drop (n * lineLength (k .count)) (drop (lineLength (k .count)) f) ≡ drop (suc n * lineLength (k .count)) f
+  past-first n f =
+      drop-drop (n * lineLength (k .count)) (lineLength (k .count)) f
+      ∙ ap (λ (x : ℕ). drop x f) (add-comm (lineLength (k .count)) (n * lineLength (k .count)) ∙ sym (suc-mul n (lineLength (k .count))))
+
+  -- the first bytes are those from place 0 on
+  from-first : (f : List ℕ) → drop (0 * lineLength (k .count)) f ≡ f
+  from-first f = ap (λ (x : ℕ). drop x f) (zero-mul (lineLength (k .count)))
+
+  -- what follows the lines
+  pub stand-past : (ls : List (List ℕ)) (f rest : List ℕ) → Stand k f ls rest → drop (length ls * lineLength (k .count)) f ≡ rest
+  stand-past [] f rest s = from-first f ∙ s
+  stand-past (ns ∷ ls) f rest s = sym (past-first (length ls) f) ∙ stand-past ls (drop (lineLength (k .count)) f) rest (s .1)
+
+  -- each line in its place
+  pub stand-at
+      : (ls : List (List ℕ)) (f rest : List ℕ) (i : ℕ) → Stand k f ls rest → i < length ls
+      → LineAt (k .letter) (k .count) (drop (i * lineLength (k .count)) f) (getD ls i [])
+  stand-at [] f rest i s l = absurd (omega arith)
+  stand-at (ns ∷ ls) f rest zero s l = rw (from-first f) (s .0)
+  stand-at (ns ∷ ls) f rest (suc i) s l =
+      subst (λ (b : List ℕ). LineAt (k .letter) (k .count) b (getD ls i [])) (past-first i f)
+      (stand-at ls (drop (lineLength (k .count)) f) rest i (s .1) (omega arith))
+
+  -- each passes its test
+  pub good-at
+      : {i : ℕ} {before : List ℕ} {ls : List (List ℕ)} → GoodLines k i before ls → (n : ℕ) → n < length ls
+      → (last : List ℕ) × (k .good (i + n) last (getD ls n []) ≡ true)
+  good-at good-none n l = absurd (omega arith)
+  good-at (good-more {i} {before} {ns} count fit good more) zero l = (before, rw (add-zero i) good)
+  good-at (good-more {i} {before} {ns} count fit good more) (suc n) l =
+      let (last, passes) = good-at more n (omega arith) in (last, rw (add-suc i n, ← suc-add i n) passes)

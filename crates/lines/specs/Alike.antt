@@ -47,10 +47,28 @@ NoZerosOver [] f = Unit
 NoZerosOver (k ∷ ks) f =
     ((i n : ℕ) → i < k → Holds (columnsOf i f) n → NoZeros (columnsOf i f)) × NoZerosOver ks (drop (lineLength k) f)
 
--- the statement: columns with one number are alike. Lines of a kind that are alike are read alike: good ones with the same bytes after them;
--- where one is turned back, whatever follows it
+-- ---- files of lines of one kind
+
+-- the lines due in a file of c lines of a kind, by how many fields each has: up to the one that is turned back, or all of them
+pub data FileDue (k : LineKind) (c : ℕ) (file : List ℕ) : List ℕ → Type 0 where
+  some-due
+      : {r : ℕ} → (b : FirstBad k c 0 [] file r) → FileDue k c file (replicate (length (b .passed)) (k .count) ++ (k .count ∷ []))
+  all-due
+      : {ls : List (List ℕ)} {rest : List ℕ} → LinesAt k c 0 [] file ls rest → FileDue k c file (replicate (length ls) (k .count) ++ [])
+
+-- files alike: one length, alike fields in the lines due, equal bytes everywhere else
+pub record AlikeFiles (k : LineKind) (c : ℕ) (f g : List ℕ) : Type 0 where
+  pub long : length f ≡ length g
+  pub due : List ℕ
+  pub lines : FileDue k c f due
+  pub over : AlikeOver due f g
+
+-- the statement: columns with one number are alike. Every file is alike itself, and files alike are so either way. Lines of a kind that are
+-- alike are read alike: good ones with the same bytes after them; where one is turned back, whatever follows it
 pub record LinesSayAlike : Type 0 where
   pub columns : (l m : List ℕ) (n : ℕ) → Holds l n → Holds m n → AlikeColumns l m
+  pub itself : (k : LineKind) (c : ℕ) (f : List ℕ) → AlikeFiles k c f f
+  pub either-way : (k : LineKind) (c : ℕ) (f g : List ℕ) → AlikeFiles k c f g → AlikeFiles k c g f
   pub good
       : (k : LineKind) (c i : ℕ) (before f g : List ℕ) (ls : List (List ℕ)) (rest : List ℕ) → LinesAt k c i before f ls rest
       → AlikeOver (replicate (length ls) (k .count) ++ []) f g → linesOf k c i before f ≡ linesOf k c i before g

@@ -1,5 +1,4 @@
--- Files of numbered lines alike are read alike: the lines that pass in the one pass in the other with the same numbers, and so does the first
--- that is turned back; so both have the same lines due. A numbered line is its place and its number, so files of the same numbers have the
+-- Files of numbered lines alike are read alike, as lines of any kind are. A numbered line is its place and its number, so files of the same numbers have the
 -- same lines, and so has the file that is written of these.
 -- Assumes nothing.
 use mathlib.Core.Path.{_≡_, refl, sym, ap, _∙_}
@@ -9,13 +8,13 @@ use Prim.Native.Nat.{ℕ}
 use native.Mathlib.Omega.{arith}
 use lib.ListN.{length, replicate, length-map}
 use Rattle.lines.specs.Line.{at, writeLines}
-use Rattle.lines.specs.Lines.{LineKind, Lines, lines, refused, linesOf}
-use Rattle.lines.specs.Alike.{Equal, AlikeOver, Anything, AlikeUpTo, NoZerosOver}
-use Rattle.lines.specs.Written.{Stand, GoodLines, good-none, good-more, FirstBad}
-use Rattle.lines.proofs.SpelledLines.{written-stand, lines-says, refused-says}
-use Rattle.lines.proofs.AlikeLaws.{over-same, over-turned, over-up-to, lines-alike, alike-stand, first-bad-alike, stand-length, stand-only, written-only, lines-say-alike}
+use Rattle.lines.specs.Lines.{LineKind, Lines, lines, linesOf}
+use Rattle.lines.specs.Alike.{Equal, NoZerosOver, all-due, AlikeFiles}
+use Rattle.lines.specs.Written.{Stand, GoodLines, good-none, good-more}
+use Rattle.lines.proofs.SpelledLines.{written-stand}
+use Rattle.lines.proofs.AlikeLaws.{alike-stand, stand-length, stand-only, written-only, ReadAlike, same-lines, same-refusal, turned-alike, due-alike, files-alike}
 use Rattle.pricing.specs.Numbered.{goodNumbered, numberedLine, numbersIn, columnRead, columnIn, writeColumn, ColumnFile}
-use Rattle.pricing.specs.NumberedAlike.{ColumnDue, some-due, all-due, AlikeColumn, NumberedSayAlike}
+use Rattle.pricing.specs.NumberedAlike.{NumberedSayAlike}
 use Rattle.pricing.proofs.NumberedLaws.{placed, column-written, numbered-says}
 
 -- bytes follow the lines in both or in neither
@@ -27,42 +26,15 @@ past-alike ls [] (b ∷ other) e = absurd (omega arith)
 past-alike ls (b ∷ rest) [] e = absurd (omega arith)
 past-alike ls (b ∷ rest) (d ∷ other) e = refl
 
-module _ (k : LineKind) (c : ℕ) where
-  -- every file has its lines due
-  column-due : (file : List ℕ) → (due : List ℕ) × ColumnDue k c file due
-  column-due file = go (linesOf k c 0 [] file) refl
-    where
-      go : (x : Lines) → linesOf k c 0 [] file ≡ x → (due : List ℕ) × ColumnDue k c file due
-      go (lines ls rest) e = (_, all-due (lines-says k c 0 [] file ls rest .0 e))
-      go (refused r) e = (_, some-due (refused-says k c 0 [] file r .0 e))
+-- lines read alike are one column
+column-alike : {x y : Lines} → ReadAlike x y → columnRead x ≡ columnRead y
+column-alike (same-lines {ls} {rest} {other} e) = past-alike ls rest other e
+column-alike same-refusal = refl
 
-  module _ (f g : List ℕ) where
-    -- where a line is turned back, what follows it is not looked at
-    turned-back
-        : (r : ℕ) (b : FirstBad k c 0 [] f r) → AlikeUpTo (replicate (length (b .passed)) (k .count) ++ (k .count ∷ [])) f g
-        → columnIn k c f ≡ columnIn k c g
-    unfolding columnIn
-    turned-back r b a = ap columnRead (lines-say-alike .bad k c 0 [] f g r b a)
-
-    -- of files of one length, what follows the lines due is not looked at
-    no-further
-        : (due : List ℕ) → length f ≡ length g → ColumnDue k c f due → AlikeUpTo due f g → columnIn k c f ≡ columnIn k c g
-    unfolding columnIn
-    no-further due long (some-due {r} b) a = turned-back r b a
-    no-further due long (all-due {ls} {rest} l) a =
-        let (other, m, any) = lines-alike Anything k [] l a in
-        let past : length rest ≡ length other =
-        omega (arith, long, stand-length k ls f rest (l .stand), stand-length k ls g other (m .stand)) in
-        ap columnRead (lines-says k c 0 [] f ls rest .1 l) ∙ past-alike ls rest other past
-        ∙ sym (ap columnRead (lines-says k c 0 [] g ls other .1 m))
-
-    -- the other has the same lines due
-    due-alike : {due : List ℕ} → ColumnDue k c f due → AlikeOver due f g → ColumnDue k c g due
-    due-alike (some-due b) a =
-        let up-to = over-up-to (replicate (length (b .passed)) (k .count) ++ (k .count ∷ [])) f g a in
-        let (d, passed) = first-bad-alike Anything k b up-to in
-        rw (← passed) (some-due d)
-    due-alike (all-due l) a = let (other, m, same) = lines-alike Equal k [] l a in all-due m
+-- so are files that are read alike
+columns-alike : (k : LineKind) (c : ℕ) (f g : List ℕ) → ReadAlike (linesOf k c 0 [] f) (linesOf k c 0 [] g) → columnIn k c f ≡ columnIn k c g
+unfolding columnIn
+columns-alike k c f g a = column-alike a
 
 -- ---- numbered lines
 
@@ -89,10 +61,10 @@ module _ (letter limit refusal : ℕ) where
       ∙ ap {B = List (List ℕ)} (λ l. (i ∷ at ns 1 ∷ []) ∷ l) (lines-placed more)
 
   -- so those of the same numbers are the same
-  same-lines
+  same-numbered
       : {i : ℕ} {before after : List ℕ} {ls ms : List (List ℕ)} → GoodLines kind i before ls → GoodLines kind i after ms
       → numbersIn ls ≡ numbersIn ms → ls ≡ ms
-  same-lines {i} g h e = lines-placed g ∙ ap (placed i) e ∙ sym (lines-placed h)
+  same-numbered {i} g h e = lines-placed g ∙ ap (placed i) e ∙ sym (lines-placed h)
 
   -- and they are written as their numbers are
   lines-written
@@ -103,9 +75,9 @@ module _ (letter limit refusal : ℕ) where
   module _ (c : ℕ) (numbers : List ℕ) where
     -- files of the same numbers are alike
     same-numbers
-        : (f g : List ℕ) → ColumnFile kind c f numbers → ColumnFile kind c g numbers → AlikeColumn kind c f g
+        : (f g : List ℕ) → ColumnFile kind c f numbers → ColumnFile kind c g numbers → AlikeFiles kind c f g
     same-numbers f g l m =
-        let same = same-lines (l .stand .good) (m .stand .good) (sym (l .are) ∙ m .are) in
+        let same = same-numbered (l .stand .good) (m .stand .good) (sym (l .are) ∙ m .are) in
         let stand : Stand kind g (l .lines) [] = rw same (m .stand .stand) in
         record {
           long = stand-length kind (l .lines) f [] (l .stand .stand) ∙ sym (stand-length kind (l .lines) g [] stand);
@@ -155,18 +127,9 @@ module _ (letter limit refusal : ℕ) where
 pub numbered-say-alike : NumberedSayAlike
 numbered-say-alike =
     record {
-      itself = λ k c f.
-          let (due, stand) = column-due k c f in record { long = refl; due = due; lines = stand; over = over-same due f };
-      either-way = λ k c f g a.
-          record {
-            long = sym (a .long);
-            due = a .due;
-            lines = due-alike k c f g (a .lines) (a .over);
-            over = over-turned (a .due) f g (a .over);
-          };
-      read-alike = λ k c f g a. no-further k c f g (a .due) (a .long) (a .lines) (over-up-to (a .due) f g (a .over));
-      turned-back = turned-back;
-      no-further = no-further;
+      read-alike = λ k c f g a. columns-alike k c f g (files-alike k c f g a);
+      turned-back = λ k c f g r b a. columns-alike k c f g (turned-alike k c f g r b a);
+      no-further = λ k c f g due long d a. columns-alike k c f g (due-alike k c f g due long d a);
       same-numbers = λ letter limit refusal c f g numbers. same-numbers letter limit refusal c numbers f g;
       written = λ letter limit refusal c file numbers l.
           same-numbers letter limit refusal c numbers (writeColumn letter 0 numbers) file

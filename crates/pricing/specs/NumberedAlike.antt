@@ -6,44 +6,28 @@ use mathlib.Core.List.{List, [], _∷_, _++_}
 use Prim.Native.Nat.{ℕ}
 use lib.ListN.{length, replicate}
 use Rattle.lines.specs.Lines.{LineKind}
-use Rattle.lines.specs.Written.{LinesAt, FirstBad}
-use Rattle.lines.specs.Alike.{AlikeOver, AlikeUpTo, NoZerosOver}
+use Rattle.lines.specs.Written.{FirstBad}
+use Rattle.lines.specs.Alike.{AlikeUpTo, NoZerosOver, FileDue, AlikeFiles}
 use Rattle.pricing.specs.Numbered.{numberedLine, columnIn, writeColumn, ColumnFile}
 
--- the lines due in a file, by how many fields each has: up to the one that is turned back, or all of them
-pub data ColumnDue (k : LineKind) (c : ℕ) (file : List ℕ) : List ℕ → Type 0 where
-  some-due
-      : {r : ℕ} → (b : FirstBad k c 0 [] file r) → ColumnDue k c file (replicate (length (b .passed)) (k .count) ++ (k .count ∷ []))
-  all-due
-      : {ls : List (List ℕ)} {rest : List ℕ} → LinesAt k c 0 [] file ls rest → ColumnDue k c file (replicate (length ls) (k .count) ++ [])
-
--- files alike: one length, alike fields in the lines due, equal bytes everywhere else
-pub record AlikeColumn (k : LineKind) (c : ℕ) (f g : List ℕ) : Type 0 where
-  pub long : length f ≡ length g
-  pub due : List ℕ
-  pub lines : ColumnDue k c f due
-  pub over : AlikeOver due f g
-
--- the statement: every file is alike itself; files alike are so either way, and are read alike. Of a file that is turned back at a line, what
--- follows that line is not looked at. Files of one length with alike lines due are read alike whatever follows these lines: a file that is
--- more than its lines is "not exactly these lines" by any bytes. Of numbered lines, the files of the same numbers are alike; the file written of
--- these numbers is alike each of them, and is the only one that has no zeros before a number's digits
+-- the statement: files alike are read alike. Of a file that is turned back at a line, what follows that line is not looked at. Files of one
+-- length with alike lines due are read alike whatever follows these lines: a file that is more than its lines is "not exactly these lines" by
+-- any bytes. Of numbered lines, the files of the same numbers are alike; the file written of these numbers is alike each of them, and is the
+-- only one that has no zeros before a number's digits
 pub record NumberedSayAlike : Type 0 where
-  pub itself : (k : LineKind) (c : ℕ) (f : List ℕ) → AlikeColumn k c f f
-  pub either-way : (k : LineKind) (c : ℕ) (f g : List ℕ) → AlikeColumn k c f g → AlikeColumn k c g f
-  pub read-alike : (k : LineKind) (c : ℕ) (f g : List ℕ) → AlikeColumn k c f g → columnIn k c f ≡ columnIn k c g
+  pub read-alike : (k : LineKind) (c : ℕ) (f g : List ℕ) → AlikeFiles k c f g → columnIn k c f ≡ columnIn k c g
   pub turned-back
       : (k : LineKind) (c : ℕ) (f g : List ℕ) (r : ℕ) (b : FirstBad k c 0 [] f r)
       → AlikeUpTo (replicate (length (b .passed)) (k .count) ++ (k .count ∷ [])) f g → columnIn k c f ≡ columnIn k c g
   pub no-further
-      : (k : LineKind) (c : ℕ) (f g due : List ℕ) → length f ≡ length g → ColumnDue k c f due → AlikeUpTo due f g
+      : (k : LineKind) (c : ℕ) (f g due : List ℕ) → length f ≡ length g → FileDue k c f due → AlikeUpTo due f g
       → columnIn k c f ≡ columnIn k c g
   pub same-numbers
       : (letter limit refusal c : ℕ) (f g numbers : List ℕ) → ColumnFile (numberedLine letter limit refusal) c f numbers
-      → ColumnFile (numberedLine letter limit refusal) c g numbers → AlikeColumn (numberedLine letter limit refusal) c f g
+      → ColumnFile (numberedLine letter limit refusal) c g numbers → AlikeFiles (numberedLine letter limit refusal) c f g
   pub written
       : (letter limit refusal c : ℕ) (file numbers : List ℕ) → ColumnFile (numberedLine letter limit refusal) c file numbers
-      → AlikeColumn (numberedLine letter limit refusal) c (writeColumn letter 0 numbers) file
+      → AlikeFiles (numberedLine letter limit refusal) c (writeColumn letter 0 numbers) file
   pub without-zeros
       : (letter limit refusal c : ℕ) (file numbers : List ℕ) → ColumnFile (numberedLine letter limit refusal) c file numbers
       → NoZerosOver (replicate (length numbers) 2) (writeColumn letter 0 numbers)

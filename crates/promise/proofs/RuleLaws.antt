@@ -5,13 +5,13 @@ use mathlib.Core.Path.{_≡_, refl, sym, ap, _∙_, subst}
 use mathlib.Core.List.{List}
 use Prim.Native.Nat.{ℕ}
 use lib.ListN.{length}
-use Rattle.automaton.specs.Table.{ruleBytes}
+use Rattle.automaton.specs.Table.{ruleSize, ruleBytes}
 use Rattle.job.specs.Job.{Job}
 use Rattle.jobfile.specs.File.{Answer, accepted}
 use Rattle.events.specs.Form.{EventForm, valueForm, lentForm}
 use Rattle.eventbytes.specs.Form.{callForm}
 use Rattle.planoutcome.proofs.PlanAfterLaws.{plan-answer-reads}
-use Rattle.ruleoutcome.specs.RuleCall.{ruleSize, ruleAnswer, numbersOf, ruledOf, ruleAfter, ruleValue}
+use Rattle.ruleoutcome.specs.RuleCall.{ruleAnswer, numbersOf, ruledOf, ruleAfter, ruleValue}
 use Rattle.ruleoutcome.proofs.RuleLaws.{rule-well-formed}
 use Rattle.ruleoutcome.proofs.RuleSays.{rule-bytes-say, rule-answer-says, ruled-by-number, rule-value-says}
 use Rattle.promise.specs.Promise.{byteCallWith, givenWith, GivesRule, TiedBytes, TiedTable, RuleTied}

@@ -7,7 +7,7 @@ use Prim.Native.Nat.{ℕ, _^_, _≤_, _<_}
 use lib.ListN.{length, take}
 use Rattle.events.specs.Monitor.{ReportByNumber}
 use Rattle.automaton.specs.Automaton.{Automaton, automatonOf}
-use Rattle.automaton.specs.Table.{tableOf}
+use Rattle.automaton.specs.Table.{ruleSize, tableOf}
 use Rattle.events.specs.Form.{EventForm, Given, valueForm, lentForm}
 use Rattle.events.specs.declared.Record.{Record}
 use Rattle.job.specs.Job.{Job}
@@ -20,7 +20,7 @@ use Rattle.planoutcome.specs.PlanCall.{planSize, planAnswer, planAfter}
 use Rattle.planoutcome.specs.PlanSays.{PlanBytesSay, SeenByNumber}
 use Rattle.ruleoutcome.specs.declared.rule.RuleNumbers.{RuleNumbers}
 use Rattle.ruleoutcome.specs.declared.rule.RuleAnswer.the-variants.{Rule}
-use Rattle.ruleoutcome.specs.RuleCall.{ruleSize, ruleAnswer, numbersOf, ruledOf, ruleAfter, ruleValue, ruleNumber}
+use Rattle.ruleoutcome.specs.RuleCall.{ruleAnswer, numbersOf, ruledOf, ruleAfter, ruleValue, ruleNumber}
 use Rattle.ruleoutcome.specs.RuleSays.{RuleBytesSay, ruledRead, RuledByNumber, RuleValueSays}
 use Rattle.eventbytes.specs.Event.{recordSize}
 use Rattle.eventbytes.specs.Form.{HeldBytes, ByteCall, callForm}

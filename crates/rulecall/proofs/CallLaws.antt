@@ -9,7 +9,7 @@ use lib.Dec.{ltb}
 use lib.ListN.{length, take, drop, replicate, length-drop, length-replicate}
 use lib.Seq.{length-take-le}
 use borrow.Author.Tests.{eq-eqb, ne-eqb}
-use Rattle.automaton.specs.Table.{ruleBytes}
+use Rattle.automaton.specs.Table.{ruleSize, ruleBytes}
 use Rattle.automaton.proofs.RuleBytesLaws.{cell-byte-exact, bytes-are-rule}
 use Rattle.job.specs.Job.{Job}
 use Rattle.jobfile.specs.File.{Answer, accepted, turned}
@@ -28,7 +28,7 @@ use Rattle.admission.proofs.CallLaws.{answer-refused}
 use Rattle.ruleoutcome.specs.declared.rule.RuleAnswer.{RuleAnswer}
 use Rattle.ruleoutcome.specs.declared.rule.RuleAnswer.the-variants.{Rule, Refused}
 use Rattle.ruleoutcome.specs.declared.rule.JobRule.{JobRule}
-use Rattle.ruleoutcome.specs.RuleCall.{ruleSize, fitted, ruleAnswer, ruledOf, ruleAfter, ruleValue}
+use Rattle.ruleoutcome.specs.RuleCall.{fitted, ruleAnswer, ruledOf, ruleAfter, ruleValue}
 
 -- the rule's part of a buffer that holds the job
 rule-held

@@ -2,7 +2,8 @@
 ghost use mathlib.Core.Path.{_≡_};
 ghost use lib.ListN.{length};
 ghost use Rattle.admission.specs.Admission.{workAfter};
-ghost use Rattle.ruleoutcome.specs.RuleCall.{ruleSize, ruleAnswer, ruledOf, ruleAfter, ruleValue};
+ghost use Rattle.automaton.specs.Table.{ruleSize};
+ghost use Rattle.ruleoutcome.specs.RuleCall.{ruleAnswer, ruledOf, ruleAfter, ruleValue};
 use clearing::clear;
 use door::admit;
 use rulecopy::copy_rule;

@@ -1,9 +1,11 @@
-// The number that a C call returns for each answer of the rule call.
+// The number that a C call returns for each answer of the rule call and of the call for rule rows.
 ghost use mathlib.Core.Path.{_≡_};
 ghost use Rattle.ruleoutcome.specs.RuleCall.{ruleNumber};
+ghost use Rattle.rulerows.specs.RuleRows.{rowsNumber};
 ghost use Rattle.rulenumbers.specs.Fits.{RuleFits};
 use callnumber::ACCEPTED;
 use ruleoutcome::rule::RuleAnswer;
+use rulerows::rows::RowsAnswer;
 
 // 2^48 plus states times 2^32, symbols times 2^16, and the final set, or the refusal's number.
 pub fn of_rule(answer: RuleAnswer) -> u64
@@ -15,5 +17,15 @@ pub fn of_rule(answer: RuleAnswer) -> u64
             ACCEPTED + numbers.states * 4_294_967_296 + numbers.symbols * 65_536 + numbers.finals
         }
         RuleAnswer::Refused(number) => number,
+    }
+}
+
+// 2^48, or the refusal's number.
+pub fn of_rows(answer: RowsAnswer) -> u64
+    ensures { λ r. ⌜ r ≡ rowsNumber answer ⌝ }
+{
+    match answer {
+        RowsAnswer::Accepted => ACCEPTED,
+        RowsAnswer::Refused(number) => number,
     }
 }

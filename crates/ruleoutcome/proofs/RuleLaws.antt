@@ -10,13 +10,14 @@ use lib.Dec.{eqb, ltb}
 use borrow.Author.Tests.{ltb-false, eqb-true}
 use Rattle.laws.proofs.Bits.{members-below}
 use Rattle.automaton.specs.Automaton.{Automaton, WellFormed}
+use Rattle.automaton.specs.Table.{ruleSize}
 use Rattle.job.specs.Job.{Job}
 use Rattle.jobfile.specs.File.{Answer, accepted, turned, readJob}
 use Rattle.jobfile.proofs.SpellableLaws.{accepted-well-formed}
 use Rattle.buffer.specs.Buffer.{workSize}
 use Rattle.admission.specs.Admission.{admitted}
 use Rattle.admission.proofs.AdmissionLaws.{admitted-reads}
-use Rattle.ruleoutcome.specs.RuleCall.{ruleSize, fitted, ruleAnswer}
+use Rattle.ruleoutcome.specs.RuleCall.{fitted, ruleAnswer}
 
 -- no answer is both
 pub turned-or-accepted : {k : ℕ} {j : Job} → turned k ≡ accepted j → ⊥

@@ -1,7 +1,6 @@
 -- What a caller of the rule call has: the bytes of the rule, the refusals in their order, the work buffer, the numbers seen, and the rule by value.
 -- Assumes nothing.
 use mathlib.Core.Path.{_≡_, refl, sym, ap, _∙_, subst}
-use mathlib.Core.Logic.{inl, inr}
 use mathlib.Core.Bool.{Bool, true, false, cond}
 use mathlib.Core.List.{List}
 use Prim.Native.Nat.{ℕ, zero, suc, _+_, _*_, _/_, _%_, _^_, _≤_, _<_}
@@ -11,30 +10,19 @@ use lib.ListN.{length}
 use borrow.Author.Tests.{ltb-true, ltb-false, lt-ltb, le-ltb, eqb-false, eq-eqb, ne-eqb}
 use Rattle.callnumber.specs.CallNumber.{acceptedFrom}
 use Rattle.automaton.specs.Automaton.{Automaton, WellFormed}
-use Rattle.automaton.specs.Table.{ruleBytes}
-use Rattle.automaton.proofs.RuleBytesLaws.{cell-byte-at, cell-byte-past, rule-bytes-length, rule-bytes-at, rule-bytes-same}
+use Rattle.automaton.specs.Table.{ruleSize}
+use Rattle.automaton.proofs.RuleBytesLaws.{rule-bytes-same, rule-written}
 use Rattle.job.specs.Job.{Job}
 use Rattle.jobfile.specs.File.{Answer, accepted, turned, maxFile, readJob}
 use Rattle.buffer.specs.Buffer.{workSize}
 use Rattle.admission.specs.Admission.{admitted, refusedLeft, workAfter}
 use Rattle.admission.proofs.AdmissionLaws.{admitted-long, admitted-short, admitted-read, admitted-small, left-past}
 use Rattle.ruleoutcome.specs.declared.rule.RuleAnswer.the-variants.{Rule, Refused}
-use Rattle.ruleoutcome.specs.RuleCall.{ruleSize, fitted, ruleAnswer, numbersOf, ruledOf, ruleAfter, ruleValue, ruleNumber}
-use Rattle.ruleoutcome.specs.RuleSays.{RuleWritten, RuleLeft, handed-over, unchanged, RuleBytesSay, RuleRefused, too-long, short-work, turned-back, other-length, RuleAnswerSays, RuleWorkSays, ruledRead, RuledByNumber, RuleValueSays}
+use Rattle.ruleoutcome.specs.RuleCall.{fitted, ruleAnswer, numbersOf, ruledOf, ruleAfter, ruleValue, ruleNumber}
+use Rattle.ruleoutcome.specs.RuleSays.{RuleLeft, handed-over, unchanged, RuleBytesSay, RuleRefused, too-long, short-work, turned-back, other-length, RuleAnswerSays, RuleWorkSays, ruledRead, RuledByNumber, RuleValueSays}
 use Rattle.ruleoutcome.proofs.RuleLaws.{turned-or-accepted, rule-reads, rule-well-formed, finals-few}
 
 -- ---- the bytes
-
--- of a rule
-rule-written : (m : Automaton) → WellFormed m → RuleWritten m (ruleBytes m)
-rule-written m wf =
-    record {
-      count = rule-bytes-length m;
-      cells = λ q a h k.
-          rule-bytes-at m q a (omega (arith, wf .few-states)) (omega (arith, wf .few-symbols)) ∙ cell-byte-at m q a h k;
-      past-states = λ q a past h k. rule-bytes-at m q a h k ∙ cell-byte-past m q a (inl past);
-      past-symbols = λ q a h past k. rule-bytes-at m q a h k ∙ cell-byte-past m q a (inr past);
-    }
 
 -- the rule buffer after the call
 pub rule-bytes-say : RuleBytesSay

@@ -7,7 +7,7 @@ use lib.Dec.{eqb, ltb}
 use lib.ListN.{replicate}
 use Rattle.callnumber.specs.CallNumber.{acceptedFrom}
 use Rattle.automaton.specs.Automaton.{Automaton}
-use Rattle.automaton.specs.Table.{ruleBytes}
+use Rattle.automaton.specs.Table.{ruleSize, ruleBytes}
 use Rattle.jobfile.specs.File.{Answer, accepted, turned}
 use Rattle.buffer.specs.Buffer.{workSize}
 use Rattle.admission.specs.Admission.{admitted}
@@ -15,10 +15,6 @@ use Rattle.ruleoutcome.specs.declared.rule.RuleNumbers.{RuleNumbers}
 use Rattle.ruleoutcome.specs.declared.rule.RuleAnswer.{RuleAnswer}
 use Rattle.ruleoutcome.specs.declared.rule.RuleAnswer.the-variants.{Rule, Refused}
 use Rattle.ruleoutcome.specs.declared.rule.JobRule.{JobRule}
-
--- "the rule's rows are 256 bytes"
-abbrev pub ruleSize : ℕ
-ruleSize = 256
 
 -- "any other length is refused as 13 for the rule": a rule buffer is looked at when nothing else is refused
 abbrev pub fitted : Answer → ℕ → Answer

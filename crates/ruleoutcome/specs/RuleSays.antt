@@ -7,24 +7,17 @@ use mathlib.Core.Bool.{cond}
 use mathlib.Core.List.{List}
 use Prim.Native.Nat.{ℕ, _+_, _*_, _/_, _%_, _^_, _≤_, _<_}
 use lib.Dec.{ltb}
-use lib.ListN.{length, getD, replicate}
+use lib.ListN.{length, replicate}
 use Rattle.callnumber.specs.CallNumber.{acceptedFrom}
-use Rattle.automaton.specs.Automaton.{Automaton, automatonOf, next, SameRule}
-use Rattle.automaton.specs.Table.{tableOf}
+use Rattle.automaton.specs.Automaton.{automatonOf, SameRule}
+use Rattle.automaton.specs.Table.{ruleSize, tableOf, RuleWritten}
 use Rattle.job.specs.Job.{Job}
 use Rattle.jobfile.specs.File.{Answer, accepted, turned, maxFile, readJob}
 use Rattle.buffer.specs.Buffer.{workSize, cleared}
 use Rattle.admission.specs.Admission.{workAfter}
 use Rattle.ruleoutcome.specs.declared.rule.RuleAnswer.{RuleAnswer}
 use Rattle.ruleoutcome.specs.declared.rule.RuleAnswer.the-variants.{Rule, Refused}
-use Rattle.ruleoutcome.specs.RuleCall.{ruleSize, ruleAnswer, ruledOf, ruleAfter, ruleValue, ruleNumber}
-
--- the bytes of a rule: 256 in row order, a next state for each state and symbol, and zero past S or A
-pub record RuleWritten (m : Automaton) (bytes : List ℕ) : Type 0 where
-  pub count : length bytes ≡ ruleSize
-  pub cells : (q a : ℕ) → q < m .states → a < m .symbols → getD bytes (q * 16 + a) 0 ≡ next m q a
-  pub past-states : (q a : ℕ) → m .states ≤ q → q < 16 → a < 16 → getD bytes (q * 16 + a) 0 ≡ 0
-  pub past-symbols : (q a : ℕ) → q < 16 → m .symbols ≤ a → a < 16 → getD bytes (q * 16 + a) 0 ≡ 0
+use Rattle.ruleoutcome.specs.RuleCall.{ruleAnswer, ruledOf, ruleAfter, ruleValue, ruleNumber}
 
 -- the rule buffer after the call, for what the file spells and what is answered: the job's rule, beside its S, A and final set; or as it was,
 -- beside the refusal's number

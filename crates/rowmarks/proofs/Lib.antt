@@ -1,0 +1,4 @@
+-- The laws that the proofs of the functions cite.
+-- Assumes nothing.
+pub mod SpanLaws
+pub mod RowLaws
