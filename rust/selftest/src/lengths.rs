@@ -162,8 +162,8 @@ fn texts_of_rows(calls: &mut Calls) -> Result<(), String> {
     for len in LENGTHS.into_iter().chain(around).chain(past) {
         for text in &both {
             for rule in LENGTHS.into_iter().chain(HIGH.map(|high| RULE_LEN + high)) {
-                // of most texts the right length of the rule buffer and those beside it are enough
-                if !len.is_multiple_of(ROW) && rule.abs_diff(RULE_LEN) > 1 {
+                // of most texts the right length of the rule buffer is enough
+                if ![0, RULE_LEN, ROWS_LEN].contains(&len) && rule != RULE_LEN {
                     continue;
                 }
                 let number = calls.rows(&Case {

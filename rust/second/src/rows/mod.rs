@@ -90,17 +90,13 @@ pub fn make(call: &Call, slip: Option<Slip>) -> Outcome {
     };
     let given = making.given(call.given);
     let (rows, of_rows) = making.rows(call.text, given);
-    let pairs = Pairs {
-        slip,
-        given,
-        rows: &rows,
-    };
     let of_given = making.given_refusal(call.text, given);
     // pairs there are only where S and A are counts
-    let (twice, none) = match of_given {
-        None => (pairs.twice(), pairs.none()),
-        Some(_) => (None, None),
+    let pairs = match of_given {
+        None => Pairs::of(slip, given, &rows),
+        Some(_) => Pairs::none_of(slip, given, &rows),
     };
+    let (twice, none) = (pairs.twice(), pairs.none());
     let tests = making.in_order([rule.refusal(), of_given, of_rows, twice, none], call);
     let (answer, bytes) = match tests.into_iter().flatten().next() {
         None => (Answer::Made(making.added(given, &rows)), pairs.table(rule)),

@@ -3,28 +3,50 @@ use super::{Given, Row};
 use crate::rulebuffer::{RuleBuffer, RULE};
 use crate::slip::Slip;
 
-/// The pairs of states and symbols, and the rows that name them.
-pub(super) struct Pairs<'a> {
-    pub slip: Option<Slip>,
-    pub given: Given,
-    pub rows: &'a [Row],
+/// A pair of a state and a symbol, with the places of the rows that name it.
+struct Pair {
+    state: u64,
+    symbol: u64,
+    rows: Vec<usize>,
 }
 
-impl Pairs<'_> {
-    fn slips(&self, slip: Slip) -> bool {
-        self.slip == Some(slip)
+/// The pairs of states and symbols, and the rows that name them.
+pub(super) struct Pairs<'a> {
+    slip: Option<Slip>,
+    given: Given,
+    rows: &'a [Row],
+    all: Vec<Pair>,
+}
+
+impl<'a> Pairs<'a> {
+    /// All pairs of the states and symbols given.
+    pub fn of(slip: Option<Slip>, given: Given, rows: &'a [Row]) -> Self {
+        let mut pairs = Pairs::none_of(slip, given, rows);
+        for state in 0..given.states {
+            for symbol in 0..given.symbols {
+                let rows = pairs.naming(state, symbol);
+                pairs.all.push(Pair {
+                    state,
+                    symbol,
+                    rows,
+                });
+            }
+        }
+        pairs
     }
 
-    /// Every pair.
-    fn all(&self) -> impl Iterator<Item = (u64, u64)> {
-        let Given {
-            states, symbols, ..
-        } = self.given;
-        (0..states).flat_map(move |state| (0..symbols).map(move |symbol| (state, symbol)))
+    /// No pair.
+    pub fn none_of(slip: Option<Slip>, given: Given, rows: &'a [Row]) -> Self {
+        Pairs {
+            slip,
+            given,
+            rows,
+            all: Vec::new(),
+        }
     }
 
     /// The places of the rows that name a pair: its state is from a row's first to its last, and its symbol is.
-    fn naming(&self, (state, symbol): (u64, u64)) -> Vec<usize> {
+    fn naming(&self, state: u64, symbol: u64) -> Vec<usize> {
         let names = |row: &Row| {
             let ([first, last], [low, high]) = (row.states, row.symbols);
             let of_state = match self.slip {
@@ -47,15 +69,13 @@ impl Pairs<'_> {
 
     /// How many pairs the rows name too many, or too few below 0.
     fn too_many(&self) -> i64 {
-        self.all()
-            .map(|pair| self.naming(pair).len() as i64 - 1)
-            .sum()
+        let more = |pair: &Pair| pair.rows.len() as i64 - 1;
+        self.all.iter().map(more).sum()
     }
 
     /// 18: two rows name one pair.
     pub fn twice(&self) -> Option<u64> {
-        let is_twice = |pair| {
-            let rows = self.naming(pair);
+        let is_twice = |Pair { rows, .. }: &Pair| {
             let next = |place: usize| self.rows[place].next;
             let mut both = rows.windows(2);
             match self.slip {
@@ -71,7 +91,7 @@ impl Pairs<'_> {
         };
         let refused = match self.slip {
             Some(Slip::PairsOnlyCounted) => self.too_many() > 0,
-            _ => self.all().any(is_twice),
+            _ => self.all.iter().any(is_twice),
         };
         let number = match self.slip {
             Some(Slip::TwiceAs17) => 17,
@@ -86,20 +106,20 @@ impl Pairs<'_> {
         let Given {
             states, symbols, ..
         } = self.given;
-        let has_none = |pair: (u64, u64)| {
-            let is_last = pair == (states - 1, symbols - 1);
+        let has_none = |pair: &Pair| {
+            let is_last = (pair.state, pair.symbol) == (states - 1, symbols - 1);
             let is_tested = match self.slip {
                 Some(Slip::PairWithoutRowGoesTo0 | Slip::PairWithoutRowStays) => false,
                 Some(Slip::NoRowsAccepted) => !self.rows.is_empty(),
                 Some(Slip::LastPairNotTested) => !is_last,
-                Some(Slip::FirstStateNotTested) => pair.0 > 0,
+                Some(Slip::FirstStateNotTested) => pair.state > 0,
                 _ => true,
             };
-            is_tested && self.naming(pair).is_empty()
+            is_tested && pair.rows.is_empty()
         };
         let refused = match self.slip {
             Some(Slip::PairsOnlyCounted) => self.too_many() < 0,
-            _ => self.all().any(has_none),
+            _ => self.all.iter().any(has_none),
         };
         let number = match self.slip {
             Some(Slip::NoneAs17) => 17,
@@ -110,35 +130,35 @@ impl Pairs<'_> {
     }
 
     /// The next state of a pair: "every cell holds the next state of its one row".
-    fn next(&self, pair: (u64, u64)) -> u64 {
-        let rows = self.naming(pair);
+    fn next(&self, pair: &Pair) -> u64 {
         let row = match self.slip {
-            Some(Slip::FirstRowCounts) => rows.first(),
-            _ => rows.last(),
+            Some(Slip::FirstRowCounts) => pair.rows.first(),
+            _ => pair.rows.last(),
         };
         match row {
             Some(&place) => self.rows[place].next,
-            None if self.slips(Slip::PairWithoutRowStays) => pair.0,
+            None if self.slip == Some(Slip::PairWithoutRowStays) => pair.state,
             None => 0,
         }
     }
 
     /// The bytes of the rule.
     pub fn table(&self, rule: RuleBuffer) -> Vec<Option<u8>> {
-        let Given {
-            states, symbols, ..
-        } = self.given;
-        let next = |state: usize, symbol: usize| self.next((state as u64, symbol as u64));
-        rule.table(states as usize, symbols as usize, next)
+        let (states, symbols) = (self.given.states as usize, self.given.symbols as usize);
+        let next = |state: usize, symbol: usize| self.next(&self.all[symbols * state + symbol]);
+        rule.table(states, symbols, next)
     }
 
     /// The cells of pairs that have a row, and no others.
     pub fn named_cells(&self) -> Vec<Option<u8>> {
-        let cell = |place: usize| {
-            let pair = (place as u64 / 16, place as u64 % 16);
-            let is_named = !self.naming(pair).is_empty();
-            is_named.then(|| self.next(pair) as u8)
-        };
-        (0..RULE).map(cell).collect()
+        let mut cells = vec![None; RULE];
+        for pair in &self.all {
+            let place = 16 * pair.state + pair.symbol;
+            let is_named = !pair.rows.is_empty();
+            if let Some(cell) = cells.get_mut(place as usize) {
+                *cell = is_named.then(|| self.next(pair) as u8);
+            }
+        }
+        cells
     }
 }
