@@ -585,12 +585,18 @@ slips! {
     ROWS_GIVEN {
         /// Of S the lowest 8 bits count.
         GivenStatesCutTo8Bits,
+        /// Of S the lowest 16 bits count.
+        GivenStatesCutTo16Bits,
         /// Of S the lowest 32 bits count.
         GivenStatesCutTo32Bits,
         /// Of A the lowest 8 bits count.
         GivenSymbolsCutTo8Bits,
         /// Of A the lowest 16 bits count.
         GivenSymbolsCutTo16Bits,
+        /// Of A the lowest 32 bits count.
+        GivenSymbolsCutTo32Bits,
+        /// Of the final set the lowest 8 bits count.
+        GivenFinalsCutTo8Bits,
         /// Of the final set the lowest 16 bits count.
         GivenFinalsCutTo16Bits,
         /// Of the final set the lowest 32 bits count.

@@ -14,37 +14,29 @@ const ROWS: Kind = Kind {
 impl Making {
     /// S, A and the final set as they are taken; only a slip alters them.
     pub(super) fn given(self, given: Given) -> Given {
-        let Given {
-            states,
-            symbols,
-            finals,
-        } = given;
-        match self.slip {
-            Some(Slip::GivenStatesCutTo8Bits) => Given {
-                states: states % 256,
-                ..given
-            },
-            Some(Slip::GivenStatesCutTo32Bits) => Given {
-                states: states % (1 << 32),
-                ..given
-            },
-            Some(Slip::GivenSymbolsCutTo8Bits) => Given {
-                symbols: symbols % 256,
-                ..given
-            },
-            Some(Slip::GivenSymbolsCutTo16Bits) => Given {
-                symbols: symbols % 65_536,
-                ..given
-            },
-            Some(Slip::GivenFinalsCutTo16Bits) => Given {
-                finals: finals % 65_536,
-                ..given
-            },
-            Some(Slip::GivenFinalsCutTo32Bits) => Given {
-                finals: finals % (1 << 32),
-                ..given
-            },
-            _ => given,
+        let cut = |number: u64, slips: &[(Slip, u32)]| {
+            let slip = slips.iter().find(|(slip, _)| self.slips(*slip));
+            slip.map_or(number, |(_, bits)| number % (1 << bits))
+        };
+        let of_states = [
+            (Slip::GivenStatesCutTo8Bits, 8),
+            (Slip::GivenStatesCutTo16Bits, 16),
+            (Slip::GivenStatesCutTo32Bits, 32),
+        ];
+        let of_symbols = [
+            (Slip::GivenSymbolsCutTo8Bits, 8),
+            (Slip::GivenSymbolsCutTo16Bits, 16),
+            (Slip::GivenSymbolsCutTo32Bits, 32),
+        ];
+        let of_finals = [
+            (Slip::GivenFinalsCutTo8Bits, 8),
+            (Slip::GivenFinalsCutTo16Bits, 16),
+            (Slip::GivenFinalsCutTo32Bits, 32),
+        ];
+        Given {
+            states: cut(given.states, &of_states),
+            symbols: cut(given.symbols, &of_symbols),
+            finals: cut(given.finals, &of_finals),
         }
     }
 
