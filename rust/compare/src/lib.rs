@@ -6,7 +6,7 @@ pub mod guarded;
 pub mod library;
 pub mod memory;
 pub mod on_file;
-pub mod on_work;
+pub mod on_job;
 pub mod pricing;
 pub mod promise;
 pub mod records;

@@ -354,8 +354,8 @@ fn most_files_of_every_generator_have_zeros() {
         .flat_map(|job| checking::cases(&mut random, job))
         .collect();
     // of the others `refused` makes the files
-    served.retain(|case| case.unread.is_none());
-    checked.retain(|case| case.unread.is_none());
+    served.retain(|case| case.on.unread.is_none());
+    checked.retain(|case| case.on.unread.is_none());
     let refusals = NUMBERS.map(|number| {
         let files = jobs
             .iter()
@@ -364,8 +364,8 @@ fn most_files_of_every_generator_have_zeros() {
     });
     let damaged = (0..1_000).map(|_| Damaged::random(&mut random).file);
     let damaged = ("damaged".to_string(), zeros_in(damaged));
-    let served = zeros_in(served.into_iter().map(|case| case.file));
-    let checked = zeros_in(checked.into_iter().map(|case| case.file));
+    let served = zeros_in(served.into_iter().map(|case| case.on.file));
+    let checked = zeros_in(checked.into_iter().map(|case| case.on.file));
     let calls = [
         ("served".to_string(), served),
         ("checked".to_string(), checked),

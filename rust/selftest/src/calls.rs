@@ -2,6 +2,7 @@
 use crate::tally::Tally;
 use dapohiru::numbers::ACCEPTED;
 use dapohiru_compare::library::CALLS;
+use dapohiru_compare::on_job::JobLent;
 use dapohiru_compare::pricing::{By, Case};
 use dapohiru_compare::seen::Seen;
 use dapohiru_compare::{checking, rows, ruling, serving};
@@ -69,9 +70,11 @@ impl Calls {
         rule: usize,
     ) -> Result<u64, String> {
         let case = ruling::Case {
-            file: file.to_vec(),
-            unread: held.err(),
-            work_len: work,
+            on: JobLent {
+                file: file.to_vec(),
+                unread: held.err(),
+                work_len: work,
+            },
             rule_len: rule,
             ..ruling::Case::of(held.unwrap_or(&pair()))
         };
@@ -167,7 +170,8 @@ impl Calls {
             _ => prices::any(random),
         };
         let mut case = Case::of(&job, plan, volumes);
-        (case.checking.file, case.checking.unread) = (file.to_vec(), unread);
+        let on = &mut case.checking.on;
+        (on.file, on.unread) = (file.to_vec(), unread);
         self.same_price(&case)?;
         self.same_price(&case.by(prices))
     }
@@ -178,8 +182,8 @@ impl Calls {
             Answer::Cents(cents) => ACCEPTED + cents,
             Answer::Refused(number) => number,
         };
-        let checking::Case { file, plan, .. } = &case.checking;
-        let number = self.price(file, plan, &case.volumes, case.prices.as_deref());
+        let checking::Case { on, plan, .. } = &case.checking;
+        let number = self.price(&on.file, plan, &case.volumes, case.prices.as_deref());
         if number == wanted {
             return Ok(());
         }

@@ -25,19 +25,19 @@ fn job_files_volume_files_and_price_files_that_are_alike_get_the_same_number() {
         };
         for case in cases(&mut random, &job) {
             let wanted = calls.agree(format_args!("job {number}"), &case);
-            let files = alike(&mut random, &case.checking.file);
+            let files = alike(&mut random, &case.checking.on.file);
             let volumes = alike(&mut random, &case.volumes);
             let prices = case.prices.as_ref().map(|file| alike(&mut random, file));
             // every two of the three files are spelled in all pairs of ways
             for (one, two) in (0..9).map(|pair| (pair / 3, pair % 3)) {
                 let mut other = case.clone();
-                other.checking.file.clone_from(&files[one]);
+                other.checking.on.file.clone_from(&files[one]);
                 other.volumes.clone_from(&volumes[two]);
                 other.prices = prices.as_ref().map(|files| files[(one + two) % 3].clone());
                 let answer = calls.agree(format_args!("job {number}"), &other);
                 assert_eq!(answer, wanted, "{}\nand {}", case.words(), other.words());
                 for (name, is_other) in [
-                    ("job files", other.checking.file != files[0]),
+                    ("job files", other.checking.on.file != files[0]),
                     ("volume files", other.volumes != volumes[0]),
                     (
                         "price files",
