@@ -96,12 +96,16 @@ fn rows_that_name_every_pair_once_make_the_rule_that_they_paint() {
     let (mut sizes, mut counts) = (BTreeSet::new(), BTreeSet::new());
     for number in 0..4_096 {
         // every count of states and of symbols
+        let (states, symbols) = (1 + number % 16, 1 + number / 16 % 16);
         let given = Given {
-            states: 1 + number % 16,
-            symbols: 1 + number / 16 % 16,
-            finals: random.set(1 + number % 16),
+            states,
+            symbols,
+            finals: random.set(states),
         };
-        let rows = rows::rows(&mut random, given);
+        let (given, rows) = match number {
+            0 => rows::most_rows(&mut random),
+            _ => (given, rows::rows(&mut random, given)),
+        };
         sizes.insert((given.states, given.symbols));
         counts.insert(rows.len());
         let case = Case::of(given, &rows).with_zeros(&mut random);

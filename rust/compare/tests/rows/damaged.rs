@@ -64,7 +64,7 @@ fn every_damage_of_the_rows_of_pair_agrees() {
 }
 
 #[test]
-fn every_number_of_the_rows_of_pair_agrees_under_other_sizes() {
+fn rows_of_pair_agree_under_other_sizes() {
     let mut calls = Calls::new();
     let (given, rows) = of_rule(&pair());
     let text = spell(&lines(&rows));

@@ -81,25 +81,13 @@ fn text_of_more_than_8192_bytes_is_17_whatever_it_holds() {
     for library in LIBRARIES {
         let mut memory = Memory::new(library);
         for (given, sound) in [(given, &most), (few.0, &few.1)] {
-            let cut = [8, 13, 16].map(|bits| sound.len() + (1 << bits));
+            let cut = [13, 16].map(|bits| sound.len() + (1 << bits));
             for len in (LONGEST + 1..=LONGEST + 2 * ROW).chain(cut) {
                 for fill in [&b"\n"[..], b" ", b"Q", b"\0", &sound[..]] {
                     let more = fill.repeat(len / fill.len() + 1);
                     let longer = [&sound[..], &more].concat();
                     let seen = memory.call(&longer[..len], given, RULE).unwrap();
-                    // 256 bytes more than the few rows of PAIR are no long text
-                    assert_eq!(
-                        (seen.number, seen.written),
-                        (
-                            if len > LONGEST || fill.len() == 1 {
-                                17
-                            } else {
-                                18
-                            },
-                            vec![]
-                        ),
-                        "{len} bytes"
-                    );
+                    assert_eq!((seen.number, seen.written), (17, vec![]), "{len} bytes");
                 }
             }
         }

@@ -74,7 +74,7 @@ fn rule_of_pair_in_few_rows_is_its_three_rows_and_zeros() {
     let mut calls = Calls::new();
     let wanted = table(&[&[1, 0, 0], &[1, 0, 2], &[1, 0, 2]]);
     assert_eq!(made(&mut calls, OF_PAIR, PAIR), Ok(wanted.clone()));
-    // three rows are enough where the last covers two states, and one of them comes first
+    // the last row first
     let in_another_order = [&PAIR[96..], &PAIR[..96]].concat();
     assert_eq!(made(&mut calls, OF_PAIR, &in_another_order), Ok(wanted));
 }
