@@ -71,6 +71,48 @@ fn random_texts_agree() {
 }
 
 #[test]
+fn all_texts_of_at_most_two_rows_agree_where_there_are_at_most_two_states_and_symbols() {
+    // every row whose numbers are 0, 1 or 2
+    let row = |mut number: usize| {
+        let mut field = || {
+            let digit = number % 3;
+            number /= 3;
+            digit as u64
+        };
+        Row {
+            states: [field(), field()],
+            symbols: [field(), field()],
+            next: field(),
+        }
+    };
+    let every: Vec<_> = (0..3_usize.pow(5)).map(row).collect();
+    let mut texts = vec![vec![]];
+    texts.extend(every.iter().map(|&row| vec![row]));
+    for &one in &every {
+        texts.extend(every.iter().map(|&other| vec![one, other]));
+    }
+    let mut memory = Memory::new(CALLS);
+    let mut counts = Counts::default();
+    for (states, symbols) in [(1, 1), (1, 2), (2, 1), (2, 2)] {
+        let given = Given {
+            states,
+            symbols,
+            finals: 1,
+        };
+        for rows in &texts {
+            let case = Case::of(given, rows);
+            let compared = case.compare(&mut memory, None);
+            let seen = counts.agree("two rows", compared, |seen| refused(seen.number));
+            if refused(seen.number).is_none() {
+                assert_eq!(seen.table(), Some(painted(rows)));
+            }
+        }
+    }
+    counts.print("all texts of two rows");
+    counts.came([None, Some(17), Some(18), Some(19)]);
+}
+
+#[test]
 fn plain_program_of_the_benchmark_agrees() {
     let mut random = Random::of_this_run();
     for _ in 0..2_000 {
