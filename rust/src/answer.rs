@@ -2,8 +2,9 @@
 use std::{error, fmt};
 
 /// The number of a refusal: 1 for the file's length, 2 for a buffer, 3 to 10 for what the file holds,
-/// 11 and 12 for the plan, 13 for the rule, or for the length of the buffer that a job's rule is written to,
-/// 14 for the symbol, 15 for the record, 16 for the volume file, 28 for the price file.
+/// 11 and 12 for the plan, 13 for the rule, or for the length of the buffer that a rule is written to,
+/// 14 for the symbol, 15 for the record, 16 for the volume file, 17 for rule rows, their numbers or those
+/// given with them, 18 for two rows of one pair, 19 for a pair without a row, 28 for the price file.
 ///
 /// ```
 /// let refusal = dapohiru::plan(b"", &mut [0; 65_536], &mut [0; 512]).unwrap_err();

@@ -73,4 +73,15 @@ extern "C" {
         rule: *mut u8,
         rule_len: usize,
     ) -> u64;
+
+    /// `#[no_mangle] pub extern "C" fn dapohiru_rows(rows: &[u8], states: u64, symbols: u64, finals: u64, rule: &mut [u8]) -> u64`
+    pub fn dapohiru_rows(
+        rows: *const u8,
+        rows_len: usize,
+        states: u64,
+        symbols: u64,
+        finals: u64,
+        rule: *mut u8,
+        rule_len: usize,
+    ) -> u64;
 }

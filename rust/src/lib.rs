@@ -1,5 +1,5 @@
-//! Planning, listing, the plan check, the journal price of a plan, the rule of a job and the event step of
-//! the monitor, for Rust: safe forms of the C calls in the proved static library.
+//! Planning, listing, the plan check, the journal price of a plan, the rule of a job, rule rows and the
+//! event step of the monitor, for Rust: safe forms of the C calls in the proved static library.
 //!
 //! A job file holds a rule over events and the flow graph of a procedure. [`Job`] is what a service makes of
 //! it: the plan, the rule, the points and the entries, with functions that take the procedure's events.
@@ -7,9 +7,9 @@
 //! Below it are the proved calls. [`plan`] says which points of the graph must stay watched, [`list`] what
 //! was found at each, [`check`] whether somebody else's plan is faithful, [`price()`] what the journal lines of
 //! a plan's watched points cost a day, [`price_by`] what they cost by an association's own prices; [`rule()`]
-//! takes the rule out of the file, and [`event`] (or [`Rule::event`]) takes one event on the record of a
-//! running monitor.
-//! A refusal carries its number, 1 to 16 or 28, as documents 01 and 02 list it. The functions of
+//! takes the rule out of the file, [`rows()`] makes one from the rows of an office, and [`event`] (or
+//! [`Rule::event`]) takes one event on the record of a running monitor.
+//! A refusal carries its number, 1 to 19 or 28, as documents 01 and 02 list it. The functions of
 //! [`numbers`] are the C calls as they are; those of [`planfile`] read and write plans as files.
 //!
 //! The calls keep nothing between them and share nothing: any number of threads may be in them, each
@@ -105,12 +105,14 @@ pub mod planfile;
 mod price;
 mod readers;
 mod record;
+mod rows;
 
 pub use answer::{Counts, Refusal, Report, Verdict};
 pub use error::{JobError, NoPoint, NotAdmitted, ReportError};
 pub use job::{Entry, Job, Point};
 pub use price::{price, price_by};
 pub use record::{rule, Record, Rule};
+pub use rows::rows;
 
 /// The Rust code of docs/SERVICE.md, to be compiled with the examples.
 #[cfg(doctest)]
@@ -123,6 +125,8 @@ pub const JOB_LEN: usize = 49_914;
 pub const VOLUMES_LEN: usize = 7_168;
 /// The length of a price file: 14 bytes for each of 16 symbols.
 pub const PRICES_LEN: usize = 224;
+/// The greatest length of a text of rule rows: 32 bytes for each of 256 rows.
+pub const ROWS_LEN: usize = 8_192;
 /// The least length of a work buffer, and the bytes of it that an answer clears.
 pub const WORK_LEN: usize = 65_536;
 /// The least length of a plan buffer.

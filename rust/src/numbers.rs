@@ -1,9 +1,10 @@
 //! The C calls as they are, on byte slices, in the order of their C arguments: each returns one number.
 //!
-//! A refusal is its number, 1 to 16 or 28. Every other answer has 2^48 added: planning returns event
+//! A refusal is its number, 1 to 19 or 28. Every other answer has 2^48 added: planning returns event
 //! nodes times 2^32, watched points times 2^16 and passes, listing the length of its lines, the check 0
-//! for faithful and 1 for different, pricing the cents, the event step 0 for quiet and 1 for alarm, and
-//! the call for a job's rule the states times 2^32, the symbols times 2^16 and the set of final states.
+//! for faithful and 1 for different, pricing the cents, the event step 0 for quiet and 1 for alarm, the
+//! call for a job's rule the states times 2^32, the symbols times 2^16 and the set of final states, and
+//! the call for rule rows 0.
 //!
 //! ```
 //! use dapohiru::numbers::{event, ALARM};
@@ -13,7 +14,7 @@
 //! ```
 use crate::ffi;
 
-/// What is added to the answer of an accepted call; the number of faithful and of quiet.
+/// What is added to the answer of an accepted call; the number of faithful, of quiet and of a rule from rows.
 pub const ACCEPTED: u64 = 1 << 48;
 /// The number of a plan that is not faithful.
 pub const DIFFERENT: u64 = ACCEPTED + 1;
@@ -135,6 +136,38 @@ pub fn rule(job: &[u8], work: &mut [u8], rule: &mut [u8]) -> u64 {
             job.len(),
             work.as_mut_ptr(),
             work.len(),
+            rule.as_mut_ptr(),
+            rule.len(),
+        )
+    }
+}
+
+/// The number of [`crate::rows`]; the table is written to `rule`, which is exactly 256 bytes, or else the
+/// call is refused as 13, before anything else is looked at. A refusal leaves `rule` as it was.
+///
+/// ```
+/// use dapohiru::numbers::{rows, ACCEPTED};
+///
+/// // one row for both states and the only symbol
+/// let text = b"Q     0     1     0     0     1\n";
+/// let mut table = [7; 256];
+/// assert_eq!(rows(text, 2, 1, 0b10, &mut table[1..]), 13);
+/// assert_eq!(table, [7; 256]);
+/// assert_eq!(rows(text, 2, 1, 0b10, &mut table), ACCEPTED);
+/// assert_eq!((table[0], table[16]), (1, 1));
+/// assert_eq!(table.iter().sum::<u8>(), 2);
+/// ```
+#[inline]
+pub fn rows(rows: &[u8], states: u64, symbols: u64, finals: u64, rule: &mut [u8]) -> u64 {
+    // SAFETY: each pointer and length are of one slice, `rows` is only read, and nothing else holds
+    // `rule` during the call.
+    unsafe {
+        ffi::dapohiru_rows(
+            rows.as_ptr(),
+            rows.len(),
+            states,
+            symbols,
+            finals,
             rule.as_mut_ptr(),
             rule.len(),
         )

@@ -2,14 +2,17 @@
 use crate::tally::Tally;
 use dapohiru::numbers::ACCEPTED;
 use dapohiru_compare::library::CALLS;
+use dapohiru_compare::on_job::JobLent;
 use dapohiru_compare::pricing::{By, Case};
-use dapohiru_compare::{checking, ruling, serving};
+use dapohiru_compare::seen::Seen;
+use dapohiru_compare::{checking, rows, ruling, serving};
 use dapohiru_generators::random::Random;
 use dapohiru_generators::samples::pair;
 use dapohiru_generators::{prices, volumes};
 use dapohiru_second::job::Job;
 use dapohiru_second::pricing::Answer;
 use dapohiru_second::reading::{self, WORK};
+use dapohiru_second::rows::Given;
 use dapohiru_second::serving::Service;
 
 /// An allocation that holds these bytes and no more.
@@ -67,9 +70,11 @@ impl Calls {
         rule: usize,
     ) -> Result<u64, String> {
         let case = ruling::Case {
-            file: file.to_vec(),
-            unread: held.err(),
-            work_len: work,
+            on: JobLent {
+                file: file.to_vec(),
+                unread: held.err(),
+                work_len: work,
+            },
             rule_len: rule,
             ..ruling::Case::of(held.unwrap_or(&pair()))
         };
@@ -77,18 +82,25 @@ impl Calls {
         let (file, mut work, mut rule) = (exact(file), filled(work, 9), filled(rule, UNWRITTEN));
         let number = (CALLS.rule)(&file, &mut work, &mut rule);
         self.tally.add_taken(ruling::Said::of(number));
-        let mut bytes = filled(rule.len(), UNWRITTEN);
-        for (byte, written) in bytes.iter_mut().zip(wanted.written) {
-            *byte = written.unwrap_or(UNWRITTEN);
-        }
-        if (number, &rule) == (wanted.number, &bytes) {
-            return Ok(number);
-        }
-        Err(format!(
-            "{number:#x} with rule {rule:?}, and {:#x} with rule {bytes:?} wanted; {}",
-            wanted.number,
-            case.words()
-        ))
+        as_wanted(number, &rule, wanted, || case.words())
+    }
+
+    /// Makes a rule from rows as the second implementation does; gives the number.
+    pub fn rows(&mut self, case: &rows::Case) -> Result<u64, String> {
+        let rows::Case {
+            text,
+            given,
+            rule_len,
+        } = case;
+        let (text, mut rule) = (exact(text), filled(*rule_len, UNWRITTEN));
+        let Given {
+            states,
+            symbols,
+            finals,
+        } = *given;
+        let number = (CALLS.rows)(&text, states, symbols, finals, &mut rule);
+        self.tally.add_made(number);
+        as_wanted(number, &rule, case.wanted(None), || case.words())
     }
 
     /// Prices a plan, by a price file if there is one, each buffer an allocation of its own size; gives the number.
@@ -158,7 +170,8 @@ impl Calls {
             _ => prices::any(random),
         };
         let mut case = Case::of(&job, plan, volumes);
-        (case.checking.file, case.checking.unread) = (file.to_vec(), unread);
+        let on = &mut case.checking.on;
+        (on.file, on.unread) = (file.to_vec(), unread);
         self.same_price(&case)?;
         self.same_price(&case.by(prices))
     }
@@ -169,8 +182,8 @@ impl Calls {
             Answer::Cents(cents) => ACCEPTED + cents,
             Answer::Refused(number) => number,
         };
-        let checking::Case { file, plan, .. } = &case.checking;
-        let number = self.price(file, plan, &case.volumes, case.prices.as_deref());
+        let checking::Case { on, plan, .. } = &case.checking;
+        let number = self.price(&on.file, plan, &case.volumes, case.prices.as_deref());
         if number == wanted {
             return Ok(());
         }
@@ -179,6 +192,28 @@ impl Calls {
             case.words()
         ))
     }
+}
+
+/// The number of a call, if it and the rule buffer that the call leaves are as wanted; else both, with the call in
+/// words.
+fn as_wanted(
+    number: u64,
+    rule: &[u8],
+    wanted: Seen,
+    words: impl FnOnce() -> String,
+) -> Result<u64, String> {
+    let mut bytes = filled(rule.len(), UNWRITTEN);
+    for (byte, written) in bytes.iter_mut().zip(wanted.written) {
+        *byte = written.unwrap_or(UNWRITTEN);
+    }
+    if (number, rule) == (wanted.number, &bytes) {
+        return Ok(number);
+    }
+    Err(format!(
+        "{number:#x} with rule {rule:?}, and {:#x} with rule {bytes:?} wanted; {}",
+        wanted.number,
+        words()
+    ))
 }
 
 /// A plan to be checked, with the refusal that it deserves.

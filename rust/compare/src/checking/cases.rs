@@ -1,15 +1,13 @@
 //! Random calls: small jobs with all kinds of plans, and calls with faults.
 use super::memory::{Memory, Seen};
-use crate::memory::start_of;
 use crate::on_file::OnFile;
-use crate::on_work::OnWork;
+use crate::on_job::{JobLent, OnJob};
 use dapohiru_generators::damage::Damaged;
-use dapohiru_generators::faults::{lengthen, possible, refused, short_work, NUMBERS};
+use dapohiru_generators::faults::{possible, NUMBERS};
 use dapohiru_generators::random::Random;
 use dapohiru_generators::small;
 use dapohiru_second::checking::{check, Call, Outcome};
 use dapohiru_second::job::{Job, EVENT};
-use dapohiru_second::reading::WORK;
 use dapohiru_second::slip::Slip;
 use dapohiru_second::walk::Walks;
 
@@ -17,22 +15,13 @@ use dapohiru_second::walk::Walks;
 #[derive(Clone, Debug)]
 pub struct Case {
     pub job: Job,
-    pub file: Vec<u8>,
-    /// The refusal, 3 to 10, that the file deserves.
-    pub unread: Option<u64>,
+    pub on: JobLent,
     pub plan: Vec<u8>,
-    pub work_len: usize,
 }
 
-impl OnFile for Case {
-    fn file(&mut self) -> &mut Vec<u8> {
-        &mut self.file
-    }
-}
-
-impl OnWork for Case {
-    fn work_len(&mut self) -> &mut usize {
-        &mut self.work_len
+impl OnJob for Case {
+    fn lent(&mut self) -> &mut JobLent {
+        &mut self.on
     }
 }
 
@@ -40,40 +29,23 @@ impl Case {
     /// A job and a plan, with a work buffer that is just long enough.
     pub fn of(job: &Job, plan: Vec<u8>) -> Self {
         Case {
-            file: job.file(),
             job: job.clone(),
-            unread: None,
+            on: JobLent::of(job),
             plan,
-            work_len: WORK,
         }
     }
 
     /// A damaged file, with this plan for the job that it holds and a work buffer that is long enough.
     pub fn of_damaged(random: &mut Random, damaged: &Damaged, plan: Vec<u8>) -> Self {
         Case {
-            file: damaged.file.clone(),
-            unread: damaged.unread,
-            ..Case::of(&damaged.job, plan).with_any_work(random)
+            on: JobLent::of_damaged(random, damaged),
+            ..Case::of(&damaged.job, plan)
         }
     }
 
-    /// Replaces the file by one that deserves this refusal.
-    pub fn with_file_fault(mut self, random: &mut Random, number: u64) -> Self {
-        self.file = refused(random, &self.job, number);
-        self.unread = Some(number);
-        self
-    }
-
-    /// Makes the file too long.
-    pub fn with_long_file(mut self, random: &mut Random) -> Self {
-        lengthen(random, &mut self.file);
-        self.unread = self.unread.or(Some(9));
-        self
-    }
-
-    /// Makes the work buffer too short.
-    pub fn with_short_work(mut self, random: &mut Random) -> Self {
-        self.work_len = short_work(random);
+    /// Gives the file or the work buffer the fault that this refusal names, 1 to 10.
+    pub fn with_job_fault(mut self, random: &mut Random, number: u64) -> Self {
+        self.on.put_fault(random, &self.job, number);
         self
     }
 
@@ -108,10 +80,10 @@ impl Case {
     /// What the second implementation leaves, with one slip or with none.
     fn outcome(&self, walks: &Walks, slip: Option<Slip>) -> Outcome {
         let call = Call {
-            file_len: self.file.len(),
-            held: self.unread.map_or(Ok(walks), Err),
+            file_len: self.on.file.len(),
+            held: self.on.held(walks),
             plan: &self.plan,
-            work_len: self.work_len,
+            work_len: self.on.work_len,
         };
         check(&call, slip)
     }
@@ -125,7 +97,7 @@ impl Case {
     /// slip that its walks have.
     pub fn compare(&self, memory: &mut Memory, walks: &Walks) -> Result<Seen, String> {
         let outcome = self.outcome(walks, walks.slip);
-        match memory.call(&self.file, &self.plan, self.work_len) {
+        match memory.call(&self.on.file, &self.plan, self.on.work_len) {
             Ok(seen) if seen == Seen::wanted(&outcome) => Ok(seen),
             Ok(seen) => Err(format!(
                 "the library leaves {seen:?}, and the second implementation {outcome:?}; {}",
@@ -138,11 +110,10 @@ impl Case {
     /// The call in words; of a long file only its start.
     pub fn words(&self) -> String {
         format!(
-            "work buffer of {} bytes, plan {:?}, file of {} bytes:\n{}",
-            self.work_len,
+            "work buffer of {} bytes, plan {:?}, {}",
+            self.on.work_len,
             self.plan,
-            self.file.len(),
-            start_of(&self.file)
+            self.on.words()
         )
     }
 }
@@ -173,12 +144,12 @@ pub fn cases(random: &mut Random, job: &Job) -> Vec<Case> {
 fn faulty_case(random: &mut Random, mut case: Case) -> Case {
     for _ in 0..random.pick(&[1, 1, 2, 2, 3]) {
         case = match random.below(8) {
-            0 => case.with_long_file(random),
-            1 => case.with_short_work(random),
-            2..=3 if case.unread.is_none() => {
+            0 => case.with_job_fault(random, 1),
+            1 => case.with_job_fault(random, 2),
+            2..=3 if case.on.unread.is_none() => {
                 let number = random.pick(&NUMBERS);
                 let number = possible(&case.job, number);
-                case.with_file_fault(random, number)
+                case.with_job_fault(random, number)
             }
             4..=5 => case.with_plan_length_fault(random),
             _ => case.with_plan_byte_fault(random),

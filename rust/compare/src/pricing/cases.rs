@@ -97,7 +97,6 @@ impl Case {
     pub fn with_fault(mut self, random: &mut Random, number: u64) -> Self {
         let case = self.checking;
         self.checking = match number {
-            1 => case.with_long_file(random),
             11 => case.with_plan_length_fault(random),
             12 => case.with_plan_byte_fault(random),
             16 => {
@@ -108,23 +107,17 @@ impl Case {
                 self.prices = Some(prices::refused(random));
                 case
             }
-            _ => case.with_file_fault(random, number),
+            _ => case.with_job_fault(random, number),
         };
         self
     }
 
     /// What the second implementation answers, with one slip or with none.
     pub fn wanted(&self, slip: Option<Slip>) -> Answer {
-        let checking::Case {
-            job,
-            file,
-            unread,
-            plan,
-            ..
-        } = &self.checking;
+        let checking::Case { job, on, plan } = &self.checking;
         let call = Call {
-            file_len: file.len(),
-            held: unread.map_or(Ok(job), Err),
+            file_len: on.file.len(),
+            held: on.held(job),
             plan,
             volumes: &self.volumes,
             prices: self.prices.as_deref(),
@@ -134,8 +127,8 @@ impl Case {
 
     /// The answer of the library, or in words what it changes.
     pub fn answer(&self, memory: &mut Memory) -> Result<Answer, String> {
-        let checking::Case { file, plan, .. } = &self.checking;
-        memory.call(file, plan, &self.volumes, self.prices.as_deref())
+        let checking::Case { on, plan, .. } = &self.checking;
+        memory.call(&on.file, plan, &self.volumes, self.prices.as_deref())
     }
 
     /// The answer of the library, or in words how it differs from the second implementation with this slip or
@@ -154,12 +147,12 @@ impl Case {
 
     /// The call in words; of long files only their starts.
     pub fn words(&self) -> String {
-        let checking::Case { file, plan, .. } = &self.checking;
+        let checking::Case { on, plan, .. } = &self.checking;
         let mut words = format!("plan {plan:?}");
         let files = [
             ("price file", self.prices.as_ref()),
             ("volume file", Some(&self.volumes)),
-            ("file", Some(file)),
+            ("file", Some(&on.file)),
         ];
         for (name, file) in files {
             if let Some(file) = file {
@@ -218,7 +211,7 @@ fn faulty_case(random: &mut Random, mut case: Case, by: By) -> Case {
     for _ in 0..random.pick(&[1, 1, 2, 2, 3]) {
         let number = match random.below(10) {
             0 => 1,
-            1..=2 if case.checking.unread.is_none() => {
+            1..=2 if case.checking.on.unread.is_none() => {
                 possible(&case.checking.job, random.pick(&NUMBERS))
             }
             3 => 11,

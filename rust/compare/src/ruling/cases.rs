@@ -1,53 +1,28 @@
 //! Random calls: jobs with buffers of the right lengths, and calls with faults.
-use super::memory::{self, Memory, MOST_RULE};
-use crate::memory::start_of;
+use super::memory::{self, Memory};
 use crate::on_file::OnFile;
-use crate::on_work::OnWork;
+use crate::on_job::{JobLent, OnJob};
+use crate::rulebuffer::{leaves, wrong_length};
 use crate::seen::{held_to, Seen};
 use dapohiru_generators::damage::Damaged;
-use dapohiru_generators::faults::{lengthen, possible, refused, short_work, NUMBERS};
+use dapohiru_generators::faults::{possible, NUMBERS};
 use dapohiru_generators::random::Random;
 use dapohiru_second::job::Job;
-use dapohiru_second::reading::WORK;
-use dapohiru_second::ruling::{take, Call, RULE};
+use dapohiru_second::rulebuffer::RULE;
+use dapohiru_second::ruling::{take, Call};
 use dapohiru_second::slip::Slip;
-
-/// Lengths of rule buffers that are refused: near the right one, none, and such as are taken for the right one where
-/// high bits are lost.
-pub const LENGTHS: [usize; 11] = [
-    0,
-    1,
-    16,
-    255,
-    257,
-    272,
-    512,
-    WORK - 1,
-    WORK,
-    WORK + 1,
-    MOST_RULE,
-];
 
 /// One call: a job, its file or one like it with a fault, and the lengths of the buffers.
 #[derive(Clone, Debug)]
 pub struct Case {
     pub job: Job,
-    pub file: Vec<u8>,
-    /// The refusal, 3 to 10, that the file deserves.
-    pub unread: Option<u64>,
-    pub work_len: usize,
+    pub on: JobLent,
     pub rule_len: usize,
 }
 
-impl OnFile for Case {
-    fn file(&mut self) -> &mut Vec<u8> {
-        &mut self.file
-    }
-}
-
-impl OnWork for Case {
-    fn work_len(&mut self) -> &mut usize {
-        &mut self.work_len
+impl OnJob for Case {
+    fn lent(&mut self) -> &mut JobLent {
+        &mut self.on
     }
 }
 
@@ -56,9 +31,7 @@ impl Case {
     pub fn of(job: &Job) -> Self {
         Case {
             job: job.clone(),
-            file: job.file(),
-            unread: None,
-            work_len: WORK,
+            on: JobLent::of(job),
             rule_len: RULE,
         }
     }
@@ -66,9 +39,8 @@ impl Case {
     /// A damaged file, with a rule buffer of the right length and a work buffer that is long enough.
     pub fn of_damaged(random: &mut Random, damaged: &Damaged) -> Self {
         Case {
-            file: damaged.file.clone(),
-            unread: damaged.unread,
-            ..Case::of(&damaged.job).with_any_work(random)
+            on: JobLent::of_damaged(random, damaged),
+            ..Case::of(&damaged.job)
         }
     }
 
@@ -76,23 +48,11 @@ impl Case {
     /// file makes another file, so it comes before 1.
     pub fn with_fault(mut self, random: &mut Random, number: u64) -> Self {
         match number {
-            1 => {
-                lengthen(random, &mut self.file);
-                self.unread = self.unread.or(Some(9));
-            }
-            2 => self.work_len = short_work(random),
             13 => {
-                // as many bytes as the rule of the job has, too
-                let cells = self.job.states() * self.job.symbols as usize;
-                let near = random.pick(&[RULE - 1, RULE + 1, cells, 16 * self.job.states()]);
-                let any = random.pick(&LENGTHS);
-                let len = random.pick(&[near, any, any]);
-                self.rule_len = if len == RULE { RULE + 1 } else { len };
+                let (states, symbols) = (self.job.states(), self.job.symbols as usize);
+                self.rule_len = wrong_length(random, states, symbols);
             }
-            _ => {
-                self.file = refused(random, &self.job, number);
-                self.unread = Some(number);
-            }
+            _ => self.on.put_fault(random, &self.job, number),
         }
         self
     }
@@ -100,9 +60,9 @@ impl Case {
     /// What the second implementation wants to be seen, with one slip or with none.
     pub fn wanted(&self, slip: Option<Slip>) -> Seen {
         let call = Call {
-            file_len: self.file.len(),
-            held: self.unread.map_or(Ok(&self.job), Err),
-            work_len: self.work_len,
+            file_len: self.on.file.len(),
+            held: self.on.held(&self.job),
+            work_len: self.on.work_len,
             rule_len: self.rule_len,
         };
         memory::wanted(take(&call, slip))
@@ -112,39 +72,19 @@ impl Case {
     /// none.
     pub fn compare(&self, memory: &mut Memory, slip: Option<Slip>) -> Result<Seen, String> {
         let wanted = self.wanted(slip);
-        let seen = memory.call(&self.file, self.work_len, self.rule_len);
+        let seen = memory.call(&self.on.file, self.on.work_len, self.rule_len);
         held_to(&wanted, seen, leaves, self.words())
     }
 
     /// The call in words; of a long file only its start.
     pub fn words(&self) -> String {
         format!(
-            "rule buffer of {} and work buffer of {} bytes, file of {} bytes:\n{}",
+            "rule buffer of {} and work buffer of {} bytes, {}",
             self.rule_len,
-            self.work_len,
-            self.file.len(),
-            start_of(&self.file)
+            self.on.work_len,
+            self.on.words()
         )
     }
-}
-
-/// What a call leaves, in words: the rule by rows, a byte that is as it was as a dot.
-fn leaves(seen: &Seen) -> String {
-    let Seen {
-        number,
-        written,
-        cleared,
-    } = seen;
-    let shown = |byte: &Option<u8>| byte.map_or(" .".to_string(), |byte| format!("{byte:2}"));
-    let rows: Vec<_> = written
-        .chunks(16)
-        .map(|row| row.iter().map(shown).collect::<Vec<_>>().join(" "))
-        .collect();
-    format!(
-        "number {number:#x}, {cleared} bytes cleared, written {} bytes\n{}",
-        written.len(),
-        rows.join("\n")
-    )
 }
 
 /// The calls of one job: with work buffers of several lengths, and some with one fault or more.
@@ -168,7 +108,7 @@ fn faulty_case(random: &mut Random, mut case: Case) -> Case {
         let number = match random.below(6) {
             0 => 1,
             1 => 2,
-            2..=3 if case.unread.is_none() => possible(&case.job, random.pick(&NUMBERS)),
+            2..=3 if case.on.unread.is_none() => possible(&case.job, random.pick(&NUMBERS)),
             _ => 13,
         };
         case = case.with_fault(random, number);

@@ -1,14 +1,12 @@
 //! Random calls of planning and listing: jobs with buffers that are long enough, and calls with faults.
 use super::memory::{self, Memory, Said, MOST_LENT};
-use crate::memory::start_of;
 use crate::on_file::OnFile;
-use crate::on_work::OnWork;
+use crate::on_job::{JobLent, OnJob};
 use crate::seen::{held_to, Seen};
 use dapohiru_generators::damage::Damaged;
-use dapohiru_generators::faults::{lengthen, possible, refused, short_work, NUMBERS};
+use dapohiru_generators::faults::{possible, NUMBERS};
 use dapohiru_generators::random::Random;
 use dapohiru_second::job::Job;
-use dapohiru_second::reading::WORK;
 use dapohiru_second::serving::{serve, Call, Given, Service};
 use dapohiru_second::slip::Slip;
 
@@ -16,22 +14,13 @@ use dapohiru_second::slip::Slip;
 #[derive(Clone, Debug)]
 pub struct Case {
     pub service: Service,
-    pub file: Vec<u8>,
-    /// The refusal, 3 to 10, that the file deserves.
-    pub unread: Option<u64>,
-    pub work_len: usize,
+    pub on: JobLent,
     pub lent_len: usize,
 }
 
-impl OnFile for Case {
-    fn file(&mut self) -> &mut Vec<u8> {
-        &mut self.file
-    }
-}
-
-impl OnWork for Case {
-    fn work_len(&mut self) -> &mut usize {
-        &mut self.work_len
+impl OnJob for Case {
+    fn lent(&mut self) -> &mut JobLent {
+        &mut self.on
     }
 }
 
@@ -40,9 +29,7 @@ impl Case {
     pub fn of(service: Service, job: &Job) -> Self {
         Case {
             service,
-            file: job.file(),
-            unread: None,
-            work_len: WORK,
+            on: JobLent::of(job),
             lent_len: service.least(),
         }
     }
@@ -50,9 +37,8 @@ impl Case {
     /// A damaged file, with a plan or listing buffer that is just long enough and any work buffer that is.
     pub fn of_damaged(random: &mut Random, service: Service, damaged: &Damaged) -> Self {
         Case {
-            file: damaged.file.clone(),
-            unread: damaged.unread,
-            ..Case::of(service, &damaged.job).with_any_work(random)
+            on: JobLent::of_damaged(random, damaged),
+            ..Case::of(service, &damaged.job)
         }
     }
 
@@ -61,20 +47,12 @@ impl Case {
     pub fn with_fault(mut self, random: &mut Random, job: &Job, number: u64) -> Self {
         let least = self.service.least();
         match number {
-            1 => {
-                lengthen(random, &mut self.file);
-                self.unread = self.unread.or(Some(9));
-            }
-            2 if random.once_in(2) => self.work_len = short_work(random),
-            2 => {
+            2 if !random.once_in(2) => {
                 // enough for the plan or the text, too
                 let some = random.pick(&[0, 1, job.nodes.len(), 500, 511]);
                 self.lent_len = random.pick(&[some, some, least / 2, least - 1, least - 1]);
             }
-            _ => {
-                self.file = refused(random, job, number);
-                self.unread = Some(number);
-            }
+            _ => self.on.put_fault(random, job, number),
         }
         self
     }
@@ -83,9 +61,9 @@ impl Case {
     pub fn wanted(&self, given: &Given, slip: Option<Slip>) -> Seen {
         let call = Call {
             service: self.service,
-            file_len: self.file.len(),
-            held: self.unread.map_or(Ok(given), Err),
-            work_len: self.work_len,
+            file_len: self.on.file.len(),
+            held: self.on.held(given),
+            work_len: self.on.work_len,
             lent_len: self.lent_len,
         };
         memory::wanted(serve(&call, slip))
@@ -95,7 +73,7 @@ impl Case {
     /// slip that what is given has.
     pub fn compare(&self, memory: &mut Memory, given: &Given) -> Result<Seen, String> {
         let wanted = self.wanted(given, given.slip);
-        let seen = memory.call(self.service, &self.file, self.work_len, self.lent_len);
+        let seen = memory.call(self.service, &self.on.file, self.on.work_len, self.lent_len);
         held_to(&wanted, seen, leaves, self.words())
     }
 
@@ -107,12 +85,11 @@ impl Case {
     /// The call in words; of a long file only its start.
     fn words(&self) -> String {
         format!(
-            "{:?}, buffers of {} and {} bytes, file of {} bytes:\n{}",
+            "{:?}, buffers of {} and {} bytes, {}",
             self.service,
             self.lent_len,
-            self.work_len,
-            self.file.len(),
-            start_of(&self.file)
+            self.on.work_len,
+            self.on.words()
         )
     }
 }

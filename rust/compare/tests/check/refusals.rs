@@ -2,7 +2,7 @@
 use dapohiru_compare::checking::{Case, Memory, Said};
 use dapohiru_compare::memory::Counts;
 use dapohiru_compare::on_file::OnFile;
-use dapohiru_compare::on_work::OnWork;
+use dapohiru_compare::on_job::OnJob;
 use dapohiru_compare::wrapper::WRAPPER;
 use dapohiru_generators::faults::NUMBERS;
 use dapohiru_generators::random::Random;
@@ -22,11 +22,9 @@ fn with_plain_node() -> Job {
 /// Gives a call the fault that this refusal names.
 fn with_fault(case: Case, random: &mut Random, number: u64) -> Case {
     match number {
-        1 => case.with_long_file(random),
-        2 => case.with_short_work(random),
         11 => case.with_plan_length_fault(random),
         12 => case.with_plan_byte_fault(random),
-        _ => case.with_file_fault(random, number),
+        _ => case.with_job_fault(random, number),
     }
 }
 

@@ -53,10 +53,10 @@ fn answer_does_not_depend_on_what_the_work_buffer_holds() {
     let mut any = vec![0; WORK];
     for _ in 0..60 {
         let job = small::job(&mut random);
-        for Case { file, plan, .. } in cases(&mut random, &job) {
+        for Case { on, plan, .. } in cases(&mut random, &job) {
             random.fill(&mut any);
             let works = [vec![0; WORK], vec![1; WORK], vec![255; WORK], any.clone()];
-            let answers = works.map(|mut work| check(&file, &plan, &mut work));
+            let answers = works.map(|mut work| check(&on.file, &plan, &mut work));
             assert!(answers.iter().all(|answer| answer == &answers[0]));
             calls += 1;
         }

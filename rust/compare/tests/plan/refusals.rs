@@ -1,7 +1,7 @@
 //! Every refusal, alone and beside another fault.
 use crate::agreement::Calls;
 use dapohiru_compare::on_file::OnFile;
-use dapohiru_compare::on_work::OnWork;
+use dapohiru_compare::on_job::OnJob;
 use dapohiru_compare::serving::{Case, Said};
 use dapohiru_generators::faults::NUMBERS;
 use dapohiru_generators::random::Random;

@@ -133,7 +133,7 @@ fn damaged_job_files_agree() {
         let plan = small::plan(&mut random, &job);
         for by in By::BOTH {
             let mut case = Case::any(&mut random, &job, plan.clone(), by);
-            (case.checking.file, case.checking.unread) = (file.clone(), unread);
+            (case.checking.on.file, case.checking.on.unread) = (file.clone(), unread);
             calls.agree(format_args!("file {number}"), &case);
         }
     }
@@ -154,7 +154,8 @@ fn plain_prices_of_the_benchmark_agree_with_the_second() {
             _ => mixed::small_job(&mut random),
         };
         for case in cases(&mut random, &job) {
-            let checking::Case { file, plan, .. } = &case.checking;
+            let checking::Case { on, plan, .. } = &case.checking;
+            let file = &on.file;
             let cents = match &case.prices {
                 None => price(&mut decoded, file, plan, &case.volumes),
                 Some(prices) => price_by(&mut decoded, file, plan, &case.volumes, prices),
@@ -177,11 +178,11 @@ fn longest_job_file_is_priced_and_one_byte_more_is_1() {
         let plan = small::plan(&mut random, &job);
         for by in By::BOTH {
             let mut case = Case::any(&mut random, &job, plan.clone(), by);
-            assert_eq!(case.checking.file.len(), dapohiru::JOB_LEN);
+            assert_eq!(case.checking.on.file.len(), dapohiru::JOB_LEN);
             let answer = calls.agree(format_args!("job {number}"), &case);
             assert_eq!(refused(answer), None);
-            case.checking.file.push(b'\n');
-            case.checking.unread = Some(9);
+            case.checking.on.file.push(b'\n');
+            case.checking.on.unread = Some(9);
             let answer = calls.agree(format_args!("job {number}"), &case);
             assert_eq!(answer, Answer::Refused(1));
         }

@@ -27,7 +27,7 @@ fn cut_at_every_byte_is_refused_as_16_or_28() {
                     Part::Volumes => (split, None),
                     Part::Prices => ((&volumes[..], &b""[..]), Some(split)),
                 };
-                let answer = memory.call_before(&checking.file, &checking.plan, volumes, prices);
+                let answer = memory.call_before(&checking.on.file, &checking.plan, volumes, prices);
                 let wanted = Answer::Refused(sample.part.kind().refusal);
                 assert_eq!(answer, Ok(wanted), "{} at {cut}", sample.what);
                 cuts += 1;

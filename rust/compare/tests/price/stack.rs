@@ -63,8 +63,8 @@ extern "C" fn make(made: *mut c_void) -> *mut c_void {
         prices,
     } = made.case;
     made.number = match prices {
-        None => price(&checking.file, &checking.plan, volumes),
-        Some(prices) => price_by(&checking.file, &checking.plan, volumes, prices),
+        None => price(&checking.on.file, &checking.plan, volumes),
+        Some(prices) => price_by(&checking.on.file, &checking.plan, volumes, prices),
     };
     ptr::null_mut()
 }

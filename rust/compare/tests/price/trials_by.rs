@@ -116,12 +116,12 @@ fn largest_price_by_a_file_is_5119482881_cents() {
         prices,
     } = Case::greatest();
     let prices = prices.expect("it goes by a price file");
-    assert_eq!(checking.file, points(15, 512).file());
+    assert_eq!(checking.on.file, points(15, 512).file());
     assert_eq!(volumes.len(), dapohiru::VOLUMES_LEN);
     assert_eq!(prices.len(), dapohiru::PRICES_LEN);
     for (file, prices) in [
-        (checking.file.clone(), prices.clone()),
-        (zero_filled(checking.file), zero_filled(prices)),
+        (checking.on.file.clone(), prices.clone()),
+        (zero_filled(checking.on.file), zero_filled(prices)),
     ] {
         let answer = |plan: &[u8]| answer_at(&file, plan, &volumes, Some(&prices));
         // 512 * 999,999 * 9,999 are 5,119,482,880,512 thousandths

@@ -124,13 +124,13 @@ fn one_call_leaves_nothing_for_the_next() {
         let job = job(&mut random, number + 1);
         let case = Case::of(&job);
         let wanted = case.wanted(None);
-        let answer = (GUARDED.rule)(&case.file, &mut work, &mut rule);
+        let answer = (GUARDED.rule)(&case.on.file, &mut work, &mut rule);
         assert_eq!(
             (answer, Some(rule.to_vec())),
             (wanted.number, wanted.table())
         );
         // a refused one, too
-        let cut = &case.file[..case.file.len() - 1];
+        let cut = &case.on.file[..case.on.file.len() - 1];
         assert_eq!((GUARDED.rule)(cut, &mut work, &mut rule), 4);
         assert_eq!(Some(rule.to_vec()), wanted.table());
     }

@@ -12,11 +12,10 @@ use dapohiru_second::reading;
 /// The call on a file, of which the second reader says what it holds.
 fn case_of(file: Vec<u8>) -> Case {
     let read = reading::job(&file);
-    Case {
-        unread: read.as_ref().err().copied(),
-        file,
-        ..Case::of(&read.unwrap_or_else(|_| pair()))
-    }
+    let unread = read.as_ref().err().copied();
+    let mut case = Case::of(&read.unwrap_or_else(|_| pair()));
+    (case.on.file, case.on.unread) = (file, unread);
+    case
 }
 
 #[test]
