@@ -47,19 +47,21 @@ impl Automaton {
     }
 
     /// A table with a row for each state and a column for each symbol, and below it what it says. Where so many
-    /// columns of a terminal are too few, some symbols come in tables of their own.
+    /// columns of a terminal are too few, the symbols come in several tables.
     pub fn table(&self, names: &Names, room: Option<usize>) -> String {
         let symbols: Vec<_> = (0..self.symbols()).collect();
-        let mut sides = vec![names.state_side(), Side::Left];
-        sides.resize(2 + symbols.len(), names.next_side());
-        let part = |symbols: &[usize]| (sides[..2 + symbols.len()].to_vec(), symbols.to_vec());
-        let parts = |most: usize| symbols.chunks(most).map(part);
-        let fits = |&most: &usize| {
-            parts(most).all(|(sides, part)| table::has_room(sides, &self.rows(&part, names), room))
+        let part = |symbols: &[usize]| {
+            let mut sides = vec![names.state_side(), Side::Left];
+            sides.resize(2 + symbols.len(), names.next_side());
+            (sides, self.rows(symbols, names))
         };
-        let most = (1..=symbols.len()).rev().find(fits).unwrap_or(1);
+        let parts = |most: usize| symbols.chunks(most).map(part);
+        let fits =
+            |&most: &usize| parts(most).all(|(sides, rows)| table::has_room(sides, &rows, room));
+        let mut sizes = (1..=symbols.len()).map(|parts| symbols.len().div_ceil(parts));
+        let most = sizes.find(fits).unwrap_or(1);
         let tables: Vec<_> = parts(most)
-            .map(|(sides, part)| table::fitted(sides, &self.rows(&part, names), room))
+            .map(|(sides, rows)| table::fitted(sides, &rows, room))
             .collect();
         tables.join("\n") + &self.words()
     }

@@ -19,7 +19,7 @@ pub const COMMAND: Command = Command {
     details: "
   ROWS          a file of at most 256 rows: Q, the first and the last state, the first and the last symbol,
                 and the next state, each number right-justified in six columns, with spaces or zeros before
-                it; or - for standard input
+                it
   --states S    the number of states, 1 to 16
   --symbols A   the number of symbols, 1 to 16
   --finals Q,Q  the final states, with a comma between them; left out, no state is final, and a note says
@@ -34,6 +34,7 @@ pub const COMMAND: Command = Command {
                 help` shows such a file, and the names of nodes that it may have are not shown
   -o FILE       writes there and not to standard output; the file is written whole or not at all; - is
                 standard output
+One of the files that are read may be - for standard input.
 
 The rows name every pair of a state, 0 to S - 1, and a symbol, 0 to A - 1, just once, in any order: a row
 names all pairs of its states and its symbols. `Q     0     2     0     0     1` says that from each of the
@@ -42,7 +43,7 @@ An R line is the state, 1 where it is final, else 0, and the next state on each 
 the J line of a job file, which has the same S and A.
 In the picture a final state has a double circle, and one arrow stands for all symbols that lead from one
 state to another. No state is the first: a job says in which states its walks begin.
-Exit status: 0 a rule; 2 refused rows, and nothing is written, or something else that is wrong.
+Exit status: 0 a rule; 2 refused rows, and no file is written, or something else that is wrong.
 ",
     names: &["ROWS"],
     more: 0,
