@@ -1,10 +1,10 @@
 /*
  * Planning, listing, the plan check, the journal price of a plan by the house table and by a price file, the rule of a
- * job, and the event step of the monitor: the seven calls of the static library libdapohiru.a, for C (from C99 on) and
- * C++.
+ * job, the rule that rows make, and the event step of the monitor: the eight calls of the static library
+ * libdapohiru.a, for C (from C99 on) and C++.
  *
  * Each call gets byte buffers, each as a pointer and a length, and returns one 64-bit number. A number
- * from 1 to 16, or 28, is a refusal. Every other answer has DAPOHIRU_ACCEPTED added.
+ * from 1 to 19, or 28, is a refusal. Every other answer has DAPOHIRU_ACCEPTED added.
  *
  * The caller owns every buffer, before and after. Buffers marked const are only read. A pointer is valid
  * for its length; where the length is 0 it is not looked at, and may be anything but NULL. Buffers that a
@@ -26,10 +26,11 @@
 extern "C" {
 #endif
 
-/* Lengths in bytes. A job file or volume file may be shorter, and the three buffers may be longer. */
+/* Lengths in bytes. A job file, volume file or text of rows may be shorter, and the three buffers may be longer. */
 #define DAPOHIRU_JOB_LEN 49914     /* the longest job file */
 #define DAPOHIRU_VOLUMES_LEN 7168  /* the longest volume file: 14 bytes for each of 512 nodes */
 #define DAPOHIRU_PRICES_LEN 224    /* a price file: 14 bytes for each of 16 symbols */
+#define DAPOHIRU_ROWS_LEN 8192     /* the longest text of rule rows: 32 bytes for each of 256 rows */
 #define DAPOHIRU_WORK_LEN 65536    /* the shortest work buffer */
 #define DAPOHIRU_PLAN_LEN 512      /* the shortest plan buffer for planning */
 #define DAPOHIRU_LISTING_LEN 32768 /* the shortest listing buffer */
@@ -83,6 +84,9 @@ extern "C" {
 #define DAPOHIRU_BAD_SYMBOL 14       /* the event's symbol is A or more */
 #define DAPOHIRU_BAD_RECORD 15       /* the record's length is not 16, or its state is S or more */
 #define DAPOHIRU_BAD_VOLUMES 16      /* the volume file is not exactly one V line for each node, in order */
+#define DAPOHIRU_BAD_ROWS 17         /* rule rows: their S, A or final set, their count, a row's form, a number; a first above a last */
+#define DAPOHIRU_ROWS_OVERLAP 18     /* two rule rows name one pair of state and symbol, also with one next state */
+#define DAPOHIRU_ROW_MISSING 19      /* a pair of state and symbol has no rule row */
 #define DAPOHIRU_BAD_PRICES 28       /* the price file is not exactly one B line for each of 16 symbols, in order */
 
 /*
@@ -132,6 +136,18 @@ uint64_t dapohiru_price_by(const uint8_t *job, size_t job_len, const uint8_t *pl
 uint64_t dapohiru_rule(const uint8_t *job, size_t job_len, uint8_t *work, size_t work_len, uint8_t *rule, size_t rule_len);
 
 /*
+ * Makes a rule from rows, for dapohiru_event with the same states, symbols and finals: writes all DAPOHIRU_RULE_LEN bytes
+ * of rule, the next state of state q on symbol a at 16 * q + a, and 0 past the states and symbols. rows is a text of at
+ * most 256 lines of 32 bytes: the letter Q, the first and last state, the first and last symbol and the next state in
+ * fields of six columns as those of the job file, and the byte 10. Together they name each pair of a state below states
+ * and a symbol below symbols just once, in any order. Returns DAPOHIRU_ACCEPTED. 13 where rule_len is not
+ * DAPOHIRU_RULE_LEN, tested before all else; then 17 for whatever is wrong with the numbers given, with the text or with
+ * any of its rows, also where rows_len is above DAPOHIRU_ROWS_LEN or no whole count of rows; then 18; then 19, also for
+ * a text without a row. They leave rule as it was. The call is lent no work buffer.
+ */
+uint64_t dapohiru_rows(const uint8_t *rows, size_t rows_len, uint64_t states, uint64_t symbols, uint64_t finals, uint8_t *rule, size_t rule_len);
+
+/*
  * Takes one event: moves the record to the next state, and raises its alarm total by one at an alarm; the total
  * stays at 2^64-1 once there. The next state of state q on symbol a is rule[16 * q + a]; bytes past S rows and A
  * columns have no meaning. finals has bit q for a final state q. Returns DAPOHIRU_QUIET or DAPOHIRU_ALARM. Refusals 13
@@ -148,7 +164,8 @@ uint64_t dapohiru_rule(const uint8_t *job, size_t job_len, uint8_t *work, size_t
  *            and any alarm total, 0 for a new one; then what the call before left. The entry set, bit q for state q,
  *            is the fourth field of the node's P line: in a file that is accepted the six columns from byte
  *            26 + states * (14 + 6 * symbols) + 38 * node + 19 on
- * A rule and numbers of dapohiru_rule are never refused as 13.
+ * A rule and numbers of dapohiru_rule are never refused as 13, and no more is a rule of dapohiru_rows with the numbers
+ * that it was given.
  */
 uint64_t dapohiru_event(const uint8_t *rule, size_t rule_len, uint64_t states, uint64_t symbols, uint64_t finals, uint64_t symbol, uint8_t *rec, size_t rec_len);
 

@@ -2,8 +2,10 @@
 use dapohiru::{
     numbers, planfile, Job, Record, LISTING_LEN, PLAN_LEN, RECORD_LEN, RULE_LEN, WORK_LEN,
 };
+use dapohiru_generators::rows::of_rule;
 use dapohiru_generators::samples::{pair, points, sixteen, turn};
 use dapohiru_generators::{prices, volumes};
+use dapohiru_second::rows::{text, Given};
 use std::alloc::{GlobalAlloc, Layout, System};
 use std::cell::Cell;
 use std::hint::black_box;
@@ -70,6 +72,19 @@ fn calls_allocate_nothing_accepted_or_refused() {
     for job in [pair(), turn(), sixteen(), points(3, 512)] {
         let file = job.file();
         let all = job.all_watched();
+        let (given, rows) = of_rule(&job);
+        let rows = text(&rows);
+        let Given {
+            states,
+            symbols,
+            finals,
+        } = given;
+        for rows in [&rows[..], &rows[32..], &rows[1..], b""] {
+            none("rows", || dapohiru::rows(rows, states, symbols, finals));
+            none("numbers::rows", || {
+                numbers::rows(rows, states, symbols, finals, &mut table)
+            });
+        }
         let day = volumes::file(&vec![1_000; job.nodes.len()]);
         for file in [&file[..], &file[..file.len() - 1], b""] {
             none("plan", || dapohiru::plan(file, &mut work, &mut plan));

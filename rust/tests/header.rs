@@ -93,7 +93,7 @@ fn header_and_wrapper_declare_the_same_calls() {
     wrapper.sort();
     header.sort();
     assert_eq!(header, wrapper);
-    assert_eq!(header.len(), 7);
+    assert_eq!(header.len(), 8);
 }
 
 #[test]
@@ -127,7 +127,7 @@ fn wrapper_names_the_signatures_of_the_rattle_source() {
         let of_call = declared.into_iter().find(|call| call.0 == name);
         assert_eq!(of_call.expect("it is declared").1, flat, "{name}");
     }
-    assert_eq!(signatures.len(), 7);
+    assert_eq!(signatures.len(), 8);
 }
 
 /// A Rattle argument as C has it.
@@ -162,6 +162,7 @@ fn lengths_and_answers_of_the_header_are_those_of_the_wrapper() {
         ("JOB_LEN", dapohiru::JOB_LEN),
         ("VOLUMES_LEN", dapohiru::VOLUMES_LEN),
         ("PRICES_LEN", dapohiru::PRICES_LEN),
+        ("ROWS_LEN", dapohiru::ROWS_LEN),
         ("WORK_LEN", dapohiru::WORK_LEN),
         ("PLAN_LEN", dapohiru::PLAN_LEN),
         ("LISTING_LEN", dapohiru::LISTING_LEN),
@@ -190,5 +191,5 @@ fn lengths_and_answers_of_the_header_are_those_of_the_wrapper() {
         .filter(|(name, _)| !name.ends_with("_LEN"))
         .filter_map(|(_, value)| value.parse::<u64>().ok())
         .collect();
-    assert_eq!(refusals, (1..=16).chain([28]).collect::<Vec<_>>());
+    assert_eq!(refusals, (1..=19).chain([28]).collect::<Vec<_>>());
 }

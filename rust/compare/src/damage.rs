@@ -178,6 +178,23 @@ pub fn misspelled(number: u64) -> [String; 36] {
     ]
 }
 
+/// Every choice of a space or a zero in the five columns before each number of one digit, and whether the field is one:
+/// spaces and then zeros.
+pub fn leads_replaced(file: &[u8]) -> Vec<(Vec<u8>, bool)> {
+    let mut files = Vec::new();
+    let columns = (0..file.len()).filter(|&place| file[place..].starts_with(b"     "));
+    for first in columns {
+        for choice in 0..32_u8 {
+            let column = |column: u8| b" 0"[usize::from(choice >> column & 1)];
+            let lead: Vec<_> = (0..5).map(column).collect();
+            let mut other = file.to_vec();
+            other[first..first + 5].copy_from_slice(&lead);
+            files.push((other, lead.is_sorted()));
+        }
+    }
+    files
+}
+
 /// Each field spelled in other ways.
 pub fn fields_misspelled(lines: &[Line]) -> Vec<Vec<u8>> {
     let mut files = Vec::new();

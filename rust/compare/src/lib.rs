@@ -10,6 +10,8 @@ pub mod on_work;
 pub mod pricing;
 pub mod promise;
 pub mod records;
+pub mod rows;
+pub mod rulebuffer;
 pub mod ruling;
 pub mod seen;
 pub mod serving;

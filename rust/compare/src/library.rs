@@ -10,7 +10,10 @@ pub type Event = fn(&[u8], u64, u64, u64, u64, &mut [u8]) -> u64;
 /// Pricing by a price file: job, plan, volume file, price file.
 pub type PriceBy = fn(&[u8], &[u8], &[u8], &[u8]) -> u64;
 
-/// The seven calls. Each returns the number of its answer.
+/// Rule rows: text, S, A, final set, rule buffer.
+pub type Rows = fn(&[u8], u64, u64, u64, &mut [u8]) -> u64;
+
+/// The eight calls. Each returns the number of its answer.
 #[derive(Clone, Copy)]
 pub struct Library {
     /// Job, work buffer, plan buffer.
@@ -24,6 +27,7 @@ pub struct Library {
     pub price_by: PriceBy,
     /// Job, work buffer, rule buffer.
     pub rule: fn(&[u8], &mut [u8], &mut [u8]) -> u64,
+    pub rows: Rows,
     pub event: Event,
 }
 
@@ -45,6 +49,7 @@ pub const CALLS: Library = Library {
     price: numbers::price,
     price_by: numbers::price_by,
     rule: numbers::rule,
+    rows: numbers::rows,
     event: numbers::event,
 };
 
@@ -79,6 +84,11 @@ pub const GUARDED: Library = Library {
     rule: |job, work, rule| {
         lend([job], [work, rule], |[job], [work, rule]| {
             numbers::rule(job, work, rule)
+        })
+    },
+    rows: |rows, states, symbols, finals, rule| {
+        lend([rows], [rule], |[rows], [rule]| {
+            numbers::rows(rows, states, symbols, finals, rule)
         })
     },
     event: |rule, states, symbols, finals, symbol, record| {

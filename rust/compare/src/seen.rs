@@ -1,5 +1,6 @@
 //! What is seen of a call that is lent a buffer to write to beside the work buffer.
 use crate::memory::{Buffers, Lent};
+use dapohiru_second::outcome::Outcome;
 
 /// What is seen of such a call: its number, the bytes that it writes from the start of the lent buffer on, and how
 /// many bytes of the work buffer it leaves as zero. All other bytes are as they were.
@@ -12,6 +13,15 @@ pub struct Seen {
 }
 
 impl Seen {
+    /// What is to be seen of a call with this number that leaves what the second implementation says.
+    pub fn wanted<Answer>(number: u64, outcome: Outcome<Answer>) -> Self {
+        Seen {
+            number,
+            written: outcome.written,
+            cleared: outcome.cleared,
+        }
+    }
+
     /// What a call that returned this number has left; says so if it has changed another byte. The lent buffer is
     /// called so in words.
     pub fn after(
@@ -21,14 +31,20 @@ impl Seen {
         called: &str,
     ) -> Result<Self, String> {
         buffers.keeps_file(&number)?;
+        let cleared = buffers.cleared(&number)?;
+        let seen = Seen::without_work(number, lent, called)?;
+        Ok(Seen { cleared, ..seen })
+    }
+
+    /// The same of a call that is lent no work buffer.
+    pub fn without_work(number: u64, lent: &Lent, called: &str) -> Result<Self, String> {
         let Some(written) = lent.written() else {
             return Err(format!("{number} changes bytes beside {called}"));
         };
-        let cleared = buffers.cleared(&number)?;
         Ok(Seen {
             number,
             written,
-            cleared,
+            cleared: 0,
         })
     }
 

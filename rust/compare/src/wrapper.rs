@@ -46,6 +46,13 @@ pub fn rule(job: &[u8], work: &mut [u8]) -> Result<Rule, Refusal> {
     lend([job], [work], |[job], [work]| dapohiru::rule(job, work))
 }
 
+/// [`dapohiru::rows`], on guarded buffers too.
+pub fn rows(rows: &[u8], states: u64, symbols: u64, finals: u64) -> Result<Rule, Refusal> {
+    lend([rows], [], |[rows], []| {
+        dapohiru::rows(rows, states, symbols, finals)
+    })
+}
+
 /// [`dapohiru::event`], on guarded buffers too.
 pub fn event(
     rule: &[u8],
@@ -85,6 +92,19 @@ pub const WRAPPER: Library = Library {
         number(rule(job, work).map(|taken| {
             buffer.copy_from_slice(&taken.table);
             (taken.states << 32) + (taken.symbols << 16) + taken.finals
+        }))
+    },
+    rows: |text, states, symbols, finals, buffer| {
+        if buffer.len() != RULE_LEN {
+            return (GUARDED.rows)(text, states, symbols, finals, buffer);
+        }
+        number(rows(text, states, symbols, finals).map(|made| {
+            assert_eq!(
+                (made.states, made.symbols, made.finals),
+                (states, symbols, finals)
+            );
+            buffer.copy_from_slice(&made.table);
+            0
         }))
     },
     event: |rule, states, symbols, finals, symbol, record| {

@@ -2,18 +2,21 @@
 use dapohiru::{Job as Shared, Record, Report};
 use dapohiru_compare::wrapper::WRAPPER;
 use dapohiru_generators::random::Random;
+use dapohiru_generators::rows::of_rule;
 use dapohiru_generators::zeros::filled;
 use dapohiru_generators::{prices, small, volumes};
 use dapohiru_second::job::Job;
 use dapohiru_second::reading::WORK;
+use dapohiru_second::rows::text;
 use std::thread;
 
-/// A job with its file, a volume file and a price file.
+/// A job with its file, a volume file and a price file, and its rule in rows.
 struct Files {
     job: Job,
     file: Vec<u8>,
     volumes: Vec<u8>,
     prices: Vec<u8>,
+    rows: Vec<u8>,
 }
 
 /// The answers of all calls for one job, with what they write.
@@ -23,8 +26,11 @@ fn answers(files: &Files, work: &mut [u8]) -> (Vec<u64>, Vec<u8>) {
         file,
         volumes,
         prices,
+        rows,
     } = files;
-    let (mut plan, mut listing, mut rule) = (vec![7; 512], vec![7; 32_768], [7; 256]);
+    let (mut plan, mut listing) = (vec![7; 512], vec![7; 32_768]);
+    let (mut rule, mut made) = ([7; 256], [7; 256]);
+    let (states, symbols, finals) = (job.states() as u64, job.symbols, job.final_set());
     let mut numbers = vec![
         (WRAPPER.plan)(file, work, &mut plan),
         (WRAPPER.list)(file, work, &mut listing),
@@ -33,9 +39,11 @@ fn answers(files: &Files, work: &mut [u8]) -> (Vec<u64>, Vec<u8>) {
         (WRAPPER.price_by)(file, &job.all_watched(), volumes, prices),
         (WRAPPER.rule)(file, work, &mut rule),
         (WRAPPER.rule)(file, work, &mut [7; 255]),
+        (WRAPPER.rows)(rows, states, symbols, finals, &mut made),
+        (WRAPPER.rows)(&rows[32..], states, symbols, finals, &mut [7; 256]),
     ];
+    assert_eq!(made, rule);
     let mut record = [0; 16];
-    let (states, symbols, finals) = (job.states() as u64, job.symbols, job.final_set());
     for event in 0..200 {
         let symbol = event % (symbols + 1);
         numbers.push((WRAPPER.event)(
@@ -60,6 +68,7 @@ fn many_threads_get_the_answers_that_one_gets() {
                 file: filled(&mut random, job.file()),
                 volumes: volumes::any(&mut random, job.nodes.len()),
                 prices: prices::any(&mut random),
+                rows: filled(&mut random, text(&of_rule(&job).1)),
                 job,
             }
         })

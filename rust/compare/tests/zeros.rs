@@ -1,7 +1,8 @@
 //! A file with zeros before its numbers and the same file without: planning, listing, the check and the call for
-//! the rule return the same number for both and leave the same bytes. Pricing has tests of its own.
+//! the rule return the same number for both and leave the same bytes. Pricing and rule rows have tests of their own.
 use dapohiru::numbers::ACCEPTED;
 use dapohiru_compare::checking;
+use dapohiru_compare::damage::leads_replaced;
 use dapohiru_compare::library::{Library, CALLS};
 use dapohiru_compare::memory::{start_of, Counts, MOST_WORK};
 use dapohiru_compare::serving;
@@ -16,7 +17,7 @@ use dapohiru_generators::samples::{in_loop, one_seal, pair, turn};
 use dapohiru_generators::sized::{self, Sizes, FULL};
 use dapohiru_generators::small;
 use dapohiru_generators::spread::Spread;
-use dapohiru_generators::zeros::{filled, spaced, spoil, zero_filled};
+use dapohiru_generators::zeros::{self, filled, spaced, spoil, zero_filled};
 use dapohiru_second::job::Job;
 use dapohiru_second::reading::{self, WORK};
 
@@ -97,13 +98,9 @@ impl Lent {
 
 /// The file with spaces before its numbers, with zeros, and twice with any of both.
 fn alike(random: &mut Random, file: &[u8]) -> Vec<Vec<u8>> {
-    let without = spaced(file.to_vec());
-    vec![
-        without.clone(),
-        zero_filled(without.clone()),
-        filled(random, without.clone()),
-        filled(random, without),
-    ]
+    let mut files = zeros::alike(random, file).to_vec();
+    files.push(filled(random, files[0].clone()));
+    files
 }
 
 /// The refusal that a call returns; 0 for a number of an accepted call.
@@ -252,29 +249,18 @@ fn zero_before_a_space_is_refused_as_4_in_every_field() {
     let lent = Lent::any(&mut random, &[0, 1, 1]);
     let (mut alike, mut refused) = (0, 0);
     let pair = pair().file();
-    let columns = (0..pair.len()).filter(|&place| pair[place..].starts_with(b"     "));
-    for first in columns {
-        // every choice of a space or a zero in the five columns before the number
-        for choice in 0..32_u8 {
-            let lead: Vec<_> = (0..5)
-                .map(|column| b" 0"[usize::from(choice >> column & 1)])
-                .collect();
-            let mut file = pair.clone();
-            file[first..first + 5].copy_from_slice(&lead);
-            if lead.is_sorted() {
-                lent.are_left_alike(CALLS, &[pair.clone(), file]);
-                alike += 1;
-            } else {
-                let before = [&lent.plan, &lent.listing, &lent.checked, &lent.rule];
-                for ((number, work, after), before) in
-                    lent.left(CALLS, &file).into_iter().zip(before)
-                {
-                    assert_eq!(number, 4, "{}", start_of(&file));
-                    assert!(work[..WORK].iter().all(|&byte| byte == 0));
-                    assert!(work[WORK..] == lent.work[WORK..] && after == *before);
-                }
-                refused += 1;
+    for (file, is_alike) in leads_replaced(&pair) {
+        if is_alike {
+            lent.are_left_alike(CALLS, &[pair.clone(), file]);
+            alike += 1;
+        } else {
+            let before = [&lent.plan, &lent.listing, &lent.checked, &lent.rule];
+            for ((number, work, after), before) in lent.left(CALLS, &file).into_iter().zip(before) {
+                assert_eq!(number, 4, "{}", start_of(&file));
+                assert!(work[..WORK].iter().all(|&byte| byte == 0));
+                assert!(work[WORK..] == lent.work[WORK..] && after == *before);
             }
+            refused += 1;
         }
     }
     println!("{alike} files are read as PAIR, {refused} are refused");

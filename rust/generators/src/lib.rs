@@ -1,6 +1,6 @@
 //! What tests and benchmarks are made of, from a printed seed: random jobs, small and large, volume files and
-//! price files, damaged files, zeros before the numbers of files, random walks and random calls of the event
-//! step; and jobs written by hand.
+//! price files, rule rows, damaged files, zeros before the numbers of files, random walks and random calls of the
+//! event step; and jobs written by hand.
 pub mod damage;
 pub mod events;
 pub mod faults;
@@ -12,6 +12,7 @@ pub mod prices;
 pub mod random;
 pub mod reentry;
 pub mod rings;
+pub mod rows;
 pub mod samples;
 pub mod shape;
 pub mod sized;

@@ -61,6 +61,13 @@ pub fn spaced(file: Vec<u8>) -> Vec<u8> {
     with_zeros(file, |_| 0)
 }
 
+/// The file with spaces before its numbers, with zeros, and with any of both.
+pub fn alike(random: &mut Random, file: &[u8]) -> [Vec<u8>; 3] {
+    let without = spaced(file.to_vec());
+    let some = filled(random, without.clone());
+    [without.clone(), zero_filled(without), some]
+}
+
 /// Spoils a field, if one has two columns or more before its number: there a zero stands before a space, as
 /// in `0   12`, `0 0  1` and `00 012`.
 pub fn spoil(random: &mut Random, file: &mut [u8]) {

@@ -60,8 +60,12 @@ pub(crate) enum Slip {
     LetterNotTested,
     /// Lines may stand in any order.
     PlacesNotTested,
-    /// Zeros before a number are refused.
-    ZerosRefused,
+    /// A letter of the lower case is accepted.
+    SmallLetterAccepted,
+    /// CR is accepted before the end byte.
+    CrAccepted,
+    /// A wrong reading of a field.
+    Field(reading::Slip),
     /// One more than the greatest number is accepted.
     MostByOneMore,
     /// The greatest number is refused.
@@ -115,23 +119,41 @@ impl<'a> Lines<'a> {
             None if self.slips(Slip::EndByteMissingAccepted) => &[],
             None => return Err(self.fault(4)),
         };
-        Ok(line)
+        Ok(match self.slip {
+            Some(Slip::CrAccepted) => line.strip_suffix(b"\r").unwrap_or(line),
+            _ => line,
+        })
+    }
+
+    /// Whether a line may begin with this letter.
+    fn is_letter(&self, letter: u8) -> bool {
+        let due = self.kind.letter;
+        match self.slip {
+            Some(Slip::LetterNotTested) => true,
+            Some(Slip::SmallLetterAccepted) => letter.to_ascii_uppercase() == due,
+            _ => letter == due,
+        }
+    }
+
+    /// The numbers in a line, in so many fields.
+    pub fn numbers_in(&self, line: &[u8], fields: usize) -> Result<Vec<u64>, u64> {
+        let malformed = self.fault(4);
+        let (&letter, columns) = line.split_first().ok_or(malformed)?;
+        if columns.len() != 6 * fields || !self.is_letter(letter) {
+            return Err(malformed);
+        }
+        let slip = match self.slip {
+            Some(Slip::Field(slip)) => Some(slip),
+            _ => None,
+        };
+        let number = |field| Reader { slip }.number(field).ok_or(malformed);
+        columns.chunks(6).map(number).collect()
     }
 
     /// The number in a line, which is the one of this place.
     fn number_in(&self, line: &[u8], place: usize) -> Result<u64, u64> {
-        let malformed = self.fault(4);
-        let (&letter, columns) = line.split_first().ok_or(malformed)?;
-        if columns.len() != 12 || (letter != self.kind.letter && !self.slips(Slip::LetterNotTested))
-        {
-            return Err(malformed);
-        }
-        let slip = self
-            .slips(Slip::ZerosRefused)
-            .then_some(reading::Slip::LeadingZeroRefused);
-        let field = |columns: &[u8]| Reader { slip }.number(columns).ok_or(malformed);
-        let (named, number) = columns.split_at(6);
-        let (named, number) = (field(named)?, field(number)?);
+        let numbers = self.numbers_in(line, 2)?;
+        let (named, number) = (numbers[0], numbers[1]);
         let is_in_place = named == place as u64 || self.slips(Slip::PlacesNotTested);
         if is_in_place && self.is_within(number) {
             Ok(number)

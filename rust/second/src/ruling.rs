@@ -1,12 +1,11 @@
 //! Taking the rule of a job as a call: its refusals in order, its answer, and what it leaves in the rule buffer and
 //! in the work buffer.
 use crate::job::Job;
+use crate::outcome;
 use crate::reading::{LONGEST, WORK};
+use crate::rulebuffer::{RuleBuffer, RULE};
 use crate::slip::Slip;
 use crate::work::Left;
-
-/// The length of a rule: sixteen rows of sixteen next states.
-pub const RULE: usize = 256;
 
 /// One call.
 #[derive(Clone, Copy)]
@@ -27,30 +26,23 @@ pub enum Answer {
     Refused(u64),
 }
 
-/// What a call leaves: its answer, the bytes that it writes from the start of the rule buffer on, and how many bytes
-/// of the work buffer are zero from its start on.
-#[derive(Clone, Debug, PartialEq, Eq)]
-pub struct Outcome {
-    pub answer: Answer,
-    /// Up to the last byte written; nothing for a byte that is as it was.
-    pub written: Vec<Option<u8>>,
-    pub cleared: usize,
-}
+/// What a call leaves in the rule buffer and in the work buffer.
+pub type Outcome = outcome::Outcome<Answer>;
 
 /// What a call leaves, with one slip or with none.
 pub fn take(call: &Call, slip: Option<Slip>) -> Outcome {
-    let ruling = Ruling { slip };
-    let (answer, mut written) = match ruling.accepted(call) {
+    let rule = RuleBuffer {
+        len: call.rule_len,
+        slip,
+    };
+    let ruling = Ruling { slip, rule };
+    let (answer, bytes) = match ruling.accepted(call) {
         Ok(job) => (Answer::Taken(ruling.numbers(job)), ruling.table(job)),
         Err(number) => (Answer::Refused(number), ruling.on_refusal(call, number)),
     };
-    // only a slip has a rule buffer of another length
-    written.truncate(call.rule_len);
-    let last = written.iter().rposition(Option::is_some);
-    written.truncate(last.map_or(0, |last| last + 1));
     Outcome {
         answer,
-        written,
+        written: rule.written(bytes),
         cleared: ruling.cleared(call, answer),
     }
 }
@@ -59,6 +51,7 @@ pub fn take(call: &Call, slip: Option<Slip>) -> Outcome {
 #[derive(Clone, Copy)]
 struct Ruling {
     slip: Option<Slip>,
+    rule: RuleBuffer,
 }
 
 impl Ruling {
@@ -75,7 +68,7 @@ impl Ruling {
             Some(10) => [None, unread],
             _ => [unread, None],
         };
-        let length = self.length(call.rule_len);
+        let length = self.rule.refusal();
         let tests = match self.slip {
             Some(Slip::WorkBeforeLength) => [work, too_long, early, entry, length],
             Some(Slip::WorkAfterFile) => [too_long, early, entry, work, length],
@@ -89,23 +82,6 @@ impl Ruling {
             Some(number) => Err(number),
             None => call.held,
         }
-    }
-
-    /// The refusal of a rule buffer that is not 256 bytes.
-    fn length(self, len: usize) -> Option<u64> {
-        let refused = match self.slip {
-            Some(Slip::LongerRuleAccepted) => len < RULE,
-            Some(Slip::ShorterRuleAccepted) => len > RULE,
-            Some(Slip::RuleLengthCutTo8Bits) => !len.is_multiple_of(RULE),
-            Some(Slip::RuleLengthCutTo16Bits) => len % 65_536 != RULE,
-            _ => len != RULE,
-        };
-        let number = match self.slip {
-            Some(Slip::RuleAsBuffer) => 2,
-            Some(Slip::RuleAsRecord) => 15,
-            _ => 13,
-        };
-        refused.then_some(number)
     }
 
     /// The counts of states and symbols, and the set of final states.
@@ -126,31 +102,11 @@ impl Ruling {
         }
     }
 
-    /// "The 256 bytes in row order, cells past S or A zero."
+    /// The table of a job's rule.
     fn table(self, job: &Job) -> Vec<Option<u8>> {
         let (states, symbols) = (job.states(), job.symbols as usize);
-        let cell = |place: usize| {
-            let (row, column) = match self.slip {
-                Some(Slip::ColumnsForTableRows) => (place % 16, place / 16),
-                Some(Slip::RowsOfSymbolsOnly) => (place / symbols, place % symbols),
-                Some(Slip::RowsOfFifteen) => (place / 15, place % 15),
-                _ => (place / 16, place % 16),
-            };
-            let next = job.next.get(row).and_then(|next| next.get(column));
-            match (next, self.slip) {
-                (Some(_), Some(Slip::LastStateNotWritten)) if row + 1 == states => None,
-                (Some(_), Some(Slip::LastSymbolNotWritten)) if column + 1 == symbols => None,
-                (Some(next), Some(Slip::NextStatesFromOne)) => Some(*next as u8 + 1),
-                (Some(next), _) => Some(*next as u8),
-                (None, Some(Slip::CellsPastLeft)) => None,
-                (None, Some(Slip::RowsPastLeft)) if row >= states => None,
-                (None, Some(Slip::ColumnsPastLeft)) if row < states => None,
-                (None, Some(Slip::CellsPastAreOfNoState)) => Some(255),
-                (None, Some(Slip::CellsPastAreStates)) => Some(row as u8),
-                (None, _) => Some(0),
-            }
-        };
-        (0..RULE).map(cell).collect()
+        let next = |state: usize, symbol: usize| job.next[state][symbol];
+        self.rule.table(states, symbols, next)
     }
 
     /// What a refusal writes: nothing, but for slips.

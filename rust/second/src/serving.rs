@@ -1,6 +1,7 @@
 //! Planning and listing as calls: their refusals in order, their answers, and what they leave in the
 //! plan or listing buffer and in the work buffer.
 use crate::listing::lines;
+use crate::outcome;
 use crate::planning::{plan, Planned};
 use crate::reading::{LONGEST, WORK};
 use crate::slip::Slip;
@@ -73,15 +74,8 @@ pub enum Answer {
     Refused(u64),
 }
 
-/// What a call leaves: its answer, the bytes that it writes from the start of the plan or listing buffer
-/// on, and how many bytes of the work buffer are zero from its start on.
-#[derive(Clone, Debug, PartialEq, Eq)]
-pub struct Outcome {
-    pub answer: Answer,
-    /// Up to the last byte written; nothing for a byte that is as it was.
-    pub written: Vec<Option<u8>>,
-    pub cleared: usize,
-}
+/// What a call leaves in the plan or listing buffer and in the work buffer.
+pub type Outcome = outcome::Outcome<Answer>;
 
 /// What a call leaves, with one slip or with none. A slip of walks or of planning stands in what is
 /// given for the job.

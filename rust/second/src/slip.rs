@@ -45,7 +45,19 @@ impl Slip {
 
     /// The slips that taking the rule of a job can make.
     pub fn of_rule() -> Vec<Slip> {
-        [Slip::BUFFERS, Slip::RULE].concat()
+        [Slip::BUFFERS, Slip::RULE_BUFFER, Slip::RULE].concat()
+    }
+
+    /// The slips that making a rule from rows can make.
+    pub fn of_rows() -> Vec<Slip> {
+        [
+            Slip::RULE_BUFFER,
+            Slip::ROWS_ORDER,
+            Slip::ROWS_GIVEN,
+            Slip::ROWS_TEXT,
+            Slip::ROWS_PAIRS,
+        ]
+        .concat()
     }
 
     /// The slips that planning and listing can make.
@@ -451,17 +463,9 @@ slips! {
         OtherNodesNotWritten,
     }
 
-    /// Slips of the rule that is taken from a job, and of the rule buffer.
-    RULE {
-        // its refusal
-        /// 13 is tested before 1.
-        RuleBeforeLength,
-        /// 13 is tested before 2.
-        RuleBeforeWork,
-        /// 13 is tested before 3 to 10.
-        RuleBeforeFile,
-        /// 13 is tested before 10.
-        RuleBeforeEntry,
+    /// Slips of the rule buffer, in both calls that write to it.
+    RULE_BUFFER {
+        // its length
         /// A rule buffer of another length is 2.
         RuleAsBuffer,
         /// A rule buffer of another length is 15.
@@ -475,23 +479,7 @@ slips! {
         /// Of the rule buffer's length the lowest 16 bits are tested.
         RuleLengthCutTo16Bits,
 
-        // its numbers
-        /// The counts of states and symbols are swapped.
-        StatesAndSymbolsSwapped,
-        /// The final set and the count of symbols are swapped.
-        FinalsBeforeSymbols,
-        /// Of both counts the lowest 4 bits are there, so that 16 is 0.
-        CountsCutTo4Bits,
-        /// Bit q + 1 of the final set stands for state q.
-        FinalsShifted,
-        /// The lowest bit of the final set stands for the last state.
-        FinalsFromTheHighest,
-        /// The last state is not in the final set.
-        LastFinalLeftOut,
-        /// The final set has the states that are not final.
-        OthersFinal,
-
-        // its table
+        // the table
         /// The table stands in column order.
         ColumnsForTableRows,
         /// A row has as many places as there are symbols.
@@ -518,10 +506,41 @@ slips! {
         // what is left
         /// A refusal clears the rule buffer.
         RefusalClearsRule,
-        /// A refusal by what the file holds clears the rule.
-        FileRefusalClearsRule,
         /// Refusal 13 writes as much of the rule as fits.
         WrongLengthWritten,
+    }
+
+    /// Slips of the rule that is taken from a job.
+    RULE {
+        // the place of 13
+        /// 13 is tested before 1.
+        RuleBeforeLength,
+        /// 13 is tested before 2.
+        RuleBeforeWork,
+        /// 13 is tested before 3 to 10.
+        RuleBeforeFile,
+        /// 13 is tested before 10.
+        RuleBeforeEntry,
+
+        // its numbers
+        /// The counts of states and symbols are swapped.
+        StatesAndSymbolsSwapped,
+        /// The final set and the count of symbols are swapped.
+        FinalsBeforeSymbols,
+        /// Of both counts the lowest 4 bits are there, so that 16 is 0.
+        CountsCutTo4Bits,
+        /// Bit q + 1 of the final set stands for state q.
+        FinalsShifted,
+        /// The lowest bit of the final set stands for the last state.
+        FinalsFromTheHighest,
+        /// The last state is not in the final set.
+        LastFinalLeftOut,
+        /// The final set has the states that are not final.
+        OthersFinal,
+
+        // what is left
+        /// A refusal by what the file holds clears the rule.
+        FileRefusalClearsRule,
         /// Refusal 2 writes the rule.
         ShortWorkWritesRule,
         /// Refusals by what the file holds leave the work buffer as it is.
@@ -536,5 +555,189 @@ slips! {
         RuleOfNoJobClearsRest,
         /// Refusal 13 clears the bytes past 65,536 too.
         WrongLengthClearsRest,
+    }
+
+    /// Slips of the order of refusals of rule rows, of the number of an accepted call, and of what a refusal leaves.
+    ROWS_ORDER {
+        /// 13 is tested after 17.
+        RuleLengthAfterRows,
+        /// 13 is tested after 17, 18 and 19.
+        RuleLengthLast,
+        /// 18 of two rows is answered before the rows after them are looked at.
+        TwiceBeforeLaterRows,
+        /// 19 is tested before 18.
+        NoneBeforeTwice,
+        /// An empty text is 19 whatever S, A and the final set are.
+        NoRowsBeforeGiven,
+        /// The number has the states times 2^32, the symbols times 2^16 and the final set in it.
+        MadeWithSizes,
+        /// The number has the count of rows in it.
+        MadeWithRowCount,
+        /// Refusal 18 writes the rule, as the last row of each pair has it.
+        TwiceWritten,
+        /// Refusal 19 writes the rule, a pair without a row as 0.
+        NoneWritten,
+        /// Refusal 17 writes the cells of the rows before the one that is refused.
+        RowsBeforeFaultWritten,
+    }
+
+    /// Slips of S, A and the final set that are given with rule rows.
+    ROWS_GIVEN {
+        /// Of S the lowest 8 bits count.
+        GivenStatesCutTo8Bits,
+        /// Of S the lowest 32 bits count.
+        GivenStatesCutTo32Bits,
+        /// Of A the lowest 8 bits count.
+        GivenSymbolsCutTo8Bits,
+        /// Of A the lowest 16 bits count.
+        GivenSymbolsCutTo16Bits,
+        /// Of the final set the lowest 16 bits count.
+        GivenFinalsCutTo16Bits,
+        /// Of the final set the lowest 32 bits count.
+        GivenFinalsCutTo32Bits,
+        /// S = 0 is accepted.
+        NoGivenStatesAccepted,
+        /// S = 16 is refused.
+        SixteenGivenStatesRefused,
+        /// S = 17 is accepted.
+        SeventeenGivenStatesAccepted,
+        /// A = 0 is accepted.
+        NoGivenSymbolsAccepted,
+        /// A = 16 is refused.
+        SixteenGivenSymbolsRefused,
+        /// A = 17 is accepted.
+        SeventeenGivenSymbolsAccepted,
+        /// A final state of S or more is accepted.
+        GivenFinalsNotTested,
+        /// A final state of S is accepted.
+        GivenFinalOfStatesAccepted,
+        /// A final state below 16 is accepted, whatever S is.
+        GivenFinalsTestedFrom16,
+        /// The final set is held against A.
+        GivenFinalsHeldAgainstSymbols,
+        /// A final set without a state is refused.
+        NoGivenFinalRefused,
+    }
+
+    /// Slips of the text of rule rows, and of a row's form and numbers.
+    ROWS_TEXT {
+        // its length
+        /// A text of 8,192 bytes is refused.
+        LongestTextRefused,
+        /// A text of 257 rows is read.
+        Row257Read,
+        /// A text of any length is read.
+        TextOfAnyLengthRead,
+        /// Of a longer text the first 8,192 bytes are read.
+        LongTextCut,
+        /// Of the text's length the lowest 16 bits count.
+        TextLengthCutTo16Bits,
+        /// A text without a row is 17.
+        NoRowsAs17,
+
+        // a row's form
+        /// A row that has not its form is 4.
+        RowFormAs4,
+        /// Less bytes than a row has are not looked at, after the last row.
+        BytesAfterRowsAccepted,
+        /// An empty line is no row, and accepted.
+        EmptyLinesAccepted,
+        /// The last end byte may be missing.
+        RowEndByteMissingAccepted,
+        /// CR is accepted before the end byte.
+        RowCrAccepted,
+        /// Any letter is accepted.
+        RowLetterNotTested,
+        /// The letter q is accepted.
+        SmallRowLetterAccepted,
+        /// Zeros before a number are refused.
+        RowZerosRefused,
+        /// A number with a zero before it is octal.
+        RowZerosOctal,
+        /// Spaces are accepted between zeros and the digits after them.
+        RowZeroBeforeSpaceAccepted,
+        /// A tab is accepted in the place of a space.
+        RowTabAccepted,
+        /// A field of spaces is 0.
+        RowEmptyFieldAccepted,
+
+        // a row's numbers
+        /// Of a number the lowest 8 bits count.
+        RowNumbersCutTo8Bits,
+        /// 65,536 + x is taken for x.
+        RowNumbersCutTo16Bits,
+        /// A row has its symbols before its states.
+        SymbolsBeforeStates,
+        /// A row has its next state first.
+        NextStateFirst,
+        /// States are held against A, and symbols against S.
+        RowLimitsSwapped,
+        /// A last state of S is accepted.
+        LastRowStateOfStatesAccepted,
+        /// A last symbol of A is accepted.
+        LastRowSymbolOfSymbolsAccepted,
+        /// A next state of S is accepted.
+        RowNextOfStatesAccepted,
+        /// A next state is held against A.
+        RowNextHeldAgainstSymbols,
+        /// A next state is not tested, up to 255.
+        RowNextNotTested,
+        /// A row whose first state is above its last names no pair.
+        FirstStateAboveLastAccepted,
+        /// A row whose first symbol is above its last names no pair.
+        FirstSymbolAboveLastAccepted,
+        /// A first that is above its last changes places with it.
+        FirstAboveLastSwapped,
+        /// A row of one state is refused.
+        OneStateRefused,
+    }
+
+    /// Slips of the pairs that rule rows name, and of their next states.
+    ROWS_PAIRS {
+        // which pairs a row names
+        /// The last state of a row is left out.
+        LastRowStateLeftOut,
+        /// The last symbol of a row is left out.
+        LastRowSymbolLeftOut,
+        /// A row names pairs of its first state alone.
+        FirstRowStateOnly,
+        /// A row names pairs of its first symbol alone.
+        FirstRowSymbolOnly,
+
+        // pairs with two rows
+        /// Two rows of one pair are accepted, and the last of them counts.
+        LastRowCounts,
+        /// Two rows of one pair are accepted, and the first of them counts.
+        FirstRowCounts,
+        /// Two rows of one pair are accepted where they have one next state.
+        AgreeingRowsAccepted,
+        /// A row that stands twice is accepted.
+        SameRowTwiceAccepted,
+        /// Only a row and the one after it are held together.
+        NeighboursHeldTogetherOnly,
+        /// A pair whose next state so far is 0 is taken for one without a row.
+        TwiceTestedByZero,
+        /// Two rows of one pair are 17.
+        TwiceAs17,
+        /// Two rows of one pair are 19.
+        TwiceAs19,
+
+        // pairs without a row
+        /// A pair without a row goes to state 0.
+        PairWithoutRowGoesTo0,
+        /// A pair without a row stays in its state.
+        PairWithoutRowStays,
+        /// A text without a row is accepted, and every pair goes to state 0.
+        NoRowsAccepted,
+        /// The last pair may be without a row.
+        LastPairNotTested,
+        /// Pairs of state 0 may be without a row.
+        FirstStateNotTested,
+        /// A pair without a row is 17.
+        NoneAs17,
+        /// A pair without a row is 18.
+        NoneAs18,
+        /// The pairs that rows name are counted: more than there are is 18, fewer 19, and as many are accepted.
+        PairsOnlyCounted,
     }
 }

@@ -3,13 +3,15 @@ use crate::tally::Tally;
 use dapohiru::numbers::ACCEPTED;
 use dapohiru_compare::library::CALLS;
 use dapohiru_compare::pricing::{By, Case};
-use dapohiru_compare::{checking, ruling, serving};
+use dapohiru_compare::seen::Seen;
+use dapohiru_compare::{checking, rows, ruling, serving};
 use dapohiru_generators::random::Random;
 use dapohiru_generators::samples::pair;
 use dapohiru_generators::{prices, volumes};
 use dapohiru_second::job::Job;
 use dapohiru_second::pricing::Answer;
 use dapohiru_second::reading::{self, WORK};
+use dapohiru_second::rows::Given;
 use dapohiru_second::serving::Service;
 
 /// An allocation that holds these bytes and no more.
@@ -77,18 +79,25 @@ impl Calls {
         let (file, mut work, mut rule) = (exact(file), filled(work, 9), filled(rule, UNWRITTEN));
         let number = (CALLS.rule)(&file, &mut work, &mut rule);
         self.tally.add_taken(ruling::Said::of(number));
-        let mut bytes = filled(rule.len(), UNWRITTEN);
-        for (byte, written) in bytes.iter_mut().zip(wanted.written) {
-            *byte = written.unwrap_or(UNWRITTEN);
-        }
-        if (number, &rule) == (wanted.number, &bytes) {
-            return Ok(number);
-        }
-        Err(format!(
-            "{number:#x} with rule {rule:?}, and {:#x} with rule {bytes:?} wanted; {}",
-            wanted.number,
-            case.words()
-        ))
+        as_wanted(number, &rule, wanted, || case.words())
+    }
+
+    /// Makes a rule from rows as the second implementation does; gives the number.
+    pub fn rows(&mut self, case: &rows::Case) -> Result<u64, String> {
+        let rows::Case {
+            text,
+            given,
+            rule_len,
+        } = case;
+        let (text, mut rule) = (exact(text), filled(*rule_len, UNWRITTEN));
+        let Given {
+            states,
+            symbols,
+            finals,
+        } = *given;
+        let number = (CALLS.rows)(&text, states, symbols, finals, &mut rule);
+        self.tally.add_made(number);
+        as_wanted(number, &rule, case.wanted(None), || case.words())
     }
 
     /// Prices a plan, by a price file if there is one, each buffer an allocation of its own size; gives the number.
@@ -179,6 +188,28 @@ impl Calls {
             case.words()
         ))
     }
+}
+
+/// The number of a call, if it and the rule buffer that the call leaves are as wanted; else both, with the call in
+/// words.
+fn as_wanted(
+    number: u64,
+    rule: &[u8],
+    wanted: Seen,
+    words: impl FnOnce() -> String,
+) -> Result<u64, String> {
+    let mut bytes = filled(rule.len(), UNWRITTEN);
+    for (byte, written) in bytes.iter_mut().zip(wanted.written) {
+        *byte = written.unwrap_or(UNWRITTEN);
+    }
+    if (number, rule) == (wanted.number, &bytes) {
+        return Ok(number);
+    }
+    Err(format!(
+        "{number:#x} with rule {rule:?}, and {:#x} with rule {bytes:?} wanted; {}",
+        wanted.number,
+        words()
+    ))
 }
 
 /// A plan to be checked, with the refusal that it deserves.

@@ -1,15 +1,18 @@
 //! Buffers of all lengths around the limits, in every place of every call.
 use crate::calls::{exact, filled, Calls};
 use dapohiru::numbers::ACCEPTED;
-use dapohiru::{PRICES_LEN, RULE_LEN};
+use dapohiru::{PRICES_LEN, ROWS_LEN, RULE_LEN};
 use dapohiru_compare::library::CALLS;
+use dapohiru_compare::rows::Case;
 use dapohiru_generators::events::Call;
 use dapohiru_generators::random::Random;
+use dapohiru_generators::rows::most_rows;
 use dapohiru_generators::samples::{pair, sixteen};
 use dapohiru_generators::zeros::zero_filled;
 use dapohiru_generators::{prices, volumes};
 use dapohiru_second::numbered::PRICES;
 use dapohiru_second::reading::{LONGEST, WORK};
+use dapohiru_second::rows::{text, ROW};
 use dapohiru_second::serving::Service;
 use dapohiru_second::step::{Answer, Second};
 
@@ -38,6 +41,7 @@ pub fn run(calls: &mut Calls, random: &mut Random) -> Result<(), String> {
     files(calls, &pair().file())?;
     files(calls, &zero_filled(pair().file()))?;
     rule_buffers(calls)?;
+    texts_of_rows(calls)?;
     rules_and_records(calls)?;
     events(calls, random, Second { slip: None })
 }
@@ -141,6 +145,39 @@ fn rule_buffers(calls: &mut Calls) -> Result<(), String> {
                 };
                 let what = format!("rule buffer of {rule} and {work} bytes");
                 same(number.min(ACCEPTED), wanted, &what)?;
+            }
+        }
+    }
+    Ok(())
+}
+
+/// Texts of rule rows, 256 of them, cut short or with rows past the last, with rule buffers; the numbers of rows have
+/// spaces or zeros before them.
+fn texts_of_rows(calls: &mut Calls) -> Result<(), String> {
+    let (given, rows) = most_rows(&mut Random(1));
+    let spaced = text(&rows).repeat(9);
+    let both = [spaced.clone(), zero_filled(spaced)];
+    let around = ROWS_LEN - ROW..=ROWS_LEN + ROW;
+    let past = HIGH.map(|high| ROWS_LEN + high);
+    for len in LENGTHS.into_iter().chain(around).chain(past) {
+        for text in &both {
+            for rule in LENGTHS.into_iter().chain(HIGH.map(|high| RULE_LEN + high)) {
+                // of most texts the right length of the rule buffer and those beside it are enough
+                if !len.is_multiple_of(ROW) && rule.abs_diff(RULE_LEN) > 1 {
+                    continue;
+                }
+                let number = calls.rows(&Case {
+                    rule_len: rule,
+                    ..Case::of_text(given, text[..len].to_vec())
+                })?;
+                let wanted = match len {
+                    _ if rule != RULE_LEN => 13,
+                    ROWS_LEN => ACCEPTED,
+                    _ if len < ROWS_LEN && len.is_multiple_of(ROW) => 19,
+                    _ => 17,
+                };
+                let what = format!("text of {len}, rule buffer of {rule} bytes");
+                same(number, wanted, &what)?;
             }
         }
     }

@@ -1,16 +1,20 @@
 //! Calls on buffers that are allocations of their own size, for valgrind to see every byte read or
-//! written beside one. The answers are compared with the second reader, the second prices and the second step
-//! too.
+//! written beside one. The answers are compared with the second reader, the second prices, the second rules and the
+//! second step too.
 use crate::calls::Calls;
 use crate::found::Found;
 use crate::lengths;
 use crate::progress::Progress;
+use dapohiru_compare::rows::cases;
 use dapohiru_generators::damage::{damage, damaged};
 use dapohiru_generators::random::Random;
 use dapohiru_generators::sized::{self, Sizes, FULL};
 use dapohiru_generators::small;
 use dapohiru_generators::zeros::{filled, spoil};
 use std::io::{self, Write};
+
+/// How many files there are between the calls for rule rows.
+const ROWS_AFTER: u64 = 8;
 
 /// A file with any zeros: mostly a damaged one, of a small job or of one of other sizes.
 fn file(random: &mut Random) -> Vec<u8> {
@@ -35,6 +39,12 @@ fn file(random: &mut Random) -> Vec<u8> {
     }
 }
 
+/// Rules made from rows of this seed, sound, damaged and with faults.
+fn rows(calls: &mut Calls, seed: u64) -> Result<(), String> {
+    let cases = cases(&mut Random(seed));
+    cases.iter().try_for_each(|case| calls.rows(case).map(drop))
+}
+
 /// Makes the calls, and says what they came to.
 pub fn run(seed: u64, files: u64, out: &mut impl Write) -> io::Result<Found> {
     let mut progress = Progress::new();
@@ -52,7 +62,10 @@ pub fn run(seed: u64, files: u64, out: &mut impl Write) -> io::Result<Found> {
             break;
         }
         let file = file(&mut random);
-        let answer = calls.file(&mut random, &file);
+        let mut answer = calls.file(&mut random, &file);
+        if number % ROWS_AFTER == 0 {
+            answer = answer.and_then(|()| rows(&mut calls, !seed ^ number));
+        }
         found = answer.map_err(|why| format!("file {number}: {why}"));
         progress.show(number, files, "files");
     }

@@ -7,6 +7,7 @@ use dapohiru_compare::library::GUARDED;
 use dapohiru_compare::on_file::OnFile;
 use dapohiru_compare::pricing;
 use dapohiru_compare::promise;
+use dapohiru_compare::rows;
 use dapohiru_compare::ruling;
 use dapohiru_compare::serving;
 use dapohiru_compare::step::compare;
@@ -34,6 +35,7 @@ pub struct Rounds {
     checking: checking::Memory,
     pricing: pricing::Memory,
     ruling: ruling::Memory,
+    rows: rows::Memory,
     /// Makes the volume files and price files of a round and what is priced with them; the other calls are made
     /// without it.
     lines: Random,
@@ -50,6 +52,7 @@ impl Rounds {
             checking: checking::Memory::new(GUARDED),
             pricing: pricing::Memory::new(GUARDED),
             ruling: ruling::Memory::new(GUARDED),
+            rows: rows::Memory::new(GUARDED),
             lines: Random(0),
             tally: Tally::default(),
         }
@@ -76,7 +79,10 @@ impl Rounds {
                 self.rule(random, &job)
             }
             2 => self.damaged(random),
-            3 => self.step(random),
+            3 => {
+                self.step(random)?;
+                self.rule_rows(random)
+            }
             6 => self.walk(random),
             _ if number % 1_024 == 1_023 => self.large(random),
             _ => self.spread(random),
@@ -185,6 +191,18 @@ impl Rounds {
             };
             let answer = compare(GUARDED, second, &Call::any(random))?;
             self.tally.add_stepped(answer);
+        }
+        Ok(())
+    }
+
+    /// Rules made from rows, few and many, sound, damaged and with faults.
+    fn rule_rows(&mut self, random: &mut Random) -> Result<(), String> {
+        self.rows.begin(random.number());
+        for _ in 0..4 {
+            for case in rows::cases(random) {
+                let seen = case.compare(&mut self.rows, self.slips.walks)?;
+                self.tally.add_made(seen.number);
+            }
         }
         Ok(())
     }

@@ -3,6 +3,7 @@ use dapohiru_compare::checking;
 use dapohiru_compare::pricing::By;
 use dapohiru_compare::promise::{Needed, Walked};
 use dapohiru_compare::records;
+use dapohiru_compare::rows;
 use dapohiru_compare::ruling;
 use dapohiru_compare::serving;
 use dapohiru_second::pricing;
@@ -19,6 +20,7 @@ pub struct Tally {
     pub priced: u64,
     pub priced_by: u64,
     taken: u64,
+    made: u64,
     pub quiet: u64,
     pub alarm: u64,
     /// By number, up to 28.
@@ -34,7 +36,7 @@ pub struct Tally {
 }
 
 /// What each refusal means.
-const MEANINGS: [(usize, &str); 17] = [
+const MEANINGS: [(usize, &str); 20] = [
     (1, "the file is longer than 49,914 bytes"),
     (2, "a lent buffer is too short"),
     (3, "the file ends where a line is due"),
@@ -57,6 +59,9 @@ const MEANINGS: [(usize, &str); 17] = [
         16,
         "a volume file is not exactly one V line for each node, in order",
     ),
+    (17, "rule rows, or a number of them or given with them"),
+    (18, "two rule rows name one pair of state and symbol"),
+    (19, "a pair of state and symbol has no rule row"),
     (
         28,
         "a price file is not exactly one B line for each of 16 symbols, in order",
@@ -106,6 +111,14 @@ impl Tally {
         }
     }
 
+    /// Counts an answer of the call for rule rows, by its number.
+    pub fn add_made(&mut self, number: u64) {
+        match rows::refused(number) {
+            None => self.made += 1,
+            Some(number) => self.add_refused(number, 1),
+        }
+    }
+
     /// Counts an answer of the event step.
     pub fn add_stepped(&mut self, answer: Answer) {
         match answer {
@@ -145,7 +158,7 @@ impl Tally {
     pub fn calls(&self) -> u64 {
         let checked = self.faithful + self.different;
         let priced = self.priced + self.priced_by;
-        let accepted = self.planned + self.listed + checked + priced + self.taken;
+        let accepted = self.planned + self.listed + checked + priced + self.taken + self.made;
         let on_walks = 2 * self.told.events - self.told.skipped;
         let refused: u64 = self.refused.iter().sum();
         accepted + self.quiet + self.alarm + on_walks + refused
@@ -163,6 +176,7 @@ impl fmt::Display for Tally {
             (self.priced, "plans priced by the house table"),
             (self.priced_by, "plans priced by a price file"),
             (self.taken, "rules taken from jobs"),
+            (self.made, "rules made from rows"),
             (self.quiet, "events quiet"),
             (self.alarm, "events with an alarm"),
             (self.walks, "walks with two monitors"),

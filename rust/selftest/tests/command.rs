@@ -32,7 +32,7 @@ fn count(text: &str, words: &str) -> u64 {
 
 /// Asks that every refusal came.
 fn every_refusal_comes(text: &str) {
-    for number in (1..=16).chain([28]) {
+    for number in (1..=19).chain([28]) {
         let refused = format!("refused {number:>2}:");
         assert!(count(text, &refused) > 0, "{number}");
     }
@@ -51,6 +51,7 @@ fn rounds_find_no_difference_and_every_answer_comes() {
         "plans priced by the house table",
         "plans priced by a price file",
         "rules taken from jobs",
+        "rules made from rows",
         "events quiet",
         "events with an alarm",
         "walks that came in again",
@@ -80,6 +81,7 @@ fn every_slip() -> Vec<String> {
         // those of plans, volume files and the work buffer are among the ones above
         slip::Slip::PRICE_FILE.to_vec(),
         slip::Slip::RULE.to_vec(),
+        slip::Slip::of_rows(),
     ];
     let of_walks = of_walks.concat();
     let of_walks = of_walks.iter().map(|slip| format!("{slip:?}"));

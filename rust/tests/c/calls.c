@@ -32,6 +32,7 @@ static uint8_t listing[DAPOHIRU_LISTING_LEN + PAST];
 static uint8_t volumes[DAPOHIRU_VOLUMES_LEN + PAST];
 static uint8_t prices[DAPOHIRU_PRICES_LEN + PAST];
 static uint8_t rule[DAPOHIRU_RULE_LEN + PAST];
+static uint8_t rows[DAPOHIRU_ROWS_LEN + PAST];
 
 static int all(const uint8_t *bytes, size_t len, uint8_t value)
 {
@@ -54,7 +55,7 @@ static void spell(uint8_t *to, const char *from, size_t len)
         to[k] = (uint8_t)(from[k] == ' ' ? lead : from[k]);
 }
 
-/* PAIR as the file, its volume file and price file, and buffers that hold other bytes. */
+/* PAIR as the file, its volume file, price file and rows, and buffers that hold other bytes. */
 static void fresh(void)
 {
     spell(file, PAIR, PAIR_LEN);
@@ -62,6 +63,8 @@ static void fresh(void)
     spell(volumes, VOLUMES, VOLUMES_LEN);
     memset(prices, FILL, sizeof prices);
     spell(prices, PRICES, PRICES_LEN);
+    memset(rows, FILL, sizeof rows);
+    spell(rows, ROWS, ROWS_LEN);
     memset(work, FILL, sizeof work);
     memset(plan, FILL, sizeof plan);
     memset(listing, FILL, sizeof listing);
@@ -281,6 +284,100 @@ static void rules_of_other_sizes_are_taken(void)
     HOLD(work_after(answer));
 }
 
+/* Asks that rows of this length, with these numbers given and a rule buffer of this length, are refused by this number,
+   which leaves the rule buffer, or make PAIR's rule; and that no row is changed. */
+static void made(uint64_t answer, size_t rows_len, uint64_t states, uint64_t symbols, uint64_t finals, size_t rule_len)
+{
+    static uint8_t kept[sizeof rows];
+
+    memcpy(kept, rows, sizeof rows);
+    memset(rule, FILL, sizeof rule);
+    HOLD(dapohiru_rows(rows, rows_len, states, symbols, finals, rule, rule_len) == answer);
+    HOLD(DAPOHIRU_IS_REFUSAL(answer) ? all(rule, sizeof rule, FILL) : is_rule_of_pair());
+    HOLD(memcmp(kept, rows, sizeof rows) == 0);
+}
+
+/* Puts one byte into the rows of PAIR and asks for the refusal. */
+static void rows_refused_with(uint64_t number, size_t place, char byte)
+{
+    fresh();
+    rows[place] = (uint8_t)byte;
+    made(number, ROWS_LEN, 3, 3, 4, DAPOHIRU_RULE_LEN);
+}
+
+static void rule_of_pair_is_made_from_rows_or_refused_by_number(void)
+{
+    static const size_t others[] = {0, 1, 255, 257, 256 + PAST};
+    /* the length of a row, and the places of the last digits of its fields */
+    const size_t row = 32, first = 6, last = 12, low = 18, high = 24, next = 30;
+    size_t k;
+
+    fresh();
+    made(DAPOHIRU_ACCEPTED, ROWS_LEN, 3, 3, 4, DAPOHIRU_RULE_LEN);
+    made(DAPOHIRU_ACCEPTED, ROWS_LEN, 3, 3, 0, DAPOHIRU_RULE_LEN);
+    for (k = 0; k < sizeof others / sizeof *others; k++) {
+        made(DAPOHIRU_BAD_RULE, ROWS_LEN, 3, 3, 4, others[k]);
+        /* the length of the rule buffer is tested first */
+        made(DAPOHIRU_BAD_RULE, ROWS_LEN - 1, 17, 0, UINT64_MAX, others[k]);
+    }
+    made(DAPOHIRU_BAD_ROWS, ROWS_LEN, 0, 3, 0, DAPOHIRU_RULE_LEN);
+    made(DAPOHIRU_BAD_ROWS, ROWS_LEN, 17, 3, 4, DAPOHIRU_RULE_LEN);
+    made(DAPOHIRU_BAD_ROWS, ROWS_LEN, 3, 0, 4, DAPOHIRU_RULE_LEN);
+    made(DAPOHIRU_BAD_ROWS, ROWS_LEN, 3, UINT64_C(3) << 32, 4, DAPOHIRU_RULE_LEN);
+    made(DAPOHIRU_BAD_ROWS, ROWS_LEN, 3, 3, 8, DAPOHIRU_RULE_LEN);
+    made(DAPOHIRU_BAD_ROWS, ROWS_LEN, 3, 3, UINT64_C(1) << 63, DAPOHIRU_RULE_LEN);
+    made(DAPOHIRU_BAD_ROWS, ROWS_LEN - 1, 3, 3, 4, DAPOHIRU_RULE_LEN);
+    made(DAPOHIRU_BAD_ROWS, ROWS_LEN + 1, 3, 3, 4, DAPOHIRU_RULE_LEN);
+    made(DAPOHIRU_BAD_ROWS, sizeof rows, 3, 3, 4, DAPOHIRU_RULE_LEN);
+    /* two pairs have no row without the last, and all without any */
+    made(DAPOHIRU_ROW_MISSING, ROWS_LEN - row, 3, 3, 4, DAPOHIRU_RULE_LEN);
+    made(DAPOHIRU_ROW_MISSING, 0, 3, 3, 4, DAPOHIRU_RULE_LEN);
+    made(DAPOHIRU_ROW_MISSING, ROWS_LEN, 3, 4, 4, DAPOHIRU_RULE_LEN);
+    memcpy(rows + ROWS_LEN, rows, row);
+    made(DAPOHIRU_ROWS_OVERLAP, ROWS_LEN + row, 3, 3, 4, DAPOHIRU_RULE_LEN);
+    made(DAPOHIRU_ROWS_OVERLAP, ROWS_LEN + row, 4, 3, 4, DAPOHIRU_RULE_LEN);
+
+    rows_refused_with(DAPOHIRU_BAD_ROWS, 0, 'R');
+    rows_refused_with(DAPOHIRU_BAD_ROWS, row - 1, '\r');
+    /* a zero before a space */
+    rows_refused_with(DAPOHIRU_BAD_ROWS, 2, lead == ' ' ? '0' : ' ');
+    rows_refused_with(DAPOHIRU_BAD_ROWS, first, '3');
+    rows_refused_with(DAPOHIRU_BAD_ROWS, last, '3');
+    rows_refused_with(DAPOHIRU_BAD_ROWS, low, '1');
+    rows_refused_with(DAPOHIRU_BAD_ROWS, high, '3');
+    rows_refused_with(DAPOHIRU_BAD_ROWS, next, '3');
+    rows_refused_with(DAPOHIRU_ROW_MISSING, last, '1');
+    rows_refused_with(DAPOHIRU_ROWS_OVERLAP, high, '1');
+    rows_refused_with(DAPOHIRU_ROWS_OVERLAP, 2 * row + last, '1');
+}
+
+/* A row for each pair of sixteen states and symbols: as many as there may be. */
+static void rule_of_256_rows_is_made(void)
+{
+    const size_t len = DAPOHIRU_ROWS_LEN;
+    char line[33];
+    size_t q, a;
+    int same = 1;
+
+    fresh();
+    for (q = 0; q < 16; q++)
+        for (a = 0; a < 16; a++) {
+            sprintf(line, "Q%6u%6u%6u%6u%6u\n", (unsigned)q, (unsigned)q, (unsigned)a, (unsigned)a,
+                    (unsigned)((3 * q + 5 * a + 1) % 16));
+            spell(rows + 32 * (16 * q + a), line, 32);
+        }
+    HOLD(dapohiru_rows(rows, len, 16, 16, 0x8000, rule, DAPOHIRU_RULE_LEN) == DAPOHIRU_ACCEPTED);
+    for (q = 0; q < 16; q++)
+        for (a = 0; a < 16; a++)
+            same = same && rule[16 * q + a] == (3 * q + 5 * a + 1) % 16;
+    HOLD(same && all(rule + DAPOHIRU_RULE_LEN, PAST, FILL));
+    /* a row more, and a byte more */
+    memcpy(rows + len, rows, 32);
+    made(DAPOHIRU_BAD_ROWS, len + 32, 16, 16, 0x8000, DAPOHIRU_RULE_LEN);
+    made(DAPOHIRU_BAD_ROWS, len + 1, 16, 16, 0x8000, DAPOHIRU_RULE_LEN);
+    made(DAPOHIRU_ROW_MISSING, len - 32, 16, 16, 0x8000, DAPOHIRU_RULE_LEN);
+}
+
 /* The files as they were. */
 static uint8_t kept_file[sizeof file], kept_volumes[sizeof volumes], kept_prices[sizeof prices];
 
@@ -416,6 +513,21 @@ static void events_are_taken_by_the_rule_of_the_job(void)
 #undef TAKE
 }
 
+/* The same events under the rule that the rows of PAIR make, with the numbers that were given. */
+static void events_are_taken_by_the_rule_of_the_rows(void)
+{
+    fresh();
+    HOLD(dapohiru_rows(rows, ROWS_LEN, 3, 3, 4, rule, DAPOHIRU_RULE_LEN) == DAPOHIRU_ACCEPTED);
+#define TAKE(symbol) dapohiru_event(rule, DAPOHIRU_RULE_LEN, 3, 3, 4, symbol, room, DAPOHIRU_RECORD_LEN)
+    put_record(0, 0);
+    HOLD(TAKE(2) == DAPOHIRU_QUIET && is_record(0, 0, 0));
+    HOLD(TAKE(0) == DAPOHIRU_QUIET && is_record(1, 0, 0));
+    HOLD(TAKE(2) == DAPOHIRU_ALARM && is_record(2, 1, 0));
+    HOLD(TAKE(3) == DAPOHIRU_BAD_SYMBOL && is_record(2, 1, 0));
+    HOLD(is_rule_of_pair());
+#undef TAKE
+}
+
 static void events_move_the_record_and_count_alarms(void)
 {
     uint8_t own[DAPOHIRU_RULE_LEN], kept[DAPOHIRU_RULE_LEN];
@@ -458,6 +570,8 @@ int main(void)
     files_and_buffers_are_refused_by_number();
     rule_of_pair_is_taken();
     rules_of_other_sizes_are_taken();
+    rule_of_pair_is_made_from_rows_or_refused_by_number();
+    rule_of_256_rows_is_made();
     plans_are_priced_or_refused_by_number();
     plans_are_priced_by_a_file_or_refused_by_number();
     lead = ' ';
@@ -466,10 +580,13 @@ int main(void)
     files_and_buffers_are_refused_by_number();
     rule_of_pair_is_taken();
     rules_of_other_sizes_are_taken();
+    rule_of_pair_is_made_from_rows_or_refused_by_number();
+    rule_of_256_rows_is_made();
     plans_are_refused_by_number();
     plans_are_priced_or_refused_by_number();
     plans_are_priced_by_a_file_or_refused_by_number();
     events_are_taken_by_the_rule_of_the_job();
+    events_are_taken_by_the_rule_of_the_rows();
     events_move_the_record_and_count_alarms();
     printf("%d tests, %d failed\n", tests, failures);
     return failures == 0 && tests > 0 ? EXIT_SUCCESS : EXIT_FAILURE;

@@ -1,6 +1,6 @@
 /*
- * PAIR, the job of examples/pair.job, its listing, a volume file with a thousand events at each node, and a price file
- * in which symbol 0 costs 12 cents and symbol 2 costs 150.
+ * PAIR, the job of examples/pair.job, its listing, its rule in rows, a volume file with a thousand events at each node,
+ * and a price file in which symbol 0 costs 12 cents and symbol 2 costs 150.
  */
 static const char PAIR[] = "J     3     3     3     2\n"
                            "R     0     0     1     0     0\n"
@@ -15,6 +15,10 @@ static const char LINES[] = "W     0     0     1     1     1     0\n"
                             "W     1     0     2     2     1     1\n"
                             "W     2     2     2     1     0     1\n"
                             "T     3     2     2\n";
+static const char ROWS[] = "Q     0     2     0     0     1\n"
+                           "Q     0     2     1     1     0\n"
+                           "Q     0     0     2     2     0\n"
+                           "Q     1     2     2     2     2\n";
 static const char VOLUMES[] = "V     0  1000\n"
                               "V     1  1000\n"
                               "V     2  1000\n";
@@ -36,5 +40,6 @@ static const char PRICES[] = "B     0    12\n"
                              "B    15    13\n";
 #define PAIR_LEN (sizeof PAIR - 1)
 #define LINES_LEN (sizeof LINES - 1)
+#define ROWS_LEN (sizeof ROWS - 1)
 #define VOLUMES_LEN (sizeof VOLUMES - 1)
 #define PRICES_LEN (sizeof PRICES - 1)

@@ -1,6 +1,7 @@
 /*
  * Lends one buffer that is a byte or more shorter than the call is told, so that valgrind must see the library
- * reach past it: past job | work | plan | listing | checked | priced | volumes | prices | taken | rule | record.
+ * reach past it: past job | work | plan | listing | checked | priced | volumes | prices | taken | rows | made | rule |
+ * record.
  */
 #include "dapohiru.h"
 #include "pair.h"
@@ -23,6 +24,7 @@ int main(int argc, char **argv)
     const size_t job_len = PAIR_LEN - (strcmp(name, "job") == 0);
     const size_t volumes_len = VOLUMES_LEN - (strcmp(name, "volumes") == 0);
     const size_t prices_len = PRICES_LEN - (strcmp(name, "prices") == 0);
+    const size_t rows_len = ROWS_LEN - (strcmp(name, "rows") == 0);
     uint8_t *job = lent(name, "job", PAIR_LEN, PAIR_LEN - 1);
     uint8_t *work = lent(name, "work", DAPOHIRU_WORK_LEN, DAPOHIRU_WORK_LEN - 1);
     uint8_t *plan = lent(name, "plan", DAPOHIRU_PLAN_LEN, 2);
@@ -32,18 +34,22 @@ int main(int argc, char **argv)
     uint8_t *volumes = lent(name, "volumes", VOLUMES_LEN, VOLUMES_LEN - 1);
     uint8_t *prices = lent(name, "prices", PRICES_LEN, PRICES_LEN - 1);
     uint8_t *taken = lent(name, "taken", DAPOHIRU_RULE_LEN, DAPOHIRU_RULE_LEN - 1);
+    uint8_t *rows = lent(name, "rows", ROWS_LEN, ROWS_LEN - 1);
+    uint8_t *made = lent(name, "made", DAPOHIRU_RULE_LEN, DAPOHIRU_RULE_LEN - 1);
     uint8_t *rule = lent(name, "rule", DAPOHIRU_RULE_LEN, DAPOHIRU_RULE_LEN - 1);
     uint8_t *rec = lent(name, "record", DAPOHIRU_RECORD_LEN, DAPOHIRU_RECORD_LEN - 1);
 
     memcpy(job, PAIR, job_len);
     memcpy(volumes, VOLUMES, volumes_len);
     memcpy(prices, PRICES, prices_len);
+    memcpy(rows, ROWS, rows_len);
     dapohiru_plan(job, PAIR_LEN, work, DAPOHIRU_WORK_LEN, plan, DAPOHIRU_PLAN_LEN);
     dapohiru_list(job, PAIR_LEN, work, DAPOHIRU_WORK_LEN, listing, DAPOHIRU_LISTING_LEN);
     dapohiru_check(job, PAIR_LEN, checked, 3, work, DAPOHIRU_WORK_LEN);
     dapohiru_price(job, PAIR_LEN, priced, 3, volumes, VOLUMES_LEN);
     dapohiru_price_by(job, PAIR_LEN, priced, 3, volumes, VOLUMES_LEN, prices, PRICES_LEN);
     dapohiru_rule(job, PAIR_LEN, work, DAPOHIRU_WORK_LEN, taken, DAPOHIRU_RULE_LEN);
+    dapohiru_rows(rows, ROWS_LEN, 3, 3, 4, made, DAPOHIRU_RULE_LEN);
     dapohiru_event(rule, DAPOHIRU_RULE_LEN, 16, 16, 0, 15, rec, DAPOHIRU_RECORD_LEN);
     free(job);
     free(work);
@@ -54,6 +60,8 @@ int main(int argc, char **argv)
     free(volumes);
     free(prices);
     free(taken);
+    free(rows);
+    free(made);
     free(rule);
     free(rec);
     return 0;

@@ -1,32 +1,18 @@
 //! Random calls: jobs with buffers of the right lengths, and calls with faults.
-use super::memory::{self, Memory, MOST_RULE};
+use super::memory::{self, Memory};
 use crate::memory::start_of;
 use crate::on_file::OnFile;
 use crate::on_work::OnWork;
+use crate::rulebuffer::{leaves, wrong_length};
 use crate::seen::{held_to, Seen};
 use dapohiru_generators::damage::Damaged;
 use dapohiru_generators::faults::{lengthen, possible, refused, short_work, NUMBERS};
 use dapohiru_generators::random::Random;
 use dapohiru_second::job::Job;
 use dapohiru_second::reading::WORK;
-use dapohiru_second::ruling::{take, Call, RULE};
+use dapohiru_second::rulebuffer::RULE;
+use dapohiru_second::ruling::{take, Call};
 use dapohiru_second::slip::Slip;
-
-/// Lengths of rule buffers that are refused: near the right one, none, and such as are taken for the right one where
-/// high bits are lost.
-pub const LENGTHS: [usize; 11] = [
-    0,
-    1,
-    16,
-    255,
-    257,
-    272,
-    512,
-    WORK - 1,
-    WORK,
-    WORK + 1,
-    MOST_RULE,
-];
 
 /// One call: a job, its file or one like it with a fault, and the lengths of the buffers.
 #[derive(Clone, Debug)]
@@ -82,12 +68,8 @@ impl Case {
             }
             2 => self.work_len = short_work(random),
             13 => {
-                // as many bytes as the rule of the job has, too
-                let cells = self.job.states() * self.job.symbols as usize;
-                let near = random.pick(&[RULE - 1, RULE + 1, cells, 16 * self.job.states()]);
-                let any = random.pick(&LENGTHS);
-                let len = random.pick(&[near, any, any]);
-                self.rule_len = if len == RULE { RULE + 1 } else { len };
+                let (states, symbols) = (self.job.states(), self.job.symbols as usize);
+                self.rule_len = wrong_length(random, states, symbols);
             }
             _ => {
                 self.file = refused(random, &self.job, number);
@@ -126,25 +108,6 @@ impl Case {
             start_of(&self.file)
         )
     }
-}
-
-/// What a call leaves, in words: the rule by rows, a byte that is as it was as a dot.
-fn leaves(seen: &Seen) -> String {
-    let Seen {
-        number,
-        written,
-        cleared,
-    } = seen;
-    let shown = |byte: &Option<u8>| byte.map_or(" .".to_string(), |byte| format!("{byte:2}"));
-    let rows: Vec<_> = written
-        .chunks(16)
-        .map(|row| row.iter().map(shown).collect::<Vec<_>>().join(" "))
-        .collect();
-    format!(
-        "number {number:#x}, {cleared} bytes cleared, written {} bytes\n{}",
-        written.len(),
-        rows.join("\n")
-    )
 }
 
 /// The calls of one job: with work buffers of several lengths, and some with one fault or more.

@@ -1,6 +1,7 @@
 //! One call on memory whose every byte is looked at afterwards.
 use crate::library::Library;
 use crate::memory::{Buffers, Lent, PAST_FILE};
+use crate::rulebuffer;
 use crate::seen::Seen;
 use dapohiru::numbers::ACCEPTED;
 use dapohiru_generators::random::Random;
@@ -37,15 +38,8 @@ pub fn wanted(outcome: Outcome) -> Seen {
         }
         Answer::Refused(number) => number,
     };
-    Seen {
-        number,
-        written: outcome.written,
-        cleared: outcome.cleared,
-    }
+    Seen::wanted(number, outcome)
 }
-
-/// The longest rule buffer that is lent: its length is taken for 256 where the high bits are lost.
-pub const MOST_RULE: usize = 65_536 + 256;
 
 /// The memory that calls are made on.
 pub struct Memory {
@@ -60,8 +54,7 @@ impl Memory {
         let mut buffers = Buffers::new(1);
         Memory {
             library,
-            // neither a rule nor one with a slip has a byte from 128 to 254, so that every byte written is seen
-            rule: Lent::new_between(&mut buffers.random, MOST_RULE, 128, 254),
+            rule: rulebuffer::lent(&mut buffers.random),
             buffers,
         }
     }

@@ -2,8 +2,10 @@
 //! events of walks are taken by.
 mod cases;
 mod memory;
+mod steps;
 mod taken;
 
-pub use cases::{cases, Case, LENGTHS};
-pub use memory::{Memory, Said, MOST_RULE};
+pub use cases::{cases, Case};
+pub use memory::{Memory, Said};
+pub use steps::every_step;
 pub use taken::taken;

@@ -40,11 +40,7 @@ pub fn wanted(outcome: Outcome) -> Seen {
         Answer::Listed(len) => ACCEPTED + len as u64,
         Answer::Refused(number) => number,
     };
-    Seen {
-        number,
-        written: outcome.written,
-        cleared: outcome.cleared,
-    }
+    Seen::wanted(number, outcome)
 }
 
 /// The longest plan or listing buffer that is lent.

@@ -1,5 +1,6 @@
 //! Files with zeros before their numbers and the same files without get the same number.
 use crate::agreement::{all_answers, Calls};
+use dapohiru_compare::damage::leads_replaced;
 use dapohiru_compare::memory::{start_of, Counts};
 use dapohiru_compare::pricing::{cases, refused, By, Case, Memory};
 use dapohiru_compare::wrapper::WRAPPER;
@@ -7,16 +8,9 @@ use dapohiru_generators::mixed;
 use dapohiru_generators::random::Random;
 use dapohiru_generators::samples::pair;
 use dapohiru_generators::sized::{self, FULL};
-use dapohiru_generators::zeros::{filled, spaced, zero_filled};
+use dapohiru_generators::zeros::{alike, spaced, zero_filled};
 use dapohiru_generators::{prices, small, volumes};
 use dapohiru_second::pricing::Answer;
-
-/// The file with spaces before its numbers, with zeros, and with any of both.
-fn alike(random: &mut Random, file: &[u8]) -> [Vec<u8>; 3] {
-    let without = spaced(file.to_vec());
-    let some = filled(random, without.clone());
-    [without.clone(), zero_filled(without), some]
-}
 
 #[test]
 fn job_files_volume_files_and_price_files_that_are_alike_get_the_same_number() {
@@ -75,21 +69,13 @@ fn zeros_and_spaces(
     let wanted = answer(file);
     assert_eq!(refused(wanted), None);
     let mut seen = [0, 0];
-    let columns = (0..file.len()).filter(|&place| file[place..].starts_with(b"     "));
-    for first in columns {
-        for choice in 0..32_u8 {
-            let lead: Vec<_> = (0..5)
-                .map(|column| b" 0"[usize::from(choice >> column & 1)])
-                .collect();
-            let mut other = file.to_vec();
-            other[first..first + 5].copy_from_slice(&lead);
-            let wanted = match lead.is_sorted() {
-                true => wanted,
-                false => Answer::Refused(refusal),
-            };
-            assert_eq!(answer(&other), wanted, "{}", start_of(&other));
-            seen[usize::from(!lead.is_sorted())] += 1;
-        }
+    for (other, is_alike) in leads_replaced(file) {
+        let wanted = match is_alike {
+            true => wanted,
+            false => Answer::Refused(refusal),
+        };
+        assert_eq!(answer(&other), wanted, "{}", start_of(&other));
+        seen[usize::from(!is_alike)] += 1;
     }
     println!("{} files are read alike, {} are refused", seen[0], seen[1]);
     seen

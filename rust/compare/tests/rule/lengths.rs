@@ -1,10 +1,11 @@
 //! Buffers of all lengths around the limits, and of none.
 use dapohiru_compare::library::{Library, GUARDED};
-use dapohiru_compare::ruling::{Case, Memory, LENGTHS, MOST_RULE};
+use dapohiru_compare::rulebuffer::{LENGTHS, MOST_RULE};
+use dapohiru_compare::ruling::{Case, Memory};
 use dapohiru_compare::wrapper::WRAPPER;
 use dapohiru_generators::samples::{in_loop, pair, points};
 use dapohiru_second::reading::{LONGEST, WORK};
-use dapohiru_second::ruling::RULE;
+use dapohiru_second::rulebuffer::RULE;
 
 const LIBRARIES: [Library; 2] = [GUARDED, WRAPPER];
 

@@ -2,6 +2,7 @@
 use super::{house, is_watched, rising_from, Call, Prices, Pricing, SYMBOLS};
 use crate::job::{Job, EVENT, PLAIN};
 use crate::numbered::{self, Lines, PRICES, VOLUMES};
+use crate::reading;
 use crate::slip::Slip;
 use std::array;
 
@@ -90,7 +91,7 @@ fn in_volumes(slip: Slip) -> Option<numbered::Slip> {
         Slip::BytesAfterVolumesAccepted => numbered::Slip::BytesAfterAccepted,
         Slip::VolumeLetterNotTested => numbered::Slip::LetterNotTested,
         Slip::VolumePlacesNotTested => numbered::Slip::PlacesNotTested,
-        Slip::VolumeZerosRefused => numbered::Slip::ZerosRefused,
+        Slip::VolumeZerosRefused => numbered::Slip::Field(reading::Slip::LeadingZeroRefused),
         Slip::MostVolumeRefused => numbered::Slip::MostRefused,
         Slip::NoVolumeRefused => numbered::Slip::ZeroRefused,
         _ => return None,
@@ -106,7 +107,7 @@ fn in_prices(slip: Slip) -> Option<numbered::Slip> {
         Slip::BytesAfterPricesAccepted => numbered::Slip::BytesAfterAccepted,
         Slip::PriceLetterNotTested => numbered::Slip::LetterNotTested,
         Slip::PricePlacesNotTested => numbered::Slip::PlacesNotTested,
-        Slip::PriceZerosRefused => numbered::Slip::ZerosRefused,
+        Slip::PriceZerosRefused => numbered::Slip::Field(reading::Slip::LeadingZeroRefused),
         Slip::PriceOf10000Accepted => numbered::Slip::MostByOneMore,
         Slip::MostPriceRefused => numbered::Slip::MostRefused,
         Slip::FreeSymbolRefused => numbered::Slip::ZeroRefused,
