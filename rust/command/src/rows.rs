@@ -3,10 +3,9 @@ use crate::fault::{Due, Fault};
 use crate::names::Names;
 use crate::sizes::Sizes;
 use dapohiru_second::reading;
+use dapohiru_second::rows::{LETTER, ROW};
 use std::ops::RangeInclusive;
 
-/// The bytes of a row.
-const ROW: usize = 32;
 /// The most rows.
 const ROWS: usize = dapohiru::ROWS_LEN / ROW;
 /// The fields of a row.
@@ -93,7 +92,7 @@ fn row(due: Due, sizes: &Sizes) -> Result<Row, Fault> {
         .zip(most)
         .map(|(name, most)| format!("{name}, 0 to {most}"))
         .collect();
-    if let Some(fault) = due.form_fault('Q', &names) {
+    if let Some(fault) = due.form_fault(char::from(LETTER), &names) {
         return Err(fault);
     }
     let fields = due.bytes[1..ROW - 1].chunks(6);

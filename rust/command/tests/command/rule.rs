@@ -1,9 +1,11 @@
 //! The command `rule`: R lines of rules.
-use crate::program::{example, folder, run, Done, PAIR};
+use crate::program::{example, folder, run, run_bytes, Done, PAIR};
 use dapohiru_generators::random::Random;
+use dapohiru_generators::rows::{given, most_rows, of_rule, rows};
 use dapohiru_generators::zeros::{filled, zero_filled};
 use dapohiru_generators::{samples, small};
-use dapohiru_second::job::{members, spell, Job, Line};
+use dapohiru_second::job::{members, spell, Line};
+use dapohiru_second::rows::{text, Given, Row};
 use std::fs;
 
 /// PAIR's rule as rows.
@@ -24,55 +26,37 @@ pub fn pair(rows: &str, words: &[&str], input: &str) -> Done {
     run(&[&["rule", rows][..], &SIZES, words].concat(), input)
 }
 
-/// The R lines of a job.
-fn rule_lines(job: &Job) -> Vec<u8> {
-    let lines = job.lines().into_iter();
-    let lines: Vec<_> = lines.filter(|line| line.letter == b'R').collect();
-    spell(&lines)
-}
-
-/// Rows of a job's rule in any order: for one state or one symbol those that follow one another with one next
-/// state are one row, or more.
-fn rows(random: &mut Random, job: &Job) -> Vec<u8> {
-    let (states, symbols) = (job.states() as u64, job.symbols);
-    let next = |state: u64, symbol: u64| job.next[state as usize][symbol as usize];
-    let mut rows: Vec<[u64; 5]> = Vec::new();
-    let by_state = random.once_in(2);
-    let (outer, inner) = if by_state {
-        (states, symbols)
-    } else {
-        (symbols, states)
-    };
-    for one in 0..outer {
-        for other in 0..inner {
-            let [state, symbol] = if by_state { [one, other] } else { [other, one] };
-            let to = next(state, symbol);
-            match rows.last_mut() {
-                Some(row) if other > 0 && row[4] == to && !random.once_in(4) => {
-                    (row[1], row[3]) = (state, symbol);
-                }
-                _ => rows.push([state, state, symbol, symbol, to]),
-            }
-        }
-    }
-    random.shuffle(&mut rows);
-    let lines: Vec<_> = rows.iter().map(|row| Line::new(b'Q', row)).collect();
-    spell(&lines)
-}
-
-/// The options of a job's rule.
-fn options(job: &Job) -> Vec<String> {
-    let finals: Vec<_> = members(job.final_set())
+/// The options that say what is given with rows; no option says that no state is final.
+pub fn options(given: Given) -> Vec<String> {
+    let finals: Vec<_> = members(given.finals)
         .map(|state| state.to_string())
         .collect();
     let mut options = vec![
-        format!("--states={}", job.states()),
-        format!("--symbols={}", job.symbols),
+        format!("--states={}", given.states),
+        format!("--symbols={}", given.symbols),
     ];
     if !finals.is_empty() {
         options.push(format!("--finals={}", finals.join(",")));
     }
     options
+}
+
+/// Makes a rule from a text of rows and what is given with them.
+pub fn made(given: Given, text: &[u8]) -> Done {
+    let options = options(given);
+    let words = options.iter().map(String::as_str);
+    let words: Vec<_> = ["rule", "-"].into_iter().chain(words).collect();
+    run_bytes(&words, text)
+}
+
+/// The rows make a rule with these R lines, whatever zeros stand in them.
+fn lines_are(random: &mut Random, given: Given, rows: &[Row], lines: &[Line]) {
+    let text = filled(random, text(rows));
+    let (status, printed, wrong) = made(given, &text);
+    let shown = text.escape_ascii();
+    let note = if given.finals == 0 { NO_ALARM } else { "" };
+    assert_eq!((status, wrong.as_str()), (0, note), "{shown}");
+    assert_eq!(printed.as_bytes(), spell(lines), "{shown}");
 }
 
 #[test]
@@ -125,19 +109,42 @@ fn printed_lines_make_a_job_that_is_planned_as_the_same_job() {
 }
 
 #[test]
-fn rows_of_any_rule_become_the_r_lines_of_its_job() {
+fn rows_of_the_rule_of_any_job_become_its_r_lines() {
     let mut random = Random::of_this_run();
-    let mut jobs: Vec<_> = (0..60).map(|_| small::job(&mut random)).collect();
+    let mut jobs: Vec<_> = (0..50).map(|_| small::job(&mut random)).collect();
     jobs.push(samples::sixteen());
     for job in jobs {
-        let text = rows(&mut random, &job);
-        let text = String::from_utf8(filled(&mut random, text)).unwrap();
-        let options = options(&job);
-        let words: Vec<_> = options.iter().map(String::as_str).collect();
-        let (status, printed, wrong) = run(&[&["rule", "-"][..], &words].concat(), &text);
-        let note = if job.final_set() == 0 { NO_ALARM } else { "" };
-        assert_eq!((status, wrong.as_str()), (0, note), "{text}");
-        assert_eq!(printed.as_bytes(), rule_lines(&job), "{text}");
+        let (given, mut rows) = of_rule(&job);
+        random.shuffle(&mut rows);
+        let lines = job.lines().into_iter();
+        let lines: Vec<_> = lines.filter(|line| line.letter == b'R').collect();
+        lines_are(&mut random, given, &rows, &lines);
+    }
+}
+
+#[test]
+fn every_cell_holds_the_next_state_of_its_one_row() {
+    let mut random = Random::of_this_run();
+    for turn in 0..60 {
+        let (given, rows) = match turn {
+            0 => most_rows(&mut random),
+            _ => {
+                let given = given(&mut random);
+                (given, rows(&mut random, given))
+            }
+        };
+        let next = |state: u64, symbol: u64| {
+            let is_in = |number: u64, [first, last]: [u64; 2]| (first..=last).contains(&number);
+            let names = |row: &&Row| is_in(state, row.states) && is_in(symbol, row.symbols);
+            rows.iter().find(names).unwrap().next
+        };
+        let line = |state: u64| {
+            let mut numbers = vec![state, given.finals >> state & 1];
+            numbers.extend((0..given.symbols).map(|symbol| next(state, symbol)));
+            Line::new(b'R', &numbers)
+        };
+        let lines: Vec<_> = (0..given.states).map(line).collect();
+        lines_are(&mut random, given, &rows, &lines);
     }
 }
 

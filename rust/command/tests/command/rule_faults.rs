@@ -1,12 +1,13 @@
 //! Refused rule rows: the place of the fault, and what is expected there.
 use crate::places::columns;
 use crate::program::{file, folder, run_bytes, Done, PAIR, WINDOWS};
-use crate::rule::{pair, ROWS, SIZES};
-use dapohiru_generators::damage::damage;
+use crate::rule::{made, pair, ROWS, SIZES};
 use dapohiru_generators::faults::{faulty, Fault, Form};
 use dapohiru_generators::random::Random;
+use dapohiru_generators::rows as generators;
 use dapohiru_generators::zeros::filled;
 use dapohiru_second::job::{spell, Line};
+use dapohiru_second::rows::{self as second, text, Answer, Call, Given};
 
 pub const REFUSED_17: &str = "refused 17: S, A, the final set, the count of rows, a row's form or a number is outside its limits, or a first exceeds a last";
 pub const REFUSED_18: &str = "refused 18: two rows name one pair of a state and a symbol";
@@ -187,57 +188,56 @@ fn every_fault_of_a_row_is_told_with_its_line_and_columns() {
     }
 }
 
-/// Rows with any numbers, few of them outside the limits of PAIR.
-fn any_rows(random: &mut Random) -> Vec<u8> {
-    let count = random.between(0, 9);
-    let number = |random: &mut Random| match random.once_in(60) {
-        true => random.pick(&[3, 16, 256, 999_999]),
-        false => random.below(3),
-    };
-    let lines: Vec<_> = (0..count)
-        .map(|_| {
-            let mut row = [(); 5].map(|()| number(random));
-            if !random.once_in(30) {
-                row[..2].sort();
-                row[2..4].sort();
-            }
-            Line::new(b'Q', &row)
-        })
-        .collect();
-    spell(&lines)
+/// Any rows with what is given with them, most of them refused.
+fn any_rows(random: &mut Random) -> (Given, Vec<u8>) {
+    let mut given = generators::given(random);
+    let mut rows = generators::rows(random, given);
+    match random.below(6) {
+        0 => generators::name_twice(random, given, &mut rows),
+        1 => generators::leave_out(random, &mut rows),
+        2 => given = generators::wrong_given(random, given),
+        3 => {
+            let text = generators::refused(random, given, &rows);
+            return (given, text);
+        }
+        4 => {
+            let text = generators::damaged(random, &rows);
+            return (given, text);
+        }
+        _ => {}
+    }
+    let text = filled(random, text(&rows));
+    (given, text)
 }
 
 #[test]
 fn refusal_of_any_rows_is_told_with_what_was_expected() {
     let mut random = Random::of_this_run();
     let mut told = [0; 4];
-    let words = [&["rule", "-"][..], &SIZES].concat();
     for _ in 0..500 {
-        let mut text = match random.once_in(3) {
-            true => ROWS.as_bytes().to_vec(),
-            false => any_rows(&mut random),
+        let (given, text) = any_rows(&mut random);
+        let (status, printed, wrong) = made(given, &text);
+        let shown = format!("{given:?} {}", text.escape_ascii());
+        let call = Call {
+            text: &text,
+            given,
+            rule_len: 256,
         };
-        if random.once_in(3) {
-            damage(&mut random, &mut text);
-        }
-        let shown = text.escape_ascii().to_string();
-        let (status, printed, wrong) = run_bytes(&words, &text);
-        if status == 0 {
-            assert_eq!(
-                (printed.lines().count(), wrong.as_str()),
-                (3, ""),
-                "{shown}"
-            );
-            told[0] += 1;
-            continue;
-        }
+        let number = match second::make(&call, None).answer {
+            Answer::Refused(number) => number as usize,
+            Answer::Made(_) => {
+                assert_eq!(status, 0, "{shown}: {wrong}");
+                told[0] += 1;
+                continue;
+            }
+        };
         assert_eq!((status, printed.as_str()), (2, ""), "{shown}");
-        // the place is told where the second reading finds the library's number
-        let refused = [REFUSED_17, REFUSED_18, REFUSED_19];
-        let begins = refused.map(|refused| format!("dapohiru: standard input: {refused}\n  "));
-        let number = begins.iter().position(|begins| wrong.starts_with(begins));
+        // the fault is told where the second reading finds the library's number
+        let refused = [REFUSED_17, REFUSED_18, REFUSED_19][number - 17];
+        let begins = format!("dapohiru: standard input: {refused}\n  ");
+        assert!(wrong.starts_with(&begins), "{shown}: {wrong}");
         assert!(wrong.contains("\n  expected: "), "{shown}: {wrong}");
-        told[1 + number.expect(&wrong)] += 1;
+        told[number - 16] += 1;
     }
     println!("accepted, then refusals by number: {told:?}");
     assert!(told.iter().all(|&count| count > 0), "{told:?}");
