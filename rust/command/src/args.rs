@@ -48,7 +48,7 @@ impl Command {
     }
 
     /// What is wrong with the words, with the usage.
-    fn wrong(&self, why: String) -> String {
+    pub fn wrong(&self, why: String) -> String {
         let Command { name, usage, .. } = self;
         format!("{name}: {why}\nusage: dapohiru {usage}\n`dapohiru {name} --help` tells more")
     }

@@ -14,7 +14,7 @@ pub fn drawn(job: &Job, plan: &[u8], names: &Names) -> String {
     text + &ways_back(job) + "}\n"
 }
 
-/// How many arrows a graph has that is drawn so: of edges, entries, exits and ways back. Each has a line.
+/// How many arrows a graph has that is drawn so, those of entries, exits and ways back too. Each has a line.
 pub fn arrows(graph: &str) -> usize {
     let is_arrow = |line: &&str| line.split_whitespace().nth(1) == Some("->");
     graph.lines().filter(is_arrow).count()
@@ -97,7 +97,7 @@ fn drawn_node(number: usize, node: &Node, watched: bool, names: &Names) -> Strin
 }
 
 /// Text within the quotes of a label, where Graphviz reads backslashes and ampersands too.
-fn quoted(text: &str) -> String {
+pub fn quoted(text: &str) -> String {
     let text = text.replace('\\', "\\\\").replace('"', "\\\"");
     text.replace('&', "&amp;")
 }

@@ -1,4 +1,5 @@
-//! A fault of a job file, a volume file, a price file or a plan, with its place; the first fault of a line.
+//! A fault of a job file, a volume file, a price file, rule rows or a plan, with its place; the first fault of a
+//! line.
 use crate::encoding::{self, MARK};
 use crate::shown;
 use dapohiru_second::reading;

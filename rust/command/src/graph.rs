@@ -1,12 +1,9 @@
 //! The command `graph`: the flow graph of a job, with its plan.
 use crate::args::{Command, Given};
-use crate::dot::Picture;
+use crate::dot::Drawer;
 use crate::drawing::drawn;
 use crate::names::Names;
-use crate::{input, job, output, shown};
-use std::ffi::OsStr;
-use std::io::{self, IsTerminal};
-use std::time::Duration;
+use crate::{input, job, output};
 
 pub const COMMAND: Command = Command {
     name: "graph",
@@ -40,21 +37,15 @@ Exit status: 0 drawn; 2 a refused job or plan, or something else that is wrong.
     run,
 };
 
+/// How its pictures are asked for.
+const DRAWER: Drawer = Drawer {
+    command: "graph",
+    as_text: |format| format!("without --{format} the graph is printed as text"),
+};
+
 fn run(given: &Given) -> Result<u8, String> {
-    let picture = match (given.has("--svg"), given.has("--png")) {
-        (true, true) => return Err("graph: --svg and --png are two pictures, take one".to_string()),
-        (true, false) => Some("svg"),
-        (false, true) => Some("png"),
-        (false, false) => None,
-    };
     let to = output::named(given.value("-o"));
-    if picture == Some("png") && to.is_none() && io::stdout().is_terminal() {
-        return Err("graph: a PNG picture is not for a terminal, take -o FILE".to_string());
-    }
-    if picture.is_none() && given.value("--seconds").is_some() {
-        return Err("graph: --seconds is only of use with --svg or --png".to_string());
-    }
-    let most = seconds(given.value("--seconds"))?;
+    let picture = DRAWER.asked(given, to)?;
     let names = given.value("--names");
     let files = [
         ("JOB", given.further(0)),
@@ -74,24 +65,7 @@ fn run(given: &Given) -> Result<u8, String> {
     let text = drawn(&job, &plan, &names);
     let bytes = match picture {
         None => text.into_bytes(),
-        Some(format) => {
-            let picture = Picture { format, most };
-            picture.of(text)?
-        }
+        Some(picture) => picture.of(text)?,
     };
     output::deliver(to, &bytes).map(|()| 0)
-}
-
-/// How long a picture may take.
-fn seconds(asked: Option<&OsStr>) -> Result<Duration, String> {
-    let Some(asked) = asked else {
-        return Ok(Duration::from_secs(60));
-    };
-    match asked.to_str().and_then(|asked| asked.parse().ok()) {
-        Some(seconds @ 1..=3600) => Ok(Duration::from_secs(seconds)),
-        _ => Err(format!(
-            "graph: --seconds is {}, and a picture may take 1 to 3600",
-            shown::name(asked)
-        )),
-    }
 }

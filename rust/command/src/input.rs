@@ -1,4 +1,4 @@
-//! What is read: job files, plan files, volume files and price files.
+//! What is read: job files, plan files, volume files, price files and rule rows.
 use crate::encoding::{self, MARK};
 use crate::shown;
 use dapohiru::planfile;
@@ -8,7 +8,8 @@ use std::io::{self, Read};
 
 /// The bytes of a plan file that are read; no plan is as long.
 const PLAN_FILE: usize = 4_096;
-/// The bytes of a volume file or a price file that are read; the longest that is accepted has far fewer.
+/// The bytes of a volume file, a price file or rule rows that are read; the longest that are accepted have far
+/// fewer.
 const NUMBERED_FILE: usize = 65_536;
 
 /// A file that was read.
@@ -58,7 +59,7 @@ pub fn digits(file: Input) -> Result<Plan, String> {
     Ok(Plan { shown, bytes: plan })
 }
 
-/// Reads a volume file or a price file; of one that is far too long more than is accepted, so that it is
+/// Reads a volume file, a price file or rule rows; of what is far too long more than is accepted, so that it is
 /// refused.
 pub fn numbered(name: &OsStr) -> Result<Input, String> {
     read(name, NUMBERED_FILE)

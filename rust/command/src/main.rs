@@ -2,10 +2,12 @@
 //! nothing itself. Each command is a module.
 mod args;
 mod audit;
+mod automaton;
 mod bill;
 mod check;
 mod child;
 mod clock;
+mod diagram;
 mod digest;
 mod dot;
 mod drawing;
@@ -37,7 +39,10 @@ mod recordfile;
 mod refusal;
 mod release;
 mod reports;
+mod rows;
+mod rule;
 mod shown;
+mod sizes;
 mod start;
 mod stop;
 mod summary;
@@ -51,7 +56,7 @@ use std::ffi::{OsStr, OsString};
 use std::process::ExitCode;
 
 /// The commands, in the order of the help.
-const COMMANDS: [&Command; 8] = [
+const COMMANDS: [&Command; 9] = [
     &plan::COMMAND,
     &list::COMMAND,
     &check::COMMAND,
@@ -60,6 +65,7 @@ const COMMANDS: [&Command; 8] = [
     &watch::COMMAND,
     &release::COMMAND,
     &graph::COMMAND,
+    &rule::COMMAND,
 ];
 
 fn main() -> ExitCode {
@@ -140,10 +146,10 @@ fn help() -> String {
       Prints the program's version.
 
 JOB is a job file, PLAN a file that holds a line of 0 and 1 with one digit for each node, VOLUMES one
-with a line for each node and its events a day, and the file of --prices one with a line for each of
-the symbols 0 to 15 and what a thousand of its events cost. One of the files of a command may be -,
-which is standard input; watch reads its events there. What begins with - is an option, up to the
-word --.
+with a line for each node and its events a day, the file of --prices one with a line for each of the
+symbols 0 to 15 and what a thousand of its events cost, and ROWS one with the rows of a rule. One of
+the files of a command may be -, which is standard input; watch reads its events there. What begins
+with - is an option, up to the word --.
 The file of --names has a line for each name, of a symbol, a node or a state of the job:
 
   symbol 0 seal

@@ -26,9 +26,14 @@ const KINDS: [(&str, Kind); 3] = [
     ("state", Kind::State),
 ];
 
-/// For each symbol, node and state of a job its name, if it has one.
+/// For each symbol, node and state of a job or a rule its name, if it has one.
 #[derive(Default)]
-pub struct Names([Vec<Option<String>>; 3]);
+pub struct Names {
+    /// What has them.
+    owner: &'static str,
+    /// The names of each kind.
+    named: [Vec<Option<String>>; 3],
+}
 
 /// The file of the names that are asked for, which are shown with one of these options alone.
 pub fn asked<'a>(
@@ -46,10 +51,24 @@ pub fn asked<'a>(
 }
 
 impl Names {
-    /// The names in a file, or none: a line for each name.
+    /// The names for a job in a file, or none: a line for each name.
     pub fn read(file: Option<&OsStr>, job: &Job) -> Result<Self, String> {
         let counts = [job.symbols as usize, job.nodes.len(), job.states()];
-        let mut names = Names(counts.map(|count| vec![None; count]));
+        Names::read_for(file, "job", counts)
+    }
+
+    /// The same for a rule of so many states and symbols. Nodes of the job that the rule is for may be named too.
+    pub fn of_rule(file: Option<&OsStr>, states: usize, symbols: usize) -> Result<Self, String> {
+        Names::read_for(file, "rule", [symbols, dapohiru::PLAN_LEN, states])
+    }
+
+    fn read_for(
+        file: Option<&OsStr>,
+        owner: &'static str,
+        counts: [usize; 3],
+    ) -> Result<Self, String> {
+        let named = counts.map(|count| vec![None; count]);
+        let mut names = Names { owner, named };
         let Some(file) = file else {
             return Ok(names);
         };
@@ -75,11 +94,12 @@ impl Names {
 
     /// Gives a name to what has none yet.
     fn add(&mut self, kind: Kind, number: usize, name: String) -> Result<(), String> {
-        let (word, names) = (KINDS[kind as usize].0, &mut self.0[kind as usize]);
+        let (word, owner) = (KINDS[kind as usize].0, self.owner);
+        let names = &mut self.named[kind as usize];
         let last = names.len().saturating_sub(1);
         match names.get_mut(number) {
             None => Err(format!(
-                "the {word}s of the job are 0 to {last}, and the line names {number}"
+                "the {word}s of the {owner} are 0 to {last}, and the line names {number}"
             )),
             Some(Some(_)) => Err(format!("{word} {number} has a name already")),
             Some(free) => {
@@ -91,7 +111,7 @@ impl Names {
 
     /// A number, with its name if it has one.
     fn of(&self, kind: Kind, number: usize) -> String {
-        match self.0[kind as usize].get(number) {
+        match self.named[kind as usize].get(number) {
             Some(Some(name)) => format!("{number} {}", shown::text(name)),
             _ => number.to_string(),
         }
@@ -129,10 +149,30 @@ impl Names {
 
     /// The side of a column of nodes: the left where nodes have names.
     pub fn node_side(&self) -> Side {
-        match self.0[Kind::Node as usize].iter().any(Option::is_some) {
+        self.side(&[Kind::Node])
+    }
+
+    /// The side of a column of states: the left where states have names.
+    pub fn state_side(&self) -> Side {
+        self.side(&[Kind::State])
+    }
+
+    /// The side of a column of states under a symbol: the left where either have names.
+    pub fn next_side(&self) -> Side {
+        self.side(&[Kind::Symbol, Kind::State])
+    }
+
+    fn side(&self, kinds: &[Kind]) -> Side {
+        let is_named = |&kind: &Kind| self.named[kind as usize].iter().any(Option::is_some);
+        match kinds.iter().any(is_named) {
             true => Side::Name(LEAST),
             false => Side::Right,
         }
+    }
+
+    /// Whether a symbol has a name.
+    pub fn has_symbol(&self, symbol: usize) -> bool {
+        matches!(self.named[Kind::Symbol as usize].get(symbol), Some(Some(_)))
     }
 
     /// The names as they stand in the file: for symbols, nodes and states a list.
@@ -144,7 +184,7 @@ impl Names {
                 ("name", name),
             ]))
         };
-        let [symbols, nodes, states] = &self.0;
+        let [symbols, nodes, states] = &self.named;
         let list =
             |names: &Vec<_>| Json::List(names.iter().enumerate().filter_map(named).collect());
         Json::Object(vec![

@@ -4,7 +4,7 @@ use crate::fault::{Due, Fault};
 use dapohiru_second::reading::{self, Stop};
 
 /// The fields of a J line, with their limits.
-const SIZES: [(&str, u64, u64); 4] = [
+pub const SIZES: [(&str, u64, u64); 4] = [
     ("S, the number of states", 1, 16),
     ("A, the number of symbols", 1, 16),
     ("N, the number of nodes", 1, 512),

@@ -7,6 +7,8 @@ use crate::json::Json;
 use crate::names::Names;
 use crate::numbered::{PRICES, VOLUMES};
 use crate::place::first_fault;
+use crate::rows;
+use crate::sizes::Sizes;
 use crate::tariff::Tariff;
 use dapohiru::Refusal;
 use dapohiru_second::job::{EVENT, REENTRANT};
@@ -79,6 +81,11 @@ pub fn of_price(
         }
         _ => of_plan(job, plan, &Names::default(), refusal),
     }
+}
+
+/// What is said of refused rule rows, or of the numbers given beside them.
+pub fn of_rows(rows: &Input, sizes: &Sizes, names: &Names, refusal: Refusal) -> Told {
+    told_of(rows, refusal, rows::first_fault(&rows.bytes, sizes, names))
 }
 
 /// The refusal of a file, with what is told of how it was written.
@@ -176,8 +183,11 @@ fn meaning(number: u64) -> &'static str {
         11 => "the plan has not one digit for each node",
         12 => "the plan has a digit above 1, or a 1 at a node that is no event node",
         16 => "the volume file is not exactly one V line for each node, in order",
+        17 => "S, A, the final set, the count of rows, a row's form or a number is outside its limits, or a first exceeds a last",
+        18 => "two rows name one pair of a state and a symbol",
+        19 => "a pair of a state and a symbol has no row",
         28 => "the price file is not exactly one B line for each of the symbols 0 to 15, in order",
-        _ => "no refusal of a job, a plan, a volume file or a price file",
+        _ => "no refusal of a job, a plan, a volume file, rows or a price file",
     }
 }
 

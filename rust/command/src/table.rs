@@ -18,50 +18,78 @@ pub const LEAST: usize = 8;
 const CUT: &str = "..";
 
 /// The rows for standard output; the first row holds the headings.
-pub fn table<const N: usize>(sides: [Side; N], rows: &[[String; N]]) -> String {
+pub fn table(sides: impl AsRef<[Side]>, rows: &[impl AsRef<[String]>]) -> String {
     fitted(sides, rows, terminal::columns(&io::stdout()))
 }
 
 /// The rows with two spaces between columns. Where so many columns of a terminal are too few, names are cut in
 /// the middle, and then one space stands between columns; all else stays whole, and so do names that would look
 /// alike.
-fn fitted<const N: usize>(sides: [Side; N], rows: &[[String; N]], room: Option<usize>) -> String {
+pub fn fitted(
+    sides: impl AsRef<[Side]>,
+    rows: &[impl AsRef<[String]>],
+    room: Option<usize>,
+) -> String {
+    let sides = sides.as_ref();
+    let (widths, gap) = shape(sides, rows, room).unwrap_or_else(|narrowest| narrowest);
+    let columns: Vec<_> = (0..sides.len())
+        .map(|column| {
+            let cells = rows.iter().map(|row| row.as_ref()[column].as_str());
+            told_apart(&cells.collect::<Vec<_>>(), widths[column])
+        })
+        .collect();
+    let line = |row: usize| {
+        let cells = columns.iter().zip(&widths).zip(sides);
+        let cells: Vec<_> = cells
+            .map(|((cells, &width), &side)| padded(&cells[row], width, side))
+            .collect();
+        cells.join(&" ".repeat(gap)).trim_end().to_string() + "\n"
+    };
+    (0..rows.len()).map(line).collect()
+}
+
+/// Whether the rows have room in so many columns of a terminal, with their names cut where that is needed.
+pub fn has_room(
+    sides: impl AsRef<[Side]>,
+    rows: &[impl AsRef<[String]>],
+    room: Option<usize>,
+) -> bool {
+    shape(sides.as_ref(), rows, room).is_ok()
+}
+
+/// The widths of the columns, and the spaces between them.
+type Shape = (Vec<usize>, usize);
+
+/// The widest shape of the rows that has room, or the narrowest where none has.
+fn shape(
+    sides: &[Side],
+    rows: &[impl AsRef<[String]>],
+    room: Option<usize>,
+) -> Result<Shape, Shape> {
     let width = |column: usize| {
-        let cells = rows.iter().map(|row| shown::width(&row[column]));
+        let cells = rows.iter().map(|row| shown::width(&row.as_ref()[column]));
         cells.max().unwrap_or(0)
     };
-    let whole: Vec<_> = (0..N).map(width).collect();
+    let whole: Vec<_> = (0..sides.len()).map(width).collect();
     let widths = |most: usize| -> Vec<_> {
-        let cut = |(&width, side): (&usize, Side)| match side {
+        let cut = |(&width, side): (&usize, &Side)| match *side {
             Side::Name(least) => width.min(most.max(least)),
             Side::Left | Side::Right => width,
         };
         whole.iter().zip(sides).map(cut).collect()
     };
     let fits = |&(most, gap): &(usize, usize)| {
-        let needed = widths(most).iter().sum::<usize>() + gap * (N - 1);
+        let needed = widths(most).iter().sum::<usize>() + gap * (sides.len() - 1);
         room.is_none_or(|room| needed <= room)
     };
     let widest = whole.iter().copied().max().unwrap_or(0).max(LEAST);
     let mut shapes = [2, 1]
         .into_iter()
         .flat_map(|gap| (LEAST..=widest).rev().map(move |most| (most, gap)));
-    let (most, gap) = shapes.find(fits).unwrap_or((LEAST, 1));
-    let widths = widths(most);
-    let columns: Vec<_> = (0..N)
-        .map(|column| {
-            let cells: Vec<_> = rows.iter().map(|row| row[column].as_str()).collect();
-            told_apart(&cells, widths[column])
-        })
-        .collect();
-    let line = |row: usize| {
-        let cells = columns.iter().zip(&widths).zip(sides);
-        let cells: Vec<_> = cells
-            .map(|((cells, &width), side)| padded(&cells[row], width, side))
-            .collect();
-        cells.join(&" ".repeat(gap)).trim_end().to_string() + "\n"
-    };
-    (0..rows.len()).map(line).collect()
+    match shapes.find(fits) {
+        Some((most, gap)) => Ok((widths(most), gap)),
+        None => Err((widths(LEAST), 1)),
+    }
 }
 
 /// The cells of a column, cut to so many columns, but for those that would be shown as another cell is.

@@ -87,6 +87,9 @@ fn files_written_in_other_ways_are_told_with_what_mends_them() {
     let text = read("house.prices");
     let words = ["price", &job, &plan, &volumes, "--prices", "FILE"];
     is_told_and_mended(&folder, &text, &words);
+    let sizes = ["--states=3", "--symbols=3", "--finals=2"];
+    let words = [&["rule", "FILE"][..], &sizes].concat();
+    is_told_and_mended(&folder, &read("pair.rows"), &words);
     let text = read("pair.names");
     is_told_and_mended(&folder, &text, &["watch", &job, "--names", "FILE"]);
     let words = ["list", &job, "--explain", "--names", "FILE"];

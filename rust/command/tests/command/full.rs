@@ -9,6 +9,8 @@ use std::process::Stdio;
 fn printing() -> Vec<(Vec<String>, &'static str)> {
     let (job, volumes) = (example("pair.job"), example("pair.volumes"));
     let prices = example("association.prices");
+    let rows = example("pair.rows");
+    let rule = ["rule", &rows, "--states=3", "--symbols=3", "--finals=2"];
     let folder = folder("full-release");
     file(&folder, "pair.job", PAIR.as_bytes());
     let release = folder.display().to_string();
@@ -32,6 +34,11 @@ fn printing() -> Vec<(Vec<String>, &'static str)> {
         (vec!["watch", &job], "0\n2\n2\n2\n"),
         (vec!["release", &release], ""),
         (vec!["graph", &job], ""),
+        (rule.to_vec(), ""),
+        ([&rule[..], &["--table"]].concat(), ""),
+        ([&rule[..], &["--json"]].concat(), ""),
+        ([&rule[..], &["--dot"]].concat(), ""),
+        (rule[..4].to_vec(), ""),
     ]
     .map(|(words, input)| (words.into_iter().map(str::to_string).collect(), input))
     .into()
@@ -154,8 +161,13 @@ fn what_is_no_regular_file_is_not_replaced() {
             ": no file can be made beside it: No such file or directory (os error 2)",
         ),
     ] {
-        for command in ["plan", "graph"] {
-            let done = run(&[command, &example("pair.job"), "-o", to], "");
+        let (job, rows) = (example("pair.job"), example("pair.rows"));
+        for words in [
+            &["plan", &job][..],
+            &["graph", &job],
+            &["rule", &rows, "--states=3", "--symbols=3", "--finals=2"],
+        ] {
+            let done = run(&[words, &["-o", to]].concat(), "");
             let wrong = format!("dapohiru: {to}{why}\n");
             assert_eq!(done, (2, String::new(), wrong));
         }
@@ -227,6 +239,8 @@ fn file_that_is_read_is_not_replaced() {
         assert_eq!(fs::read_to_string(&plan).unwrap(), "011\n");
         assert_eq!(names(&folder), ["link", "other", "pair.job", "pair.plan"]);
     };
+    // what it holds is not looked at
+    let rule = ["rule", &job, "--states=3", "--symbols=3", "--names", &plan];
     for (words, to) in [
         (&["plan", &job][..], &job),
         (&["plan", &job], &link),
@@ -235,6 +249,8 @@ fn file_that_is_read_is_not_replaced() {
         (&["graph", &job], &job),
         (&["graph", &job, &plan], &link),
         (&["graph", &job, &plan], &plan),
+        (&rule, &link),
+        (&rule, &plan),
     ] {
         let words = [words, &["-o", to]].concat();
         let wrong = format!("dapohiru: {to}: -o names the file that is read\n");
@@ -246,6 +262,7 @@ fn file_that_is_read_is_not_replaced() {
         (&["plan", "/dev/stdin"], &job),
         (&["graph", "-"], &job),
         (&["graph", &job, "-"], &plan),
+        (&["rule", "-", "--states=3", "--symbols=3"], &job),
     ] {
         let words = [words, &["-o", to, to]].concat();
         let script = "\"${@:1:$#-1}\" < \"${@: -1}\"";

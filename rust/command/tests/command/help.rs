@@ -27,7 +27,12 @@ fn help_is_printed_for_all_and_for_each() {
             let (status, printed, wrong) = run(words, "");
             assert_eq!((status, wrong.as_str()), (0, ""));
             assert!(printed.starts_with(&format!("usage: dapohiru {}", named(name))));
-            let first = ["\n\n  JOB ", "\n\n  DIR ", "\n\n  dapohiru prices > "];
+            let first = [
+                "\n\n  JOB ",
+                "\n\n  DIR ",
+                "\n\n  ROWS ",
+                "\n\n  dapohiru prices > ",
+            ];
             assert!(
                 first.iter().any(|first| printed.contains(first)),
                 "{printed}"

@@ -53,7 +53,7 @@ fn after_text(text: &str) -> Option<&str> {
 }
 
 /// Asks that a text is one line and one value.
-fn is_document(text: &str) {
+pub fn is_document(text: &str) {
     assert_eq!(after_value(text), Some("\n"), "{text}");
 }
 

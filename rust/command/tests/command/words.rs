@@ -2,8 +2,8 @@
 use crate::program::{example, run};
 
 /// The commands, in the order of the help.
-pub const COMMANDS: [&str; 8] = [
-    "plan", "list", "check", "price", "prices", "watch", "release", "graph",
+pub const COMMANDS: [&str; 9] = [
+    "plan", "list", "check", "price", "prices", "watch", "release", "graph", "rule",
 ];
 
 /// A command's name, and what follows it in its usage: words, or for `prices`, which takes none, the line's end.
@@ -31,7 +31,7 @@ fn unknown_command_is_told_with_the_known_ones() {
 
 #[test]
 fn wrong_words_are_told_with_the_usage() {
-    let job = example("pair.job");
+    let (job, rows) = (example("pair.job"), example("pair.rows"));
     for (words, why) in [
         (&["plan"][..], "JOB is missing"),
         (&["list", "--explain"], "JOB is missing"),
@@ -44,6 +44,12 @@ fn wrong_words_are_told_with_the_usage() {
         (&["watch"], "JOB is missing"),
         (&["release"], "DIR is missing"),
         (&["graph", "--svg"], "JOB is missing"),
+        (&["rule", "--states=3", "--symbols=3"], "ROWS is missing"),
+        (&["rule", &rows, "--symbols=3"], "--states S is missing"),
+        (
+            &["rule", &rows, "--states=3", "--finals=2"],
+            "--symbols A is missing",
+        ),
         (&["plan", &job, "b"], "b is one name too many"),
         (&["list", &job, "b"], "b is one name too many"),
         (&["check", &job, "b", "c"], "c is one name too many"),
@@ -53,6 +59,7 @@ fn wrong_words_are_told_with_the_usage() {
         (&["watch", &job, "b", "c"], "c is one name too many"),
         (&["release", "a", "b"], "b is one name too many"),
         (&["graph", &job, "b", "c"], "c is one name too many"),
+        (&["rule", &rows, "b"], "b is one name too many"),
         (&["plan", &job, "--", "-o"], "-o is one name too many"),
         (&["plan", "--quick", &job], "--quick is no option"),
         (&["plan", &job, "--state=1"], "--state=1 is no option"),
@@ -63,6 +70,27 @@ fn wrong_words_are_told_with_the_usage() {
         (
             &["list", &job, "--explain=yes"],
             "--explain=yes is no option",
+        ),
+        (&["rule", &rows, "--explain"], "--explain is no option"),
+        (
+            &["rule", &rows, "--states", "--symbols=3"],
+            "--states is not followed by S",
+        ),
+        (
+            &["rule", &rows, "--symbols"],
+            "--symbols is not followed by A",
+        ),
+        (
+            &["rule", &rows, "--finals", ""],
+            "--finals is not followed by Q,Q",
+        ),
+        (
+            &["rule", &rows, "--finals="],
+            "--finals is not followed by Q,Q",
+        ),
+        (
+            &["rule", &rows, "--finals=1", "--finals=2"],
+            "--finals is given twice",
         ),
         (&["plan", &job, "-o"], "-o is not followed by FILE"),
         (&["plan", &job, "-o", ""], "-o is not followed by FILE"),
@@ -184,6 +212,7 @@ fn file_whose_name_begins_with_a_hyphen_can_be_given() {
 #[test]
 fn words_that_do_not_go_together_are_told() {
     let (job, jobs) = (example("pair.job"), example(""));
+    let rows = example("pair.rows");
     for (words, why) in [
         (
             &["list", &job, "--names", "x"][..],
@@ -289,6 +318,30 @@ fn words_that_do_not_go_together_are_told() {
             &["graph", &job, "--svg", "--png"],
             "graph: --svg and --png are two pictures, take one",
         ),
+        (
+            &["rule", "-", "--states=3", "--symbols=3", "--names=-"],
+            "rule: ROWS and the names cannot both be standard input",
+        ),
+        (
+            &["rule", &rows, "--table", "--json"],
+            "rule: --table and --json are two forms, take one",
+        ),
+        (
+            &["rule", &rows, "--svg", "--dot"],
+            "rule: --dot and --svg are two forms, take one",
+        ),
+        (
+            &["rule", &rows, "--svg", "--png"],
+            "rule: --svg and --png are two pictures, take one",
+        ),
+        (
+            &["rule", &rows, "--dot", "--seconds=3"],
+            "rule: --seconds is only of use with --svg or --png",
+        ),
+        (
+            &["rule", &rows, "--svg", "--seconds=0"],
+            "rule: --seconds is 0, and a picture may take 1 to 3600",
+        ),
     ] {
         let wrong = format!("dapohiru: {why}\n");
         assert_eq!(run(words, ""), (2, String::new(), wrong));
@@ -297,9 +350,10 @@ fn words_that_do_not_go_together_are_told() {
 
 #[test]
 fn missing_file_is_named() {
-    let job = example("pair.job");
+    let (job, rows) = (example("pair.job"), example("pair.rows"));
     let volumes = example("pair.volumes");
     let missing = "/no/such/file";
+    let sizes = ["--states=3", "--symbols=3", "--finals=2"];
     for words in [
         &["plan", missing][..],
         &["list", missing],
@@ -319,6 +373,8 @@ fn missing_file_is_named() {
         &["release", missing],
         &["graph", missing],
         &["graph", &job, missing],
+        &[&["rule", missing][..], &sizes].concat(),
+        &[&["rule", &rows, "--names", missing][..], &sizes].concat(),
     ] {
         let wrong = format!("dapohiru: {missing}: No such file or directory (os error 2)\n");
         assert_eq!(run(words, "0\n"), (2, String::new(), wrong), "{words:?}");
