@@ -4,3 +4,4 @@ pub mod PlanningLaws
 pub mod CallsLaws
 pub mod RuleLaws
 pub mod Promise
+pub mod RowsLaws

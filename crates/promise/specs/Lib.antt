@@ -1,3 +1,4 @@
 -- The third promise.
 -- Assumes nothing.
 pub mod Promise
+pub mod RowsTied

@@ -16,7 +16,7 @@ use Rattle.laws.proofs.Tests.{fails-of, passes-or-fails, test-ext}
 use Rattle.lines.specs.Line.{at}
 use Rattle.rulerows.specs.declared.rows.Row.{Row}
 use Rattle.rulerows.specs.RuleRows.{rowOf, goodRow, names, namedBy, nextIn, twice, missing}
-use Rattle.rulerows.specs.RowsSay.{RowWithin, Names, rowAt, RowTestsSay, Twice, Unnamed}
+use Rattle.rulerows.specs.RowsSay.{RowWithin, Names, rowAt, Twice, Unnamed}
 
 -- ---- the tests of a row
 
@@ -74,10 +74,6 @@ row-names r q c = (
         and-eq-true-iff _ _ .1 (le-leb (r .symbols .first) c (n .from-symbol), le-leb c (r .symbols .last) (n .to-symbol)),
       ),
 )
-
--- both
-pub row-tests-say : RowTestsSay
-row-tests-say = record { within = row-within; named = row-names }
 
 -- ---- how many rows name a pair
 

@@ -16,8 +16,8 @@ use Rattle.lines.proofs.SpelledLines.{lines-says, refused-says, line-once, stan
 use Rattle.lines.proofs.AlikeLaws.{stand-length}
 use Rattle.rulerows.specs.declared.rows.Row.{Row}
 use Rattle.rulerows.specs.RuleRows.{rowOf, rowLine, Rows, rows, not-rows, rowsRead, rowsDue, rowsIn}
-use Rattle.rulerows.specs.RowsSay.{RowWithin, rowAt, RowsText}
-use Rattle.rulerows.proofs.RowsLaws.{row-within, AllWithin}
+use Rattle.rulerows.specs.RowsSay.{RowWithin, rowAt, RowsText, RowTestsSay}
+use Rattle.rulerows.proofs.RowsLaws.{row-within, row-names, AllWithin}
 
 -- a row that has a fault
 pub data RowFault (s a : ℕ) (text : List ℕ) : Type 0 where
@@ -145,3 +145,15 @@ module _ (s a : ℕ) (text : List ℕ) where
       go : (x : Rows) → rowsIn s a text ≡ x → rowsIn s a text ≡ not-rows
       go (rows rs) e = absurd (no-fault rs (read-rows rs e) fault)
       go not-rows e = e
+
+-- ---- the tests
+
+-- of a row, and of the text's length
+pub row-tests-say : RowTestsSay
+row-tests-say =
+    record {
+      within = row-within;
+      named = row-names;
+      count = λ s a text rs t.
+          let long = text-length s a text rs t in (λ h. omega (arith, h, long), λ h. omega (arith, h, long));
+    }

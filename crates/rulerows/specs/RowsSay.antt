@@ -56,10 +56,11 @@ pub record RowsText (s a : ℕ) (text : List ℕ) (rs : List Row) : Type 0 where
   pub stand : LinesAt (rowLine s a) (length rs) 0 [] text lines []
   pub are : rs ≡ map rowOf lines
 
--- the statement: what the tests of a row say
+-- the statement: what the tests of a row and of the text's length say
 pub record RowTestsSay : Type 0 where
   pub within : (s a i : ℕ) (before ns : List ℕ) → (goodRow s a i before ns ≡ true) ↔ RowWithin s a (rowOf ns)
   pub named : (r : Row) (q c : ℕ) → (names r q c ≡ true) ↔ Names r q c
+  pub count : (s a : ℕ) (text : List ℕ) (rs : List Row) → RowsText s a text rs → (length text ≤ maxText) ↔ (length rs ≤ 256)
 
 -- ---- the refusals
 

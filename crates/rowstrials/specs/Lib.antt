@@ -1,0 +1,3 @@
+-- Trials of rule rows.
+-- Assumes nothing.
+pub mod RowsTrials
