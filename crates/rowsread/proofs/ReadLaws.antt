@@ -81,6 +81,7 @@ row-there s a (found ns) row e = let (good, is) = tested-row (goodRow s a 0 [] n
 pub row-fits : {s a : ℕ} {row : Row} → s ≤ 16 → a ≤ 16 → RowWithin s a row → RowFits row
 row-fits hs ha w =
     record {
+      first-state = omega (arith, hs, w .first-state);
       states = omega (arith, hs, w .last-state);
       first-symbol = omega (arith, ha, w .first-symbol);
       symbols = omega (arith, ha, w .last-symbol);

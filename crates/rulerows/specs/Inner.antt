@@ -23,6 +23,7 @@ rowDue s a (found ns) = cond (goodRow s a 0 [] ns) (Within (rowOf ns)) Outside
 
 -- a row within sixteen states and sixteen symbols
 pub record RowFits (r : Row) : Type 0 where
+  pub first-state : r .states .first < 16
   pub states : r .states .last < 16
   pub first-symbol : r .symbols .first < 16
   pub symbols : r .symbols .last < 16
