@@ -10,11 +10,11 @@ use Rattle.laws.specs.Bounded.{tab}
 use Rattle.laws.proofs.Bounded.{length-tab, getD-tab, fill-done}
 use Rattle.automaton.specs.Automaton.{Automaton, automatonOf, cell, next, WellFormed, SameRule}
 use Rattle.job.specs.Job.{Job, nodeAt, KindBelow}
-use Rattle.lines.specs.Line.{at, writeLines}
+use Rattle.lines.specs.Line.{writeLines}
 use Rattle.lines.specs.Lines.{lines, linesOf}
 use Rattle.lines.specs.Written.{GoodLines}
 use Rattle.lines.proofs.SpelledLines.{written-stand, lines-says}
-use Rattle.jobfile.specs.File.{ruleLine, ruleOf, accepted, readJob, writeRules, writeJob}
+use Rattle.jobfile.specs.File.{ruleLine, ruleOf, writeJob}
 use Rattle.jobfile.specs.Alike.{Alike}
 use Rattle.jobfile.specs.Spellable.{Spellable}
 use Rattle.jobfile.specs.RuleLines.{rowsWithin, trimmed, ruleText, withRule, withRuleText, RuleLinesSay}

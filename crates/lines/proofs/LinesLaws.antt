@@ -156,6 +156,12 @@ tested k i before ends e = absurd (omega arith)
 tested k i before no-line e = absurd (omega arith)
 tested k i before (found ns) e = refl
 
+-- a line is found with its numbers
+found-there : (d : Due) → dueStatus d ≡ 0 → d ≡ found (numbersOf d)
+found-there ends e = let z : _≡_ {A = ℕ} 3 0 = e in absurd (omega arith)
+found-there no-line e = let z : _≡_ {A = ℕ} 4 0 = e in absurd (omega arith)
+found-there (found ns) e = refl
+
 -- a test that passes among three
 second-of : (a b c : Bool) (d : Due) → dueStatus (cond (a && b && c) d no-line) ≡ 0 → b ≡ true
 second-of true true c d e = refl
@@ -206,6 +212,10 @@ module _ (k : LineKind) (i : ℕ) (before bytes : List ℕ) {l m : List ℕ} {r 
     -- as many numbers lent as it has fields
     pub due-whole : length l ≡ k .count → m ≡ numbersOf due
     due-whole h = e .numbers z ∙ rw (drop-of-length-le l {i = k .count} (omega arith)) (append-nil (numbersOf due))
+
+    -- so the line is found with them
+    pub due-found : length l ≡ k .count → due ≡ found m
+    due-found h = found-there due is-line ∙ ap found (sym (due-whole h))
 
     -- more of them lent, all zero
     pub due-number : (n j : ℕ) → l ≡ replicate n 0 → getD m j 0 ≡ getD (numbersOf due) j 0

@@ -4,15 +4,13 @@ use mathlib.Core.Path.{_≡_, refl, sym, ap, _∙_}
 use mathlib.Core.Bool.{Bool, true, false, cond, _&&_, and-false}
 use mathlib.Core.List.{List, []}
 use Prim.Native.Nat.{ℕ, _≤_, _<_}
-use native.Mathlib.Omega.{arith}
 use lib.Dec.{eqb, leb}
 use lib.ListN.{replicate}
 use borrow.Author.Tests.{eq-eqb, ne-eqb, le-leb, lt-leb}
 use Rattle.lines.specs.declared.field.Field.the-variants.{Number, Malformed}
 use Rattle.lines.specs.Inner.{dueStatus, DueRead}
 use Rattle.lines.specs.Line.{Due, ends, no-line, found, lineOf, at}
-use Rattle.lines.specs.Places.{numbersOf}
-use Rattle.lines.proofs.LinesLaws.{due-whole}
+use Rattle.lines.proofs.LinesLaws.{due-found}
 use Rattle.pricing.specs.Numbered.{goodNumbered, numberedLine}
 use Rattle.pricing.specs.Inner.{numberDue}
 
@@ -22,12 +20,6 @@ no-number limit place ends q = refl
 no-number limit place no-line q = refl
 no-number limit place (found ns) q = absurd (q refl)
 
--- a line is found with its numbers
-found-there : (d : Due) → dueStatus d ≡ 0 → d ≡ found (numbersOf d)
-found-there ends e = let z : _≡_ {A = ℕ} 3 0 = e in absurd (omega arith)
-found-there no-line e = let z : _≡_ {A = ℕ} 4 0 = e in absurd (omega arith)
-found-there (found ns) e = refl
-
 module _ (letter limit place : ℕ) (bytes : List ℕ) {ns : List ℕ} {r : ℕ} (e : DueRead (lineOf letter 2 bytes) 2 (replicate 2 0) ns r) where
   -- nothing, or no line
   pub number-stop : (r ≡ 0 → ⊥) → Malformed ≡ numberDue limit place (lineOf letter 2 bytes)
@@ -36,9 +28,7 @@ module _ (letter limit place : ℕ) (bytes : List ℕ) {ns : List ℕ} {r : ℕ}
   module _ (z : r ≡ 0) where
     -- a line with these numbers
     line-found : lineOf letter 2 bytes ≡ found ns
-    line-found =
-        found-there (lineOf letter 2 bytes) (sym (e .status) ∙ z)
-        ∙ ap found (sym (due-whole (numberedLine letter limit 0) place [] bytes e z refl))
+    line-found = due-found (numberedLine letter limit 0) place [] bytes e z refl
 
     -- by the test of its numbers
     number-tested : (t : Bool) → goodNumbered limit place [] ns ≡ t → cond t (Number (at ns 1)) Malformed ≡ numberDue limit place (lineOf letter 2 bytes)

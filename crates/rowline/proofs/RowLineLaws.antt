@@ -1,17 +1,15 @@
 -- Laws of one row, in the shape of the code: the tests of its numbers, and its line.
 -- Assumes nothing.
-use mathlib.Core.Path.{_≡_, refl, sym, _∙_}
+use mathlib.Core.Path.{_≡_, refl, sym, ap, _∙_}
 use mathlib.Core.Bool.{Bool, false, cond}
 use mathlib.Core.List.{List, []}
 use Prim.Native.Nat.{ℕ, _≤_, _<_}
-use native.Mathlib.Omega.{arith}
 use lib.Dec.{ltb}
 use lib.ListN.{replicate}
 use borrow.Author.Tests.{lt-ltb, le-ltb, le-leb, lt-leb}
 use Rattle.lines.specs.Inner.{dueStatus, DueRead}
 use Rattle.lines.specs.Line.{Due, ends, no-line, found, lineOf, at}
-use Rattle.lines.specs.Places.{numbersOf}
-use Rattle.lines.proofs.LinesLaws.{due-whole}
+use Rattle.lines.proofs.LinesLaws.{due-found}
 use Rattle.rulerows.specs.declared.rows.RowDue.the-variants.{Within, Outside}
 use Rattle.rulerows.specs.RuleRows.{rowOf, goodRow, rowLine}
 use Rattle.rulerows.specs.Inner.{rowDue}
@@ -66,14 +64,6 @@ no-row s a ends q = refl
 no-row s a no-line q = refl
 no-row s a (found ns) q = absurd (q refl)
 
--- a line, whose numbers decide
-row-found
-    : (s a : ℕ) (d : Due) → dueStatus d ≡ 0
-    → cond (goodRow s a 0 [] (numbersOf d)) (Within (rowOf (numbersOf d))) Outside ≡ rowDue s a d
-row-found s a ends e = let z : _≡_ {A = ℕ} 3 0 = e in absurd (omega arith)
-row-found s a no-line e = let z : _≡_ {A = ℕ} 4 0 = e in absurd (omega arith)
-row-found s a (found ns) e = refl
-
 module _ (s a : ℕ) (bytes : List ℕ) {ns : List ℕ} {r : ℕ} (e : DueRead (lineOf 81 5 bytes) 5 (replicate 5 0) ns r) where
   -- nothing, or no line
   pub row-stop : (r ≡ 0 → ⊥) → Outside ≡ rowDue s a (lineOf 81 5 bytes)
@@ -82,4 +72,4 @@ module _ (s a : ℕ) (bytes : List ℕ) {ns : List ℕ} {r : ℕ} (e : DueRead (
   -- a line, by the test of its numbers
   pub row-tested : r ≡ 0 → (t : Bool) → goodRow s a 0 [] ns ≡ t → cond t (Within (rowOf ns)) Outside ≡ rowDue s a (lineOf 81 5 bytes)
   row-tested z t g =
-      rw (← g, due-whole (rowLine s a) 0 [] bytes e z refl) (row-found s a (lineOf 81 5 bytes) (sym (e .status) ∙ z))
+      ap (λ (b : Bool). cond b (Within (rowOf ns)) Outside) (sym g) ∙ sym (ap (rowDue s a) (due-found (rowLine s a) 0 [] bytes e z refl))

@@ -14,9 +14,9 @@ use borrow.Author.Tests.{le-leb, lt-leb, eq-eqb, ne-eqb}
 use Rattle.laws.specs.Bounded.{anyBelow, tab}
 use Rattle.laws.proofs.Bounded.{any-cong, tab-cong}
 use Rattle.laws.proofs.Tests.{fails-of}
-use Rattle.automaton.specs.Automaton.{Automaton, numbersFit}
+use Rattle.automaton.specs.Automaton.{numbersFit}
 use Rattle.automaton.specs.Table.{ruleSize, cellByte, ruleBytes}
-use Rattle.automaton.specs.Made.{Made, makes, refuses, madeAfter, madeTable}
+use Rattle.automaton.specs.Made.{Made, makes, refuses, madeAfter}
 use Rattle.automaton.proofs.AutomatonLaws.{numbers-fit-says}
 use Rattle.automaton.proofs.RuleBytesLaws.{cell-byte-at, cell-byte-past}
 use Rattle.rulerows.specs.declared.rows.Row.{Row}
@@ -24,7 +24,7 @@ use Rattle.rulerows.specs.declared.rows.RowsAnswer.{RowsAnswer}
 use Rattle.rulerows.specs.declared.rows.RowsAnswer.the-variants.{Accepted, Refused}
 use Rattle.rulerows.specs.declared.rows.RowsRule.{RowsRule}
 use Rattle.rulerows.specs.RuleRows.{Rows, rows, not-rows, rowsIn, namedBy, nextIn, twice, missing, rowsRule, maxText, ruleOfRows, ruleFrom, rowsMade, rowsAnswer, rowsValue}
-use Rattle.rulerows.specs.Inner.{markAt, markOf, MarksOf, rowsStatus, RowsTaken}
+use Rattle.rulerows.specs.Inner.{markAt, MarksOf, rowsStatus, RowsTaken}
 use Rattle.rulerows.proofs.RowsLaws.{AllWithin, count-some, pair-missing}
 use Rattle.rulerows.proofs.TextLaws.{rows-says, text-within}
 use Rattle.rulerows.proofs.RowsSays.{rule-cell}

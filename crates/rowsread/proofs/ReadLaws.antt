@@ -5,12 +5,12 @@ use mathlib.Core.Path.{_≡_, refl, sym, ap, _∙_, subst}
 use mathlib.Core.Logic.{_⊎_, inl, inr, ⊎-elim, by-cases}
 use mathlib.Core.Bool.{Bool, true, false, cond, true≢false}
 use mathlib.Core.List.{List, [], map}
-use Prim.Native.Nat.{ℕ, zero, suc, _+_, _*_, _/_, _≤_, _<_}
+use Prim.Native.Nat.{ℕ, zero, suc, _+_, _*_, _≤_, _<_}
 use native.Mathlib.Nat.{eq-or-lt-of-le, le-of-suc-le-suc}
 use native.Mathlib.Numerals.{add-one}
-use native.Mathlib.Decide.{decLe, decLt, ℕ-discrete}
+use native.Mathlib.Decide.{decLe, ℕ-discrete}
 use native.Mathlib.Omega.{arith}
-use lib.Dec.{eqb, lit<}
+use lib.Dec.{lit<}
 use lib.ListN.{length, drop, getD, replicate, length-replicate, length-drop, length-map, drop-of-length-le, List·getD-map}
 use borrow.Author.Tests.{eq-eqb, ne-eqb}
 use Rattle.laws.specs.Bounded.{anyBelow, tab}
@@ -19,15 +19,14 @@ use Rattle.laws.proofs.Tests.{fails-of, passes-or-fails}
 use Rattle.lines.specs.Line.{Due, ends, no-line, found, lineOf}
 use Rattle.lines.specs.Lines.{lines, linesOf}
 use Rattle.lines.specs.Places.{numbersOf, statusOf, dueAt, numbersAt, beforeAt, statusAt}
-use Rattle.lines.specs.Written.{LineAt}
 use Rattle.lines.proofs.LinesLaws.{lines-all, passed-more}
 use Rattle.lines.proofs.SpelledLine.{line-long, line-found, found-line}
 use Rattle.rulerows.specs.declared.rows.Row.{Row}
 use Rattle.rulerows.specs.declared.rows.RowDue.{RowDue}
 use Rattle.rulerows.specs.declared.rows.RowDue.the-variants.{Within, Outside}
-use Rattle.rulerows.specs.RuleRows.{rowOf, goodRow, rowLine, Rows, rows, not-rows, rowsRead, rowsDue, rowsIn, names, namedBy, nextIn, twice}
-use Rattle.rulerows.specs.RowsSay.{RowWithin, Names, rowAt, Twice}
-use Rattle.rulerows.specs.Inner.{rowDue, RowFits, markAt, RowMarked, MarkedMore, markOf, MarksOf, rowsStatus, RowsTaken}
+use Rattle.rulerows.specs.RuleRows.{rowOf, goodRow, rowLine, rows, rowsRead, rowsDue, rowsIn, names, namedBy, nextIn, twice}
+use Rattle.rulerows.specs.RowsSay.{RowWithin, Names, rowAt}
+use Rattle.rulerows.specs.Inner.{rowDue, RowFits, markAt, RowMarked, MarkedMore, markOf, rowsStatus, RowsTaken}
 use Rattle.rulerows.proofs.RowsLaws.{row-within, row-names, count-one, count-some, count-both, next-only, twice-says}
 use Rattle.rulerows.proofs.TextLaws.{RowFault, none-there, not-within, rows-says, text-within, fault-not-rows}
 

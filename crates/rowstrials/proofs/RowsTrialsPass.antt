@@ -1,9 +1,8 @@
 -- The calls of the table are answered as they should be: the definitions are computed, row by row.
 -- Assumes nothing.
-use mathlib.Core.Path.{_≡_, refl, sym, subst}
+use mathlib.Core.Path.{refl, sym, subst}
 use mathlib.Core.List.{List}
 use Prim.Native.Nat.{ℕ}
-use lib.ListN.{length}
 use Rattle.laws.specs.Bounded.{anyBelow, tabFrom, tab}
 use Rattle.automaton.specs.Automaton.{cell}
 use Rattle.automaton.specs.Table.{cellByte, ruleBytes}

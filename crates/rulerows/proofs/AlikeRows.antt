@@ -3,19 +3,19 @@
 -- Assumes nothing.
 use mathlib.Core.Path.{_≡_, refl, sym, ap, _∙_, subst}
 use mathlib.Core.List.{List, [], _∷_, _++_, map, append-nil}
-use Prim.Native.Nat.{ℕ, suc, _/_, _≤_, _<_}
+use Prim.Native.Nat.{ℕ, suc, _/_, _≤_}
 use native.Mathlib.Omega.{arith}
 use lib.ListN.{length, replicate, length-map}
-use Rattle.lines.specs.Line.{at, writeLines}
+use Rattle.lines.specs.Line.{writeLines}
 use Rattle.lines.specs.Lines.{Lines, lines, linesOf}
 use Rattle.lines.specs.Written.{Fits, Stand, GoodLines, good-none, good-more, LinesAt}
 use Rattle.lines.specs.Alike.{Equal, AlikeUpTo, NoZerosOver, FileDue, all-due, AlikeFiles}
 use Rattle.lines.proofs.SpelledLine.{fits-cons}
 use Rattle.lines.proofs.SpelledLines.{written-stand}
-use Rattle.lines.proofs.AlikeLaws.{alike-stand, stand-length, stand-only, written-only, ReadAlike, same-lines, same-refusal, due-alike, files-alike, lines-say-alike}
+use Rattle.lines.proofs.AlikeLaws.{alike-stand, stand-only, written-only, ReadAlike, same-lines, same-refusal, due-alike, files-alike, lines-say-alike}
 use Rattle.rulerows.specs.declared.rows.Row.{Row}
-use Rattle.rulerows.specs.RuleRows.{rowOf, rowLine, rowsRead, rowsDue, rowsIn, Rows}
-use Rattle.rulerows.specs.RowsSay.{RowWithin, rowAt, RowsText}
+use Rattle.rulerows.specs.RuleRows.{rowOf, rowLine, rowsRead, rowsDue, rowsIn}
+use Rattle.rulerows.specs.RowsSay.{RowWithin, RowsText}
 use Rattle.rulerows.specs.RowsAlike.{rowNumbers, writeRows, AlikeRows, RowsSayAlike}
 use Rattle.rulerows.proofs.RowsLaws.{row-within, AllWithin}
 use Rattle.rulerows.proofs.TextLaws.{text-length}

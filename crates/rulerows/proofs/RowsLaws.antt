@@ -1,6 +1,6 @@
 -- Rows: the tests of a row in words, and how many rows name a pair: none, one, or two.
 -- Assumes nothing.
-use mathlib.Core.Path.{_≡_, refl, sym, ap, _∙_}
+use mathlib.Core.Path.{_≡_, ap, _∙_}
 use mathlib.Core.Logic.{_↔_, ⊎-elim, by-cases}
 use mathlib.Core.Bool.{Bool, true, false, cond, and-eq-true-iff}
 use mathlib.Core.List.{List, [], _∷_}
@@ -12,7 +12,7 @@ use lib.ListN.{length}
 use borrow.Author.Tests.{le-leb, lt-ltb, leb-true, ltb-true, eqb-true, eq-eqb}
 use Rattle.laws.specs.Bounded.{anyBelow}
 use Rattle.laws.proofs.Bounded.{any-at, any-of}
-use Rattle.laws.proofs.Tests.{fails-of, passes-or-fails, test-ext}
+use Rattle.laws.proofs.Tests.{passes-or-fails}
 use Rattle.lines.specs.Line.{at}
 use Rattle.rulerows.specs.declared.rows.Row.{Row}
 use Rattle.rulerows.specs.RuleRows.{rowOf, goodRow, names, namedBy, nextIn, twice, missing}

@@ -4,36 +4,26 @@
 use mathlib.Core.Path.{_≡_, refl, sym, ap, _∙_, subst}
 use mathlib.Core.Logic.{_≢_, _⊎_, inl, inr, by-cases}
 use mathlib.Core.Bool.{Bool, true, false, cond, _&&_, and-eq-true-iff, true≢false}
-use mathlib.Core.List.{List, [], _++_}
+use mathlib.Core.List.{List, []}
 use Prim.Native.Nat.{ℕ, _≤_, _<_}
 use native.Mathlib.Decide.{decLe, decLt}
 use native.Mathlib.Omega.{arith}
-use lib.Dec.{eqb, leb, ltb}
+use lib.Dec.{eqb, leb}
 use lib.ListN.{length, getD}
-use borrow.Author.Tests.{le-leb, lt-leb, leb-true, leb-false, eq-eqb, ne-eqb, eqb-true, eqb-false, lt-ltb, le-ltb}
+use borrow.Author.Tests.{le-leb, leb-true, leb-false, eq-eqb, ne-eqb, eqb-true, eqb-false}
 use Rattle.laws.specs.Bounded.{tab}
 use Rattle.laws.proofs.Bounded.{length-tab, getD-tab, fill-done}
 use Rattle.laws.specs.Bits.{has}
 use Rattle.laws.proofs.Bits.{some-past}
 use Rattle.laws.proofs.Tests.{fails-of, passes-or-fails}
-use Rattle.callnumber.specs.CallNumber.{acceptedFrom}
-use Rattle.automaton.specs.Automaton.{Automaton, automatonOf, cell, next, numbersFit, NumbersFit, wellFormed, WellFormed, SameRule}
-use Rattle.automaton.specs.Table.{ruleSize, tableOf, ruleBytes, RuleWritten}
-use Rattle.automaton.specs.Made.{Made, makes, refuses, madeAfter}
-use Rattle.automaton.proofs.AutomatonLaws.{numbers-fit-says, not-fit, well-formed-says, well-formed-same}
-use Rattle.automaton.proofs.RuleBytesLaws.{rule-bytes-same, rule-written}
-use Rattle.job.specs.Job.{Job}
-use Rattle.lines.specs.Lines.{lines, linesOf}
-use Rattle.jobfile.specs.File.{ruleLine, ruleOf, accepted, readJob}
-use Rattle.jobfile.specs.Alike.{Alike}
-use Rattle.jobfile.specs.Spellable.{Spellable}
-use Rattle.jobfile.specs.RuleLines.{trimmed, ruleText, withRuleText}
-use Rattle.jobfile.proofs.RuleLinesLaws.{trimmed-exact, rule-lines-say}
+use Rattle.automaton.specs.Automaton.{Automaton, automatonOf, cell, next, numbersFit, NumbersFit}
+use Rattle.automaton.specs.Table.{ruleSize}
+use Rattle.automaton.specs.Made.{Made, makes, refuses}
+use Rattle.automaton.proofs.AutomatonLaws.{numbers-fit-says}
 use Rattle.rulerows.specs.declared.rows.Row.{Row}
-use Rattle.rulerows.specs.declared.rows.RowsAnswer.the-variants.{Accepted, Refused}
-use Rattle.rulerows.specs.RuleRows.{Rows, rows, not-rows, rowsIn, namedBy, nextIn, twice, missing, rowsRule, maxText, ruleOfRows, ruleFrom, rowsMade, rowsAnswer, rowsNumber}
-use Rattle.rulerows.specs.RowsSay.{RowWithin, Names, rowAt, Outside, too-long, no-state, many-states, no-symbol, many-symbols, final-past, no-row, row-outside, Ready, Twice, Unnamed, RowsRefused, other-length, outside, twice as two-rows, unnamed, Once, RuleOfRows, MakesRule, RowsAnswerSays, RowsLeft, written, unchanged, RowsBytesSay, RowsValueSays, rowsSeen, RowsByNumber, ruleLeft, RowsRuleServes}
-use Rattle.rulerows.proofs.RowsLaws.{AllWithin, count-some, count-two, next-only, pair-twice, pair-missing, twice-says, missing-says}
+use Rattle.rulerows.specs.RuleRows.{Rows, rows, not-rows, rowsIn, namedBy, nextIn, twice, missing, rowsRule, maxText, ruleOfRows, ruleFrom, rowsMade}
+use Rattle.rulerows.specs.RowsSay.{Names, rowAt, Outside, too-long, no-state, many-states, no-symbol, many-symbols, final-past, no-row, row-outside, Ready, Twice, Unnamed, RowsRefused, other-length, outside, twice as two-rows, unnamed, Once, RuleOfRows, MakesRule, RowsAnswerSays}
+use Rattle.rulerows.proofs.RowsLaws.{AllWithin, count-some, next-only, pair-twice, pair-missing, twice-says, missing-says}
 use Rattle.rulerows.proofs.TextLaws.{RowFault, none-there, not-within, rows-says, rows-read, text-within, fault-found, fault-not-rows}
 
 -- ---- the rule of the rows

@@ -6,23 +6,20 @@ use mathlib.Core.Bool.{true}
 use mathlib.Core.List.{List, [], _++_}
 use Prim.Native.Nat.{ℕ, _≤_, _<_}
 use native.Mathlib.Omega.{arith}
-use lib.ListN.{length, replicate}
+use lib.ListN.{length}
 use borrow.Author.Tests.{lt-ltb}
 use Rattle.callnumber.specs.CallNumber.{acceptedFrom}
-use Rattle.automaton.specs.Automaton.{Automaton, automatonOf, wellFormed, WellFormed, SameRule}
-use Rattle.automaton.specs.Table.{ruleSize, tableOf, ruleBytes, RuleWritten}
+use Rattle.automaton.specs.Automaton.{Automaton, wellFormed, WellFormed, SameRule}
+use Rattle.automaton.specs.Table.{ruleSize, ruleBytes, RuleWritten}
 use Rattle.automaton.specs.Made.{Made, makes, refuses, madeAfter, madeTable}
 use Rattle.automaton.proofs.AutomatonLaws.{well-formed-says, well-formed-same}
 use Rattle.automaton.proofs.RuleBytesLaws.{rule-bytes-same, rule-written}
-use Rattle.job.specs.Job.{Job}
-use Rattle.lines.specs.Lines.{lines, linesOf}
-use Rattle.jobfile.specs.File.{ruleLine, ruleOf, accepted, readJob}
+use Rattle.lines.specs.Lines.{linesOf}
+use Rattle.jobfile.specs.File.{ruleLine, accepted}
 use Rattle.jobfile.specs.Alike.{Alike}
-use Rattle.jobfile.specs.Spellable.{Spellable}
 use Rattle.jobfile.specs.RuleLines.{trimmed, ruleText, withRuleText}
 use Rattle.jobfile.proofs.RuleLinesLaws.{trimmed-exact, rule-lines-say}
-use Rattle.rulerows.specs.declared.rows.RowsAnswer.the-variants.{Accepted, Refused}
-use Rattle.rulerows.specs.RuleRows.{rowsMade, rowsAnswer, rowsValue, rowsNumber}
+use Rattle.rulerows.specs.RuleRows.{rowsMade, rowsAnswer, rowsNumber}
 use Rattle.rulerows.specs.RowsSay.{RowsRefused, other-length, outside, twice, unnamed, MakesRule, RowsLeft, written, unchanged, RowsBytesSay, RowsValueSays, rowsSeen, RowsByNumber, ruleLeft, RowsRuleServes}
 use Rattle.rulerows.proofs.TextLaws.{text-within}
 use Rattle.rulerows.proofs.RowsSays.{rows-answer-says}

@@ -3,14 +3,14 @@
 -- Assumes nothing.
 use mathlib.Core.Path.{_≡_, refl, sym, ap, _∙_, subst}
 use mathlib.Core.Logic.{_≢_, _↔_}
-use mathlib.Core.Bool.{true, true≢false}
+use mathlib.Core.Bool.{true≢false}
 use mathlib.Core.List.{List, [], _∷_, map}
 use Prim.Native.Nat.{ℕ, _+_, _*_, _<_}
 use native.Mathlib.Omega.{arith}
 use lib.ListN.{length, drop, getD, length-drop, length-map, List·getD-map}
 use Rattle.lines.specs.Line.{lineLength}
-use Rattle.lines.specs.Lines.{LineKind, Lines, lines, refused, linesOf}
-use Rattle.lines.specs.Written.{LineAt, LinesAt, BadLine, ended, malformed, outside, lastOf, FirstBad}
+use Rattle.lines.specs.Lines.{Lines, lines, refused, linesOf}
+use Rattle.lines.specs.Written.{LineAt, LinesAt, BadLine, ended, malformed, outside, lastOf}
 use Rattle.lines.proofs.SpelledLine.{line-long}
 use Rattle.lines.proofs.SpelledLines.{lines-says, refused-says, line-once, stand-past, stand-at, good-at}
 use Rattle.lines.proofs.AlikeLaws.{stand-length}

@@ -12,7 +12,7 @@ use Rattle.laws.specs.Bits.{has}
 use Rattle.callnumber.specs.CallNumber.{acceptedFrom}
 use Rattle.automaton.specs.Automaton.{Automaton, automatonOf, next, NumbersFit, wellFormed, WellFormed, SameRule}
 use Rattle.automaton.specs.Table.{ruleSize, tableOf, RuleWritten}
-use Rattle.automaton.specs.Made.{Made, makes, refuses, madeAfter, madeTable}
+use Rattle.automaton.specs.Made.{Made, makes, refuses, madeAfter}
 use Rattle.job.specs.Job.{Job}
 use Rattle.lines.specs.Line.{lineLength}
 use Rattle.lines.specs.Lines.{lines, linesOf}
@@ -21,7 +21,6 @@ use Rattle.jobfile.specs.File.{ruleLine, ruleOf, accepted, readJob}
 use Rattle.jobfile.specs.Alike.{Alike}
 use Rattle.jobfile.specs.Spellable.{Spellable}
 use Rattle.jobfile.specs.RuleLines.{ruleText, withRuleText}
-use Rattle.rulerows.specs.declared.rows.Span.{Span}
 use Rattle.rulerows.specs.declared.rows.Row.{Row}
 use Rattle.rulerows.specs.declared.rows.RowsAnswer.{RowsAnswer}
 use Rattle.rulerows.specs.declared.rows.RowsAnswer.the-variants.{Accepted, Refused}

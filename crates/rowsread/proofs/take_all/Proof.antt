@@ -4,7 +4,7 @@
 use mathlib.Core.Path.{sym, ap, _∙_}
 use Prim.Native.Nat.{_*_, _-_}
 use native.Mathlib.Omega.{arith}
-use lib.ListN.{length, length-replicate}
+use lib.ListN.{length}
 use borrow.Author.Needs.{needs}
 use Rattle.rowsread.proofs.ReadLaws.{row-due, row-fits, TakenSoFar, taken-start, taken-next, taken-stop, taken-end}
 use Rattle.rowsread.proofs.take_all.Statement.{statement}

@@ -1,6 +1,5 @@
 -- `wellformed::do_numbers_fit` meets its contract: each test that fails denies one part of `NumbersFit`, and past them the final set decides.
 -- Assumes nothing.
-use mathlib.Core.Path.{sym, ap, _∙_}
 use native.Mathlib.Omega.{arith}
 use Rattle.automaton.proofs.AutomatonLaws.{not-fit, fit-rest}
 use borrow.Author.Needs.{needs}
