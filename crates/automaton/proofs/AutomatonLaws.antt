@@ -63,11 +63,15 @@ numbers-fit-says s a f = (
 pub not-fit : (s a f : ℕ) → (NumbersFit s a f → ⊥) → false ≡ numbersFit s a f
 not-fit s a f h = sym (fails-of (numbersFit s a f) (λ e. h (numbers-fit-says s a f .0 e)))
 
+-- numbers that pass every test fit
+pub fit-all : (s a f : ℕ) → 1 ≤ s → s ≤ 16 → 1 ≤ a → a ≤ 16 → f < 2 ^ s → numbersFit s a f ≡ true
+fit-all s a f s₁ s₂ a₁ a₂ h = simp (le-leb 1 s s₁, le-leb s 16 s₂, le-leb 1 a a₁, le-leb a 16 a₂, lt-ltb f (2 ^ s) h)
+
 -- past the limits of S and A the final set decides
 pub fit-rest : (s a f : ℕ) → 1 ≤ s → s ≤ 16 → 1 ≤ a → a ≤ 16 → eqb (f / 2 ^ s) 0 ≡ numbersFit s a f
 fit-rest s a f s₁ s₂ a₁ a₂ =
     test-ext (eqb (f / 2 ^ s) 0) (numbersFit s a f)
-    (λ e. simp (le-leb 1 s s₁, le-leb s 16 s₂, le-leb 1 a a₁, le-leb a 16 a₂, lt-ltb f (2 ^ s) (shr-zero-says s f .0 (eqb-true (f / 2 ^ s) 0 e))))
+    (λ e. fit-all s a f s₁ s₂ a₁ a₂ (shr-zero-says s f .0 (eqb-true (f / 2 ^ s) 0 e)))
     (λ e. eq-eqb (f / 2 ^ s) 0 (shr-zero-says s f .1 (below-says s f .1 (numbers-fit-says s a f .0 e .finals-below))))
 
 -- `wellFormed` says `WellFormed`
@@ -102,11 +106,7 @@ well-formed-says m = (
 pub not-well-formed : (m : Automaton) → (WellFormed m → ⊥) → false ≡ wellFormed m
 not-well-formed m h = sym (fails-of (wellFormed m) (λ e. h (well-formed-says m .0 e)))
 
--- a rule whose numbers do not fit is none; with numbers that do, it is one when its cells are below S
-pub well-formed-unfit : (t : List (List ℕ)) (s a f : ℕ) → numbersFit s a f ≡ false → wellFormed (automatonOf t s a f) ≡ false
-unfolding wellFormed
-well-formed-unfit t s a f e = ap (λ (b : Bool). b && cellsBelow t s a) e
-
+-- with numbers that fit, a rule is one when its cells are below S
 pub well-formed-rest : (t : List (List ℕ)) (s a f : ℕ) → numbersFit s a f ≡ true → wellFormed (automatonOf t s a f) ≡ cellsBelow t s a
 unfolding wellFormed
 well-formed-rest t s a f e = ap (λ (b : Bool). b && cellsBelow t s a) e

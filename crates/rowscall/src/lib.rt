@@ -4,12 +4,12 @@ ghost use lib.ListN.{length};
 ghost use Rattle.automaton.specs.Made.{madeAfter};
 ghost use Rattle.automaton.specs.Table.{ruleSize};
 ghost use Rattle.rulerows.specs.RuleRows.{rowsMade, rowsAnswer, rowsValue};
+use limits::do_numbers_fit;
 use rowsread::take_all;
 use rowsrule::is_missing;
 use rowsrule::write_rule;
 use rulerows::rows::RowsAnswer;
 use rulerows::rows::RowsRule;
-use wellformed::do_numbers_fit;
 
 // The length of a rule buffer.
 const ROOM: usize = 256;

@@ -1,10 +1,10 @@
--- `wellformed::do_numbers_fit` meets its contract: each test that fails denies one part of `NumbersFit`, and past them the final set decides.
+-- `limits::do_numbers_fit` meets its contract: each test that fails denies one part of `NumbersFit`, and past them the final set decides.
 -- Assumes nothing.
 use native.Mathlib.Omega.{arith}
 use Rattle.automaton.proofs.AutomatonLaws.{not-fit, fit-rest}
 use borrow.Author.Needs.{needs}
-use Rattle.wellformed.proofs.do_numbers_fit.Statement.{statement}
-use Rattle.wellformed.proofs.do_numbers_fit.Tie as tie
+use Rattle.limits.proofs.do_numbers_fit.Statement.{statement}
+use Rattle.limits.proofs.do_numbers_fit.Tie as tie
 
 returns : tie.Need-returns
 returns c = let x = c .before .args in not-fit (x .states) (x .symbols) (x .finals) (λ w. omega (arith, w .some-state, c .if1 .taken))
