@@ -34,8 +34,8 @@ use Rattle.pricelist.proofs.PriceListSays.{own-price-refused}
 use Rattle.planoutcome.specs.PlanCall.{planSize, planAnswer}
 use Rattle.listoutcome.specs.ListCall.{listingSize, listAnswer}
 use Rattle.ruleoutcome.specs.RuleCall.{fitted, ruleAnswer}
-use Rattle.rulerows.specs.RuleRows.{Rows, rowsIn, maxText, ruleOfRows, ruleFrom, rowsMade, rowsValue}
-use Rattle.rulerows.proofs.AlikeRows.{rows-say-alike}
+use Rattle.rulerows.specs.RuleRows.{Rows, rowsIn, maxText, madeOfRows, ruleFrom, rowsMade, rowsValue}
+use Rattle.rulerows.proofs.RowsAlikeLaws.{rows-say-alike}
 use Rattle.alikecalls.specs.SameAnswers.{planGives, listGives, checkGives, priceGives, ruleGives, valueGives, printGives, rowsGives, OneAnswer, OnePrice, OneOwnPrice, OneRule, SameAnswers}
 
 -- the answer of pricing is one, whatever the prices
@@ -177,18 +177,18 @@ same-rows
     : (s a : ℕ) (f g : List ℕ) → length f ≡ length g → rowsIn s a f ≡ rowsIn s a g → (finals : ℕ) → ruleFrom f s a finals ≡ ruleFrom g s a finals
 unfolding ruleFrom
 same-rows s a f g long same finals =
-    ap₂ (λ (n : ℕ) (x : Rows). cond (leb n maxText && numbersFit s a finals) (ruleOfRows s a finals x) (refuses 17)) long same
+    ap₂ (λ (n : ℕ) (x : Rows). cond (leb n maxText && numbersFit s a finals) (madeOfRows s a finals x) (refuses 17)) long same
 
 -- texts that are refused before a row is looked at
 too-long-made : (s a : ℕ) (f : List ℕ) (finals : ℕ) → maxText < length f → ruleFrom f s a finals ≡ refuses 17
 unfolding ruleFrom
 too-long-made s a f finals long =
-    ap (λ (b : Bool). cond (b && numbersFit s a finals) (ruleOfRows s a finals (rowsIn s a f)) (refuses 17)) (lt-leb (length f) maxText long)
+    ap (λ (b : Bool). cond (b && numbersFit s a finals) (madeOfRows s a finals (rowsIn s a f)) (refuses 17)) (lt-leb (length f) maxText long)
 
 unfit-made : (s a : ℕ) (f : List ℕ) (finals : ℕ) → numbersFit s a finals ≡ false → ruleFrom f s a finals ≡ refuses 17
 unfolding ruleFrom
 unfit-made s a f finals e =
-    ap (λ (b : Bool). cond b (ruleOfRows s a finals (rowsIn s a f)) (refuses 17))
+    ap (λ (b : Bool). cond b (madeOfRows s a finals (rowsIn s a f)) (refuses 17))
     (ap (λ (b : Bool). leb (length f) maxText && b) e ∙ and-false (leb (length f) maxText))
 
 -- ---- the theorem

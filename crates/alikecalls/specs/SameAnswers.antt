@@ -157,7 +157,8 @@ pub record OnePrice (file f g : List ℕ) : Type 0 where
 abbrev pub OneOwnPrice : List ℕ → List ℕ → Type 0
 OneOwnPrice f g = (file plan volumes : List ℕ) → priceGives (pricedBy file plan volumes f) ≡ priceGives (pricedBy file plan volumes g)
 
--- two texts of rows get the same of the call for rule rows, with S, A and a final set
+-- two texts of rows get the same of the call for rule rows, with S, A and a final set. Each contract of the call names its text in `rowsMade`
+-- alone, so what is said of that is said of all that it gives
 pub record OneRule (s a : ℕ) (f g : List ℕ) (finals : ℕ) : Type 0 where
   pub made : (rule : ℕ) → rowsMade f s a finals rule ≡ rowsMade g s a finals rule
   pub rows

@@ -3,3 +3,4 @@
 pub mod AutomatonLaws
 pub mod TableLaws
 pub mod RuleBytesLaws
+pub mod MadeLaws

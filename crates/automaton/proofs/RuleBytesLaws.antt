@@ -10,7 +10,6 @@ use native.Mathlib.Omega.{arith}
 use lib.Dec.{ltb}
 use lib.ListN.{length, getD, List·getD-eq-default}
 use borrow.Author.Tests.{lt-ltb, ltb-true}
-use Rattle.laws.specs.Bounded.{tab}
 use Rattle.laws.specs.Bytes.{AreBytes}
 use Rattle.laws.proofs.Bounded.{length-tab, getD-tab, fill-done}
 use Rattle.laws.proofs.Tests.{fails-of}

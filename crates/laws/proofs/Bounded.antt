@@ -15,7 +15,7 @@ use Rattle.laws.specs.Bounded.{allBelow, anyBelow, sumBelow, tabFrom, ta
 use Rattle.laws.proofs.Tests.{fails-of, or-passes, or-left, or-right, or-fails}
 
 -- a number below n + 1 is n or below n
-below-suc : {i n : ℕ} → i < suc n → (i ≡ n) ⊎ (i < n)
+pub below-suc : {i n : ℕ} → i < suc n → (i ≡ n) ⊎ (i < n)
 below-suc h = eq-or-lt-of-le (le-of-suc-le-suc h)
 
 -- ---- for all

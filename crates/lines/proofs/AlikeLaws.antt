@@ -4,7 +4,7 @@
 -- Assumes nothing.
 use Prim.Native.Nat.{ℕ, _+_, _*_}
 use mathlib.Core.Path.{_≡_, refl, sym, ap, _∙_}
-use mathlib.Core.List.{List, [], _∷_, _++_}
+use mathlib.Core.List.{List, [], _∷_, _++_, append-nil}
 use native.Mathlib.Nat.{zero-add, suc-mul, zero-mul}
 use native.Mathlib.Omega.{arith}
 use lib.ListN.{length, take, drop, replicate, length-drop}
@@ -188,6 +188,34 @@ module _ (k : LineKind) where
 pub data ReadAlike : Lines → Lines → Type 0 where
   same-lines : {ls : List (List ℕ)} {rest other : List ℕ} → length rest ≡ length other → ReadAlike (lines ls rest) (lines ls other)
   same-refusal : {r : ℕ} → ReadAlike (refused r) (refused r)
+
+-- what looks at bytes past the lines no further than whether there are any is one of both
+pub alike-by
+    : {X : Type 0} (F : Lines → X)
+    → ((ls : List (List ℕ)) (b d : ℕ) (rest other : List ℕ) → F (lines ls (b ∷ rest)) ≡ F (lines ls (d ∷ other)))
+    → {x y : Lines} → ReadAlike x y → F x ≡ F y
+alike-by F same (same-lines {ls} {rest} {other} e) = past rest other e
+  where
+    past : (rest other : List ℕ) → length rest ≡ length other → F (lines ls rest) ≡ F (lines ls other)
+    past [] [] e = refl
+    past [] (b ∷ other) e = absurd (omega arith)
+    past (b ∷ rest) [] e = absurd (omega arith)
+    past (b ∷ rest) (d ∷ other) e = same ls b d rest other
+alike-by F same same-refusal = refl
+
+-- a file that is exactly its lines
+module _ (k : LineKind) {c : ℕ} (f : List ℕ) (ls : List (List ℕ)) (l : LinesAt k c 0 [] f ls []) where
+  -- a line for each
+  counts-all : counts k ls [] ≡ replicate c (k .count)
+  counts-all = append-nil (replicate (length ls) (k .count)) ∙ ap (λ (n : ℕ). replicate n (k .count)) (l .count)
+
+  -- the file that is written of them has no zeros
+  pub exact-no-zeros : NoZerosOver (replicate c (k .count)) (writeLines (k .letter) ls)
+  exact-no-zeros = rw (← counts-all, ← append-nil (writeLines (k .letter) ls)) (written-only k [] [] (l .good) tt)
+
+  -- and no other has none
+  pub exact-only : NoZerosOver (replicate c (k .count)) f → f ≡ writeLines (k .letter) ls
+  exact-only none = stand-only k ls [] f [] (l .stand) (rw counts-all none) .0 ∙ append-nil (writeLines (k .letter) ls)
 
 module _ (k : LineKind) (c : ℕ) where
   -- every file has its lines due

@@ -176,14 +176,15 @@ line-long letter k (b ∷ bs) e =
     let m = leb-true (k * 6 + 1) (length bs) (second-of (eqb b letter) (leb (k * 6 + 1) (length bs)) (eqb (getD bs (k * 6) 0) 10) (foundIn (fieldsOf k bs)) e) in
     omega arith
 
+-- zeros everywhere
+pub zeros-at : (n j : ℕ) → _≡_ {A = ℕ} (getD (replicate n 0) j 0) 0
+zeros-at zero j = refl
+zeros-at (suc n) zero = refl
+zeros-at (suc n) (suc j) = zeros-at n j
+
 -- zeros past some numbers, or none
 zeros-past : (ns : List ℕ) (n k i : ℕ) → getD (ns ++ drop k (replicate n 0)) i 0 ≡ getD ns i 0
-zeros-past [] n k i = getD-drop k (replicate n 0) i 0 ∙ zero-at n (k + i)
-  where
-    zero-at : (n j : ℕ) → _≡_ {A = ℕ} (getD (replicate n 0) j 0) 0
-    zero-at zero j = refl
-    zero-at (suc n) zero = refl
-    zero-at (suc n) (suc j) = zero-at n j
+zeros-past [] n k i = getD-drop k (replicate n 0) i 0 ∙ zeros-at n (k + i)
 zeros-past (x ∷ ns) n k zero = refl
 zeros-past (x ∷ ns) n k (suc i) = zeros-past ns n k i
 

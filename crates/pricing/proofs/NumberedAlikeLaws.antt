@@ -8,33 +8,19 @@ use Prim.Native.Nat.{ℕ}
 use native.Mathlib.Omega.{arith}
 use lib.ListN.{length, replicate, length-map}
 use Rattle.lines.specs.Line.{at, writeLines}
-use Rattle.lines.specs.Lines.{LineKind, Lines, lines, linesOf}
+use Rattle.lines.specs.Lines.{LineKind, lines, linesOf}
 use Rattle.lines.specs.Alike.{Equal, NoZerosOver, all-due, AlikeFiles}
 use Rattle.lines.specs.Written.{Stand, GoodLines, good-none, good-more}
 use Rattle.lines.proofs.SpelledLines.{written-stand}
-use Rattle.lines.proofs.AlikeLaws.{alike-stand, stand-length, stand-only, written-only, ReadAlike, same-lines, same-refusal, turned-alike, due-alike, files-alike}
+use Rattle.lines.proofs.AlikeLaws.{alike-stand, stand-length, ReadAlike, alike-by, exact-no-zeros, exact-only, turned-alike, due-alike, files-alike}
 use Rattle.pricing.specs.Numbered.{goodNumbered, numberedLine, numbersIn, columnRead, columnIn, writeColumn, ColumnFile}
 use Rattle.pricing.specs.NumberedAlike.{NumberedSayAlike}
 use Rattle.pricing.proofs.NumberedLaws.{placed, column-written, numbered-says}
 
--- bytes follow the lines in both or in neither
-past-alike
-    : (ls : List (List ℕ)) (rest other : List ℕ) → length rest ≡ length other
-    → columnRead (lines ls rest) ≡ columnRead (lines ls other)
-past-alike ls [] [] e = refl
-past-alike ls [] (b ∷ other) e = absurd (omega arith)
-past-alike ls (b ∷ rest) [] e = absurd (omega arith)
-past-alike ls (b ∷ rest) (d ∷ other) e = refl
-
--- lines read alike are one column
-column-alike : {x y : Lines} → ReadAlike x y → columnRead x ≡ columnRead y
-column-alike (same-lines {ls} {rest} {other} e) = past-alike ls rest other e
-column-alike same-refusal = refl
-
--- so are files that are read alike
+-- files that are read alike are one column
 columns-alike : (k : LineKind) (c : ℕ) (f g : List ℕ) → ReadAlike (linesOf k c 0 [] f) (linesOf k c 0 [] g) → columnIn k c f ≡ columnIn k c g
 unfolding columnIn
-columns-alike k c f g a = column-alike a
+columns-alike k c f g a = alike-by columnRead (λ ls b d rest other. refl) a
 
 -- ---- numbered lines
 
@@ -88,16 +74,12 @@ module _ (letter limit refusal : ℕ) where
 
     module _ (file : List ℕ) (l : ColumnFile kind c file numbers) where
       -- the lines as they are written
-      whole : writeLines letter (l .lines) ++ [] ≡ writeColumn letter 0 numbers
-      whole =
-          append-nil (writeLines letter (l .lines)) ∙ lines-written (l .stand .good) ∙ ap (writeColumn letter 0) (sym (l .are))
+      whole : writeLines letter (l .lines) ≡ writeColumn letter 0 numbers
+      whole = lines-written (l .stand .good) ∙ ap (writeColumn letter 0) (sym (l .are))
 
       -- a line for each number
-      counts : replicate (length (l .lines)) (kind .count) ++ [] ≡ replicate (length numbers) (kind .count)
-      counts =
-          append-nil (replicate (length (l .lines)) (kind .count))
-          ∙ ap (λ (n : ℕ). replicate n (kind .count))
-          (sym (length-map (l .lines) (λ (ns : List ℕ). at ns 1)) ∙ ap length (sym (l .are)))
+      counted : length numbers ≡ c
+      counted = ap length (l .are) ∙ length-map (l .lines) (λ (ns : List ℕ). at ns 1) ∙ l .stand .count
 
       -- the file written of the numbers has them
       written-file : ColumnFile kind c (writeColumn letter 0 numbers) numbers
@@ -108,18 +90,18 @@ module _ (letter limit refusal : ℕ) where
                 record {
                   count = l .stand .count;
                   good = l .stand .good;
-                  stand = rw (← whole) (written-stand kind [] (l .stand .good));
+                  stand = rw (← whole, ← append-nil (writeLines letter (l .lines))) (written-stand kind [] (l .stand .good));
                 };
             are = l .are;
           }
 
       -- it has no zeros
       without-zeros : NoZerosOver (replicate (length numbers) 2) (writeColumn letter 0 numbers)
-      without-zeros = rw (← counts, ← whole) (written-only kind [] [] (l .stand .good) tt)
+      without-zeros = rw (counted, ← whole) (exact-no-zeros kind file (l .lines) (l .stand))
 
       -- no other file of the numbers has none
       only : NoZerosOver (replicate (length numbers) 2) file → file ≡ writeColumn letter 0 numbers
-      only none = stand-only kind (l .lines) [] file [] (l .stand .stand) (rw counts none) .0 ∙ whole
+      only none = exact-only kind file (l .lines) (l .stand) (rw (← counted) none) ∙ whole
 
 -- ---- together
 

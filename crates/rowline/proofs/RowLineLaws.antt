@@ -10,7 +10,7 @@ use borrow.Author.Tests.{lt-ltb, le-ltb, le-leb, lt-leb}
 use Rattle.lines.specs.Inner.{dueStatus, DueRead}
 use Rattle.lines.specs.Line.{Due, ends, no-line, found, lineOf, at}
 use Rattle.lines.proofs.LinesLaws.{due-found}
-use Rattle.rulerows.specs.declared.rows.RowDue.the-variants.{Within, Outside}
+use Rattle.rulerows.specs.declared.rows.RowDue.the-variants.{Within, NotWithin}
 use Rattle.rulerows.specs.RuleRows.{rowOf, goodRow, rowLine}
 use Rattle.rulerows.specs.Inner.{rowDue}
 
@@ -59,17 +59,17 @@ module _ (s a : ℕ) (ns : List ℕ) where
 -- ---- the line of a row
 
 -- nothing, or no line
-no-row : (s a : ℕ) (d : Due) → (dueStatus d ≡ 0 → ⊥) → Outside ≡ rowDue s a d
+no-row : (s a : ℕ) (d : Due) → (dueStatus d ≡ 0 → ⊥) → NotWithin ≡ rowDue s a d
 no-row s a ends q = refl
 no-row s a no-line q = refl
 no-row s a (found ns) q = absurd (q refl)
 
 module _ (s a : ℕ) (bytes : List ℕ) {ns : List ℕ} {r : ℕ} (e : DueRead (lineOf 81 5 bytes) 5 (replicate 5 0) ns r) where
   -- nothing, or no line
-  pub row-stop : (r ≡ 0 → ⊥) → Outside ≡ rowDue s a (lineOf 81 5 bytes)
+  pub row-stop : (r ≡ 0 → ⊥) → NotWithin ≡ rowDue s a (lineOf 81 5 bytes)
   row-stop q = no-row s a (lineOf 81 5 bytes) (λ z. q (e .status ∙ z))
 
   -- a line, by the test of its numbers
-  pub row-tested : r ≡ 0 → (t : Bool) → goodRow s a 0 [] ns ≡ t → cond t (Within (rowOf ns)) Outside ≡ rowDue s a (lineOf 81 5 bytes)
+  pub row-tested : r ≡ 0 → (t : Bool) → goodRow s a 0 [] ns ≡ t → cond t (Within (rowOf ns)) NotWithin ≡ rowDue s a (lineOf 81 5 bytes)
   row-tested z t g =
-      ap (λ (b : Bool). cond b (Within (rowOf ns)) Outside) (sym g) ∙ sym (ap (rowDue s a) (due-found (rowLine s a) 0 [] bytes e z refl))
+      ap (λ (b : Bool). cond b (Within (rowOf ns)) NotWithin) (sym g) ∙ sym (ap (rowDue s a) (due-found (rowLine s a) 0 [] bytes e z refl))

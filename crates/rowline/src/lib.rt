@@ -38,7 +38,7 @@ pub fn row_line(text: &[u8], at: usize, states: u64, symbols: u64) -> RowDue
     let mut numbers = [0u64; 5];
     let status = due_line(text, at, 81, 5, &mut numbers);
     if status != 0 {
-        return RowDue::Outside;
+        return RowDue::NotWithin;
     }
     if is_row(states, symbols, &numbers) {
         return RowDue::Within(Row {
@@ -53,5 +53,5 @@ pub fn row_line(text: &[u8], at: usize, states: u64, symbols: u64) -> RowDue
             next: numbers[4],
         });
     }
-    RowDue::Outside
+    RowDue::NotWithin
 }

@@ -21,7 +21,7 @@ fn mark_span(marks: &mut [u8], start: usize, stop: usize, mark: u8) -> bool
     true
 }
 
-// Marks the pairs that a row names with its next state: whether none of them had a mark. Where one had, the marks are free.
+// Marks the pairs that a row names with its next state: whether none of them had a mark. Where one had, what the marks become is left open.
 pub fn mark_row(marks: &mut [u8], row: Row) -> bool
     requires { ⌜ (length (now marks) ≡ 256) × (RowFits row) ⌝ }
     ensures { λ r. ⌜ RowMarked row (now (marks .entry)) (now (marks .exit)) r ⌝ }

@@ -23,7 +23,7 @@ use Rattle.rulerows.specs.declared.rows.Row.{Row}
 use Rattle.rulerows.specs.declared.rows.RowsAnswer.{RowsAnswer}
 use Rattle.rulerows.specs.declared.rows.RowsAnswer.the-variants.{Accepted, Refused}
 use Rattle.rulerows.specs.declared.rows.RowsRule.{RowsRule}
-use Rattle.rulerows.specs.RuleRows.{Rows, rows, not-rows, rowsIn, namedBy, nextIn, twice, missing, rowsRule, maxText, ruleOfRows, ruleFrom, rowsMade, rowsAnswer, rowsValue}
+use Rattle.rulerows.specs.RuleRows.{Rows, rows, not-rows, rowsIn, namedBy, nextIn, twice, missing, automatonOfRows, maxText, madeOfRows, ruleFrom, rowsMade, rowsAnswer, rowsValue}
 use Rattle.rulerows.specs.Inner.{markAt, MarksOf, rowsStatus, RowsTaken}
 use Rattle.rulerows.proofs.RowsLaws.{AllWithin, count-some, pair-missing}
 use Rattle.rulerows.proofs.TextLaws.{rows-says, text-within}
@@ -78,28 +78,28 @@ module _ (s a f : ℕ) (rs : List Row) (marks : List ℕ) (are : MarksOf rs mark
         out (inr h) l m = omega arith
 
     -- the byte of a pair
-    pair-byte : (q c : ℕ) → c < 16 → markAt marks q c - 1 ≡ cellByte (rowsRule s a f rs) q c
-    unfolding rowsRule
+    pair-byte : (q c : ℕ) → c < 16 → markAt marks q c - 1 ≡ cellByte (automatonOfRows s a f rs) q c
+    unfolding automatonOfRows
     pair-byte q c l =
         ap (λ (x : ℕ). x - 1) (are .are q c l)
         ∙ by-cases (decLe s q)
         (λ (past : s ≤ q).
-        no-mark (namedBy rs q c) (nextIn rs q c) (no-rows q c (inl past)) ∙ sym (cell-byte-past (rowsRule s a f rs) q c (inl past)))
+        no-mark (namedBy rs q c) (nextIn rs q c) (no-rows q c (inl past)) ∙ sym (cell-byte-past (automatonOfRows s a f rs) q c (inl past)))
         (λ below.
         by-cases (decLe a c)
         (λ (past : a ≤ c).
-        no-mark (namedBy rs q c) (nextIn rs q c) (no-rows q c (inr past)) ∙ sym (cell-byte-past (rowsRule s a f rs) q c (inr past)))
+        no-mark (namedBy rs q c) (nextIn rs q c) (no-rows q c (inr past)) ∙ sym (cell-byte-past (automatonOfRows s a f rs) q c (inr past)))
         (λ before.
         let h : q < s = omega arith in
         let k : c < a = omega arith in
         mark-next (namedBy rs q c) (nextIn rs q c) (has-row q c h k)
-        ∙ sym (cell-byte-at (rowsRule s a f rs) q c h k ∙ rule-cell s a f rs q c h k)))
+        ∙ sym (cell-byte-at (automatonOfRows s a f rs) q c h k ∙ rule-cell s a f rs q c h k)))
 
     -- all of them
-    bytes-made : tab 256 (λ i. getD marks i 0 - 1) ≡ ruleBytes (rowsRule s a f rs)
+    bytes-made : tab 256 (λ i. getD marks i 0 - 1) ≡ ruleBytes (automatonOfRows s a f rs)
     unfolding ruleBytes
     bytes-made =
-        tab-cong 256 (λ (i : ℕ). getD marks i 0 - 1) (λ (i : ℕ). cellByte (rowsRule s a f rs) (i / 16) (i % 16))
+        tab-cong 256 (λ (i : ℕ). getD marks i 0 - 1) (λ (i : ℕ). cellByte (automatonOfRows s a f rs) (i / 16) (i % 16))
         (λ i h.
         let place : i ≡ i / 16 * 16 + i % 16 = omega arith in
         ap (λ (k : ℕ). getD marks k 0 - 1) place ∙ pair-byte (i / 16) (i % 16) (omega arith))
@@ -130,9 +130,9 @@ module _ (text rule : List ℕ) (s a f : ℕ) where
     -- past the tests of 17 that look at no row
     from-rows
         : (b : Bool) → (leb (length text) maxText && numbersFit s a f) ≡ b
-        → rowsMade text s a f (length rule) ≡ cond b (ruleOfRows s a f (rowsIn s a text)) (refuses 17)
+        → rowsMade text s a f (length rule) ≡ cond b (madeOfRows s a f (rowsIn s a text)) (refuses 17)
     unfolding ruleFrom
-    from-rows b e = with-room ∙ ap (λ (t : Bool). cond t (ruleOfRows s a f (rowsIn s a text)) (refuses 17)) e
+    from-rows b e = with-room ∙ ap (λ (t : Bool). cond t (madeOfRows s a f (rowsIn s a text)) (refuses 17)) e
 
     -- 17 for the text's length
     pub rows-too-long : maxText < length text → RowsEnds (Refused 17) rule
@@ -151,7 +151,7 @@ module _ (text rule : List ℕ) (s a f : ℕ) where
 
       module _ (fit : numbersFit s a f ≡ true) (marks : List ℕ) (r : ℕ) (w : RowsTaken s a text marks r) where
         -- past them
-        rows-made : rowsMade text s a f (length rule) ≡ ruleOfRows s a f (rowsIn s a text)
+        rows-made : rowsMade text s a f (length rule) ≡ madeOfRows s a f (rowsIn s a text)
         rows-made = from-rows true (and-eq-true-iff (leb (length text) maxText) (numbersFit s a f) .1 (le-leb (length text) maxText short, fit))
 
         -- 17 for a row, or 18
@@ -162,14 +162,14 @@ module _ (text rule : List ℕ) (s a f : ℕ) where
                 : (rs : List Row) → rowsIn s a text ≡ rows rs → (b : Bool) → twice s a rs ≡ b → r ≡ cond b 18 0
                 → RowsEnds (Refused r) rule
             by-test rs is true t e =
-                ends-as (refuses 18) (rows-made ∙ ap (ruleOfRows s a f) is ∙ simp t) (ap Refused e, refl)
+                ends-as (refuses 18) (rows-made ∙ ap (madeOfRows s a f) is ∙ simp t) (ap Refused e, refl)
             by-test rs is false t e = absurd (nz e)
 
             go : (x : Rows) → rowsIn s a text ≡ x → RowsEnds (Refused r) rule
             go (rows rs) is =
                 by-test rs is (twice s a rs) refl (w .status ∙ ap (rowsStatus s a) is)
             go not-rows is =
-                ends-as (refuses 17) (rows-made ∙ ap (ruleOfRows s a f) is) (ap Refused (w .status ∙ ap (rowsStatus s a) is), refl)
+                ends-as (refuses 17) (rows-made ∙ ap (madeOfRows s a f) is) (ap Refused (w .status ∙ ap (rowsStatus s a) is), refl)
 
         module _ (z : r ≡ 0) where
           -- no pair has two rows
@@ -184,8 +184,8 @@ module _ (text rule : List ℕ) (s a f : ℕ) where
               let (rs, is, are) = w .marks-of z in
               let numbers = numbers-fit-says s a f .0 fit in
               let none : missing s a rs ≡ true = sym (missing-marks s a f rs marks are (numbers .few-states) (numbers .few-symbols)) ∙ e in
-              let made : ruleOfRows s a f (rows rs) ≡ refuses 19 = simp (once rs is, none) in
-              ends-as (refuses 19) (rows-made ∙ ap (ruleOfRows s a f) is ∙ made) (refl, refl)
+              let made : madeOfRows s a f (rows rs) ≡ refuses 19 = simp (once rs is, none) in
+              ends-as (refuses 19) (rows-made ∙ ap (madeOfRows s a f) is ∙ made) (refl, refl)
 
           -- the rule
           pub rows-accepted
@@ -195,9 +195,9 @@ module _ (text rule : List ℕ) (s a f : ℕ) where
               let (rs, is, are) = w .marks-of z in
               let numbers = numbers-fit-says s a f .0 fit in
               let all : missing s a rs ≡ false = sym (missing-marks s a f rs marks are (numbers .few-states) (numbers .few-symbols)) ∙ e in
-              let made : ruleOfRows s a f (rows rs) ≡ makes (rowsRule s a f rs) = simp (once rs is, all) in
+              let made : madeOfRows s a f (rows rs) ≡ makes (automatonOfRows s a f rs) = simp (once rs is, all) in
               let within = text-within s a text rs (rows-says s a text rs .0 is) in
-              ends-as (makes (rowsRule s a f rs)) (rows-made ∙ ap (ruleOfRows s a f) is ∙ made) (
+              ends-as (makes (automatonOfRows s a f rs)) (rows-made ∙ ap (madeOfRows s a f) is ∙ made) (
                 refl,
                 copied ∙ bytes-made s a f rs marks are (numbers .few-states) (numbers .few-symbols) within all,
               )

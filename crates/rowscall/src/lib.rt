@@ -28,19 +28,19 @@ pub fn take_rows(rows: &[u8], states: u64, symbols: u64, finals: u64, rule: &mut
     if LONGEST < rows.len() {
         return RowsAnswer::Refused(17);
     }
-    if do_numbers_fit(states, symbols, finals) {
-        let mut marks = [0u8; 256];
-        let status = take_all(rows, states, symbols, &mut marks);
-        if status != 0 {
-            return RowsAnswer::Refused(status);
-        }
-        if is_missing(&marks, states, symbols) {
-            return RowsAnswer::Refused(19);
-        }
-        write_rule(&marks, rule);
-        return RowsAnswer::Accepted;
+    if !do_numbers_fit(states, symbols, finals) {
+        return RowsAnswer::Refused(17);
     }
-    RowsAnswer::Refused(17)
+    let mut marks = [0u8; 256];
+    let status = take_all(rows, states, symbols, &mut marks);
+    if status != 0 {
+        return RowsAnswer::Refused(status);
+    }
+    if is_missing(&marks, states, symbols) {
+        return RowsAnswer::Refused(19);
+    }
+    write_rule(&marks, rule);
+    RowsAnswer::Accepted
 }
 
 // The rule of the rows of a text by value, with its table beside the answer.

@@ -5,25 +5,23 @@ use mathlib.Core.Path.{_≡_, refl, sym, ap, _∙_, subst}
 use mathlib.Core.Logic.{_⊎_, inl, inr, ⊎-elim, by-cases}
 use mathlib.Core.Bool.{Bool, true, false, cond, true≢false}
 use mathlib.Core.List.{List, [], map}
-use Prim.Native.Nat.{ℕ, zero, suc, _+_, _*_, _≤_, _<_}
-use native.Mathlib.Nat.{eq-or-lt-of-le, le-of-suc-le-suc}
-use native.Mathlib.Numerals.{add-one}
+use Prim.Native.Nat.{ℕ, _+_, _*_, _≤_, _<_}
 use native.Mathlib.Decide.{decLe, ℕ-discrete}
 use native.Mathlib.Omega.{arith}
 use lib.Dec.{lit<}
-use lib.ListN.{length, drop, getD, replicate, length-replicate, length-drop, length-map, drop-of-length-le, List·getD-map}
+use lib.ListN.{length, drop, replicate, length-replicate, length-drop, length-map, drop-of-length-le, List·getD-map}
 use borrow.Author.Tests.{eq-eqb, ne-eqb}
 use Rattle.laws.specs.Bounded.{anyBelow, tab}
-use Rattle.laws.proofs.Bounded.{any-at, any-none-at, length-tab, getD-tab}
+use Rattle.laws.proofs.Bounded.{below-suc, any-at, any-none-at, length-tab, getD-tab}
 use Rattle.laws.proofs.Tests.{fails-of, passes-or-fails}
 use Rattle.lines.specs.Line.{Due, ends, no-line, found, lineOf}
 use Rattle.lines.specs.Lines.{lines, linesOf}
 use Rattle.lines.specs.Places.{numbersOf, statusOf, dueAt, numbersAt, beforeAt, statusAt}
-use Rattle.lines.proofs.LinesLaws.{lines-all, passed-more}
+use Rattle.lines.proofs.LinesLaws.{zeros-at, lines-all, passed-more}
 use Rattle.lines.proofs.SpelledLine.{line-long, line-found, found-line}
 use Rattle.rulerows.specs.declared.rows.Row.{Row}
 use Rattle.rulerows.specs.declared.rows.RowDue.{RowDue}
-use Rattle.rulerows.specs.declared.rows.RowDue.the-variants.{Within, Outside}
+use Rattle.rulerows.specs.declared.rows.RowDue.the-variants.{Within, NotWithin}
 use Rattle.rulerows.specs.RuleRows.{rowOf, goodRow, rowLine, rows, rowsRead, rowsDue, rowsIn, names, namedBy, nextIn, twice}
 use Rattle.rulerows.specs.RowsSay.{RowWithin, Names, rowAt}
 use Rattle.rulerows.specs.Inner.{rowDue, RowFits, markAt, RowMarked, MarkedMore, markOf, rowsStatus, RowsTaken}
@@ -53,18 +51,18 @@ module _ {row : Row} {status : ℕ} {l : List ℕ} where
 -- a row, and whether there is one
 abbrev rowIn : RowDue → Row
 rowIn (Within r) = r
-rowIn Outside = rowOf []
+rowIn NotWithin = rowOf []
 
 abbrev isRow : RowDue → ℕ
 isRow (Within r) = 1
-isRow Outside = 0
+isRow NotWithin = 0
 
 -- by the test of its numbers
-tested-row : (t : Bool) (r row : Row) → cond t (Within r) Outside ≡ Within row → (t ≡ true) × (r ≡ row)
+tested-row : (t : Bool) (r row : Row) → cond t (Within r) NotWithin ≡ Within row → (t ≡ true) × (r ≡ row)
 tested-row true r row e = (refl, ap rowIn e)
 tested-row false r row e = let z : _≡_ {A = ℕ} 0 1 = ap isRow e in absurd (omega arith)
 
-tested-none : (t : Bool) (r : Row) → cond t (Within r) Outside ≡ Outside → t ≡ false
+tested-none : (t : Bool) (r : Row) → cond t (Within r) NotWithin ≡ NotWithin → t ≡ false
 tested-none true r e = let z : _≡_ {A = ℕ} 1 0 = ap isRow e in absurd (omega arith)
 tested-none false r e = refl
 
@@ -87,16 +85,6 @@ row-fits hs ha w =
       next = omega (arith, hs, w .next-state);
     }
 
--- below one more
-below-suc : (i n : ℕ) → i < n + 1 → (i ≡ n) ⊎ (i < n)
-below-suc i n h = eq-or-lt-of-le (le-of-suc-le-suc (rw (add-one n) at h))
-
--- zeros everywhere
-zeros-at : (n k : ℕ) → _≡_ {A = ℕ} (getD (replicate n 0) k 0) 0
-zeros-at zero k = refl
-zeros-at (suc n) zero = refl
-zeros-at (suc n) (suc k) = zeros-at n k
-
 module _ (s a : ℕ) (text : List ℕ) where
   -- the row at a place
   abbrev pub rowHere : ℕ → Row
@@ -117,7 +105,7 @@ module _ (s a : ℕ) (text : List ℕ) where
 
   -- one that is none, or not within its limits
   row-fault
-      : (i : ℕ) (d : Due) → lineOf 81 5 (drop (i * 32) text) ≡ d → i * 32 < length text → rowDue s a d ≡ Outside → RowFault s a text
+      : (i : ℕ) (d : Due) → lineOf 81 5 (drop (i * 32) text) ≡ d → i * 32 < length text → rowDue s a d ≡ NotWithin → RowFault s a text
   row-fault i ends is l e =
       none-there i l (λ ns here. let z : _≡_ {A = ℕ} 0 1 = cc (is, line-found 81 5 (drop (i * 32) text) ns here) in omega arith)
   row-fault i no-line is l e =
@@ -193,7 +181,7 @@ module _ (s a : ℕ) (text : List ℕ) where
             w .marked refl q c l (subst (λ (k : ℕ). Names (rowHere k) q c) e named) ∙ ap (λ (k : ℕ). rowHere k .next + 1) (sym e))
             (λ (k : i < n).
             w .others refl q c l (λ again. omega (arith, w .free refl q c l again, by .one q c i l k named)) ∙ by .one q c i l k named)
-            (below-suc i n (omega arith));
+            (below-suc {i = i} {n = n} (omega arith));
         apart = λ i j q c h l named again.
             ⊎-elim
             (λ (e : j ≡ n).
@@ -201,7 +189,7 @@ module _ (s a : ℕ) (text : List ℕ) where
             let in-row : c < 16 = omega (arith, here .to-symbol, fits .symbols) in
             omega (arith, w .free refl q c in-row here, by .one q c i in-row (omega (arith, h, e)) named))
             (λ (k : j < n). by .apart i j q c h k named again)
-            (below-suc j n (omega arith));
+            (below-suc {i = j} {n = n} (omega arith));
       }
 
   -- one that meets a row before it
@@ -277,7 +265,7 @@ module _ (s a : ℕ) (text : List ℕ) where
   -- a row that is none
   pub taken-stop
       : (n : ℕ) (marks : List ℕ) (status : ℕ) → TakenSoFar n marks status → n * 32 < length text
-      → rowDue s a (lineOf 81 5 (drop (n * 32) text)) ≡ Outside → RowsTaken s a text marks 17
+      → rowDue s a (lineOf 81 5 (drop (n * 32) text)) ≡ NotWithin → RowsTaken s a text marks 17
   taken-stop n marks status so l e =
       let none = fault-not-rows s a text (row-fault n (lineOf 81 5 (drop (n * 32) text)) refl l e) in
       record { status = sym (ap (rowsStatus s a) none); long = so .long; marks-of = λ z. absurd (omega (arith, z)) }

@@ -8,7 +8,7 @@ use Rattle.automaton.specs.Automaton.{cell}
 use Rattle.automaton.specs.Table.{cellByte, ruleBytes}
 use Rattle.lines.specs.Line.{decimal, field, fields, writeLines, digitsOf, fieldOf, fieldsOf, lineOf}
 use Rattle.lines.specs.Lines.{linesOf}
-use Rattle.rulerows.specs.RuleRows.{rowsIn, names, namedBy, nextIn, twice, missing, rowsRule, ruleFrom, rowsMade}
+use Rattle.rulerows.specs.RuleRows.{rowsIn, names, namedBy, nextIn, twice, missing, automatonOfRows, ruleFrom, rowsMade}
 use Rattle.rowstrials.specs.RowsTrials.{RowsTrial, MadeSo, MakesSo, AllMade, done, _and_, rowsTrials}
 
 -- a call is answered by the length of its rule buffer
@@ -19,7 +19,7 @@ makes-so {t} so rule long =
 
 -- all calls, in the order of the table
 pub rows-trials-pass : AllMade rowsTrials
-unfolding rowsTrials anyBelow tabFrom tab cell cellByte ruleBytes decimal field fields writeLines digitsOf fieldOf fieldsOf lineOf linesOf rowsIn names namedBy nextIn twice missing rowsRule ruleFrom
+unfolding rowsTrials anyBelow tabFrom tab cell cellByte ruleBytes decimal field fields writeLines digitsOf fieldOf fieldsOf lineOf linesOf rowsIn names namedBy nextIn twice missing automatonOfRows ruleFrom
 rows-trials-pass =
     makes-so (λ rule. record { number = refl; left = refl; beside = refl })
     and makes-so (λ rule. record { number = refl; left = refl; beside = refl })

@@ -3,7 +3,7 @@
 -- Assumes nothing.
 use mathlib.Core.Path.{_≡_}
 use mathlib.Core.List.{List, [], _∷_, _++_}
-use Prim.Native.Nat.{ℕ, _+_, _-_, _/_, _%_}
+use Prim.Native.Nat.{ℕ, _+_, _-_, _*_, _/_, _%_}
 use Prim.Native.String.{String}
 use lib.ListN.{length, replicate}
 use Rattle.laws.specs.Bounded.{tab}
@@ -100,20 +100,20 @@ pairThen more =
 abbrev pub whole : ℕ → ℕ → ℕ → List Row
 whole s a next = record { states = spanOf 0 (s - 1); symbols = spanOf 0 (a - 1); next = next } ∷ []
 
--- 256 rows of one cell, from the last to the first; state q goes on symbol c to (q + c) % 16, here by the place of the row
+-- 256 rows of one cell, from the last to the first; state q goes on symbol c to (3 * q + c) % 16, here by the place of the row
 abbrev pub cellRow : ℕ → Row
 cellRow i =
     record {
       states = spanOf ((255 - i) / 16) ((255 - i) / 16);
       symbols = spanOf ((255 - i) % 16) ((255 - i) % 16);
-      next = ((255 - i) / 16 + (255 - i) % 16) % 16;
+      next = ((255 - i) / 16 * 3 + (255 - i) % 16) % 16;
     }
 
 abbrev pub cellRows : List Row
 cellRows = tab 256 cellRow
 
 abbrev pub cellBytes : List ℕ
-cellBytes = tab 256 (λ i. (i / 16 + i % 16) % 16)
+cellBytes = tab 256 (λ i. (i / 16 * 3 + i % 16) % 16)
 
 -- ---- the table
 

@@ -4,4 +4,4 @@ pub mod RowsLaws
 pub mod TextLaws
 pub mod RowsSays
 pub mod RowsServe
-pub mod AlikeRows
+pub mod RowsAlikeLaws

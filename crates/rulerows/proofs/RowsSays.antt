@@ -21,7 +21,7 @@ use Rattle.automaton.specs.Table.{ruleSize}
 use Rattle.automaton.specs.Made.{Made, makes, refuses}
 use Rattle.automaton.proofs.AutomatonLaws.{numbers-fit-says}
 use Rattle.rulerows.specs.declared.rows.Row.{Row}
-use Rattle.rulerows.specs.RuleRows.{Rows, rows, not-rows, rowsIn, namedBy, nextIn, twice, missing, rowsRule, maxText, ruleOfRows, ruleFrom, rowsMade}
+use Rattle.rulerows.specs.RuleRows.{Rows, rows, not-rows, rowsIn, namedBy, nextIn, twice, missing, automatonOfRows, maxText, madeOfRows, ruleFrom, rowsMade}
 use Rattle.rulerows.specs.RowsSay.{Names, rowAt, Outside, too-long, no-state, many-states, no-symbol, many-symbols, final-past, no-row, row-outside, Ready, Twice, Unnamed, RowsRefused, other-length, outside, twice as two-rows, unnamed, Once, RuleOfRows, MakesRule, RowsAnswerSays}
 use Rattle.rulerows.proofs.RowsLaws.{AllWithin, count-some, next-only, pair-twice, pair-missing, twice-says, missing-says}
 use Rattle.rulerows.proofs.TextLaws.{RowFault, none-there, not-within, rows-says, rows-read, text-within, fault-found, fault-not-rows}
@@ -37,14 +37,14 @@ module _ (s a f : ℕ) (rs : List Row) where
       (λ few. omega arith)
 
   -- the cells of the rule
-  pub rule-cell : (q c : ℕ) → q < s → c < a → next (rowsRule s a f rs) q c ≡ nextIn rs q c
-  unfolding rowsRule cell
+  pub rule-cell : (q c : ℕ) → q < s → c < a → next (automatonOfRows s a f rs) q c ≡ nextIn rs q c
+  unfolding automatonOfRows cell
   rule-cell q c h k =
       ap (λ (r : List ℕ). getD r c 0) (getD-tab s (λ (q : ℕ). tab a (λ c. nextIn rs q c)) q [] h) ∙ getD-tab a (λ (c : ℕ). nextIn rs q c) c 0 k
 
   -- it is the rule of the rows
-  pub rule-is : twice s a rs ≡ false → RuleOfRows s a f rs (rowsRule s a f rs)
-  unfolding rowsRule
+  pub rule-is : twice s a rs ≡ false → RuleOfRows s a f rs (automatonOfRows s a f rs)
+  unfolding automatonOfRows
   rule-is once =
       record {
         states = refl;
@@ -57,8 +57,8 @@ module _ (s a f : ℕ) (rs : List Row) where
       }
 
   -- and no other is
-  rule-only : (m : Automaton) → twice s a rs ≡ false → Once s a rs → RuleOfRows s a f rs m → m ≡ rowsRule s a f rs
-  unfolding rowsRule cell
+  rule-only : (m : Automaton) → twice s a rs ≡ false → Once s a rs → RuleOfRows s a f rs m → m ≡ automatonOfRows s a f rs
+  unfolding automatonOfRows cell
   rule-only m once each is =
       let row : ℕ → List ℕ = λ q. tab a (λ c. nextIn rs q c) in
       let table : m .table ≡ tab s row =
@@ -132,9 +132,9 @@ module _ (text : List ℕ) (s a f : ℕ) where
   fits = leb (length text) maxText && numbersFit s a f
 
   -- past it
-  from-rows : (b : Bool) → fits ≡ b → ruleFrom text s a f ≡ cond b (ruleOfRows s a f (rowsIn s a text)) (refuses 17)
+  from-rows : (b : Bool) → fits ≡ b → ruleFrom text s a f ≡ cond b (madeOfRows s a f (rowsIn s a text)) (refuses 17)
   unfolding ruleFrom
-  from-rows b e = ap (λ (t : Bool). cond t (ruleOfRows s a f (rowsIn s a text)) (refuses 17)) e
+  from-rows b e = ap (λ (t : Bool). cond t (madeOfRows s a f (rowsIn s a text)) (refuses 17)) e
 
   -- what 17 turns back
   pub outside-made : Outside text s a f → ruleFrom text s a f ≡ refuses 17
@@ -148,7 +148,7 @@ module _ (text : List ℕ) (s a f : ℕ) where
       fault bad = both (passes-or-fails fits)
         where
           both : (fits ≡ true) ⊎ (fits ≡ false) → ruleFrom text s a f ≡ refuses 17
-          both (inl e) = from-rows true e ∙ ap (ruleOfRows s a f) (fault-not-rows s a text bad)
+          both (inl e) = from-rows true e ∙ ap (madeOfRows s a f) (fault-not-rows s a text bad)
           both (inr e) = from-rows false e
 
       go : Outside text s a f → ruleFrom text s a f ≡ refuses 17
@@ -169,12 +169,12 @@ module _ (text : List ℕ) (s a f : ℕ) where
     ready-within = text-within s a text rs (ready .rows)
 
     -- past 17
-    pub ready-made : ruleFrom text s a f ≡ ruleOfRows s a f (rows rs)
+    pub ready-made : ruleFrom text s a f ≡ madeOfRows s a f (rows rs)
     ready-made =
         from-rows true
         (and-eq-true-iff (leb (length text) maxText) (numbersFit s a f) .1
         (le-leb (length text) maxText (ready .short), numbers-fit-says s a f .1 (ready .numbers)))
-        ∙ ap (ruleOfRows s a f) (rows-read s a text rs (ready .rows))
+        ∙ ap (madeOfRows s a f) (rows-read s a text rs (ready .rows))
 
     -- 18
     twice-made : Twice rs → ruleFrom text s a f ≡ refuses 18
@@ -190,7 +190,7 @@ module _ (text : List ℕ) (s a f : ℕ) where
     once-made : (m : Automaton) → Once s a rs → RuleOfRows s a f rs m → ruleFrom text s a f ≡ makes m
     once-made m each is =
         let once = once-not-twice s a f rs ready-within each in
-        let made : ruleOfRows s a f (rows rs) ≡ makes (rowsRule s a f rs) = simp (once, once-not-missing s a f rs each) in
+        let made : madeOfRows s a f (rows rs) ≡ makes (automatonOfRows s a f rs) = simp (once, once-not-missing s a f rs each) in
         ready-made ∙ made ∙ ap makes (sym (rule-only s a f rs m once each is))
 
   -- why S, A or the final set do not fit
@@ -233,7 +233,7 @@ module _ (text : List ℕ) (s a f : ℕ) where
     -- of rows
     rows-outcome
         : (rs : List Row) → rule ≡ ruleSize → Ready text s a f rs → (b : Bool) → twice s a rs ≡ b → (d : Bool) → missing s a rs ≡ d
-        → Outcome (cond b (refuses 18) (cond d (refuses 19) (makes (rowsRule s a f rs))))
+        → Outcome (cond b (refuses 18) (cond d (refuses 19) (makes (automatonOfRows s a f rs))))
     rows-outcome rs same ready true t d u = one-refusal (two-rows same ready (twice-says s a rs (ready-within ready) .0 t))
     rows-outcome rs same ready false t true u =
         one-refusal (unnamed same ready (λ w. true≢false (sym (twice-says s a rs (ready-within ready) .1 w) ∙ t)) (missing-says s a rs .0 u))
@@ -248,7 +248,7 @@ module _ (text : List ℕ) (s a f : ℕ) where
 
     -- of a text
     text-outcome
-        : rule ≡ ruleSize → length text ≤ maxText → NumbersFit s a f → (x : Rows) → rowsIn s a text ≡ x → Outcome (ruleOfRows s a f x)
+        : rule ≡ ruleSize → length text ≤ maxText → NumbersFit s a f → (x : Rows) → rowsIn s a text ≡ x → Outcome (madeOfRows s a f x)
     text-outcome same short numbers (rows rs) e =
         rows-outcome rs same (record { short = short; numbers = numbers; rows = rows-says s a text rs .0 e }) (twice s a rs) refl (missing s a rs) refl
     text-outcome same short numbers not-rows e = one-refusal (outside same (why (fault-found s a text e)))
@@ -260,7 +260,7 @@ module _ (text : List ℕ) (s a f : ℕ) where
     -- of a call
     call-outcome
         : (b : Bool) → eqb rule ruleSize ≡ b → (c : Bool) → leb (length text) maxText ≡ c → (d : Bool) → numbersFit s a f ≡ d
-        → Outcome (cond b (cond (c && d) (ruleOfRows s a f (rowsIn s a text)) (refuses 17)) (refuses 13))
+        → Outcome (cond b (cond (c && d) (madeOfRows s a f (rowsIn s a text)) (refuses 17)) (refuses 13))
     call-outcome false e c l d n = one-refusal (other-length (eqb-false rule ruleSize e))
     call-outcome true e false l d n =
         one-refusal (outside (eqb-true rule ruleSize e) (too-long (omega (arith, leb-false (length text) maxText l))))

@@ -13,7 +13,8 @@ use Rattle.automaton.specs.Automaton.{Automaton, wellFormed, WellFormed, SameRu
 use Rattle.automaton.specs.Table.{ruleSize, ruleBytes, RuleWritten}
 use Rattle.automaton.specs.Made.{Made, makes, refuses, madeAfter, madeTable}
 use Rattle.automaton.proofs.AutomatonLaws.{well-formed-says, well-formed-same}
-use Rattle.automaton.proofs.RuleBytesLaws.{rule-bytes-same, rule-written}
+use Rattle.automaton.proofs.RuleBytesLaws.{rule-bytes-same}
+use Rattle.automaton.proofs.MadeLaws.{made-says}
 use Rattle.lines.specs.Lines.{linesOf}
 use Rattle.jobfile.specs.File.{ruleLine, accepted}
 use Rattle.jobfile.specs.Alike.{Alike}
@@ -106,8 +107,8 @@ pub rows-bytes-say : RowsBytesSay
 rows-bytes-say text rule s a f = go (rowsMade text s a f (length rule)) refl
   where
     go : (x : Made) → rowsMade text s a f (length rule) ≡ x → RowsLeft rule (madeAfter x rule) x (rowsAnswer x)
-    go (makes m) e = written (rule-written m (made-well-formed text s a f (length rule) m e))
-    go (refuses k) e = unchanged refl
+    go (makes m) e = written (made-says .written m rule (made-well-formed text s a f (length rule) m e))
+    go (refuses k) e = unchanged (made-says .unchanged k rule)
 
 -- by value
 pub rows-value-says : RowsValueSays
@@ -115,10 +116,12 @@ rows-value-says =
     record {
       answer = λ x. refl;
       table = λ text s a f m e.
-          subst (RuleWritten m) (sym (ap madeTable e)) (rule-written m (made-well-formed text s a f ruleSize m e));
+          subst (RuleWritten m) (sym (ap madeTable e)) (made-says .table m (made-well-formed text s a f ruleSize m e));
       rule = λ text s a f m e.
           subst (λ (l : List ℕ). SameRule m (ruleLeft l s a f)) (sym (ap madeTable e)) (made-same text s a f ruleSize m e);
-      none = λ text s a f k e. ap madeTable e;
+      none = λ text s a f k e. ap madeTable e ∙ made-says .none k;
+      same-bytes = λ text rule s a f m long e.
+          ap (λ (n : ℕ). madeAfter (rowsMade text s a f n) rule) long ∙ ap (λ (x : Made). madeAfter x rule) e ∙ sym (ap madeTable e);
     }
 
 -- ---- the number

@@ -11,15 +11,15 @@ use lib.ListN.{length, getD}
 use Rattle.lines.specs.Line.{Due, ends, no-line, found}
 use Rattle.rulerows.specs.declared.rows.Row.{Row}
 use Rattle.rulerows.specs.declared.rows.RowDue.{RowDue}
-use Rattle.rulerows.specs.declared.rows.RowDue.the-variants.{Within, Outside}
+use Rattle.rulerows.specs.declared.rows.RowDue.the-variants.{Within, NotWithin}
 use Rattle.rulerows.specs.RuleRows.{rowOf, goodRow, Rows, rows, not-rows, rowsIn, namedBy, nextIn, twice}
 use Rattle.rulerows.specs.RowsSay.{Names}
 
 -- the row that is due, if it is there and within its limits
 abbrev pub rowDue : ℕ → ℕ → Due → RowDue
-rowDue s a ends = Outside
-rowDue s a no-line = Outside
-rowDue s a (found ns) = cond (goodRow s a 0 [] ns) (Within (rowOf ns)) Outside
+rowDue s a ends = NotWithin
+rowDue s a no-line = NotWithin
+rowDue s a (found ns) = cond (goodRow s a 0 [] ns) (Within (rowOf ns)) NotWithin
 
 -- a row within sixteen states and sixteen symbols
 pub record RowFits (r : Row) : Type 0 where

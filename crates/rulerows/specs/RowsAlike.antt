@@ -25,7 +25,7 @@ abbrev pub AlikeRows : ℕ → ℕ → List ℕ → List ℕ → Type 0
 AlikeRows s a f g = AlikeFiles (rowLine s a) (rowsDue f) f g
 
 -- the statement: texts alike are so either way, and have the same rows or none; so do texts of one length with alike rows due, whatever follows
--- these. The texts of the same rows are alike; every rows within their limits have a text, the written one, and of all their texts it is the
+-- these. The texts of the same rows are alike; all rows within their limits have a text, the written one, and of all their texts it is the
 -- only one that has no zeros before a number's digits
 pub record RowsSayAlike : Type 0 where
   pub itself : (s a : ℕ) (f : List ℕ) → AlikeRows s a f f

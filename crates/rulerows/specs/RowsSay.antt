@@ -163,7 +163,8 @@ RowsBytesSay =
     → RowsLeft rule (madeAfter (rowsMade text s a f (length rule)) rule) (rowsMade text s a f (length rule))
     (rowsAnswer (rowsMade text s a f (length rule)))
 
--- the statement: the table by value has the same bytes, and what `table_of` makes of it is the rule; beside a refusal it is zero
+-- the statement: the table by value has the bytes that are left in a buffer, and what `table_of` makes of it is the rule; beside a refusal it is
+-- zero
 pub record RowsValueSays : Type 0 where
   pub answer : (x : Made) → rowsValue x .answer ≡ rowsAnswer x
   pub table
@@ -175,6 +176,9 @@ pub record RowsValueSays : Type 0 where
   pub none
       : (text : List ℕ) (s a f k : ℕ) → rowsMade text s a f ruleSize ≡ refuses k
       → rowsValue (rowsMade text s a f ruleSize) .table ≡ replicate ruleSize 0
+  pub same-bytes
+      : (text rule : List ℕ) (s a f : ℕ) (m : Automaton) → length rule ≡ ruleSize → rowsMade text s a f ruleSize ≡ makes m
+      → madeAfter (rowsMade text s a f (length rule)) rule ≡ rowsValue (rowsMade text s a f ruleSize) .table
 
 -- ---- the number
 

@@ -33,7 +33,7 @@ abbrev pub goodRow : ℕ → ℕ → ℕ → List ℕ → List ℕ → Bool
 goodRow s a i before ns =
     leb (at ns 0) (at ns 1) && ltb (at ns 1) s && leb (at ns 2) (at ns 3) && ltb (at ns 3) a && ltb (at ns 4) s
 
--- "one letter Q and five six-column fields" (Q is 81)
+-- "one letter Q and five six-column fields" (Q is 81); what a line is refused with is not told, since 17 is of the whole text
 abbrev pub rowLine : ℕ → ℕ → LineKind
 rowLine s a = record { letter = 81; count = 5; refusal = 17; good = goodRow s a }
 
@@ -90,9 +90,9 @@ unfolding anyBelow namedBy
 missing s a rs = anyBelow s (λ q. anyBelow a (λ c. eqb (namedBy rs q c) 0))
 
 -- "every cell holds the next state of its one row"
-unfoldable pub rowsRule : ℕ → ℕ → ℕ → List Row → Automaton
+unfoldable pub automatonOfRows : ℕ → ℕ → ℕ → List Row → Automaton
 unfolding tab nextIn
-rowsRule s a f rs = automatonOf (tab s (λ q. tab a (λ c. nextIn rs q c))) s a f
+automatonOfRows s a f rs = automatonOf (tab s (λ q. tab a (λ c. nextIn rs q c))) s a f
 
 -- ---- the answer
 
@@ -101,14 +101,14 @@ abbrev pub maxText : ℕ
 maxText = 256 * lineLength 5
 
 -- 17 for a text that is not rows alone; "then 18 when two rows name one pair, then 19 when a pair has no row"
-abbrev pub ruleOfRows : ℕ → ℕ → ℕ → Rows → Made
-ruleOfRows s a f (rows rs) = cond (twice s a rs) (refuses 18) (cond (missing s a rs) (refuses 19) (makes (rowsRule s a f rs)))
-ruleOfRows s a f not-rows = refuses 17
+abbrev pub madeOfRows : ℕ → ℕ → ℕ → Rows → Made
+madeOfRows s a f (rows rs) = cond (twice s a rs) (refuses 18) (cond (missing s a rs) (refuses 19) (makes (automatonOfRows s a f rs)))
+madeOfRows s a f not-rows = refuses 17
 
 -- the rule of a text; 17 for more bytes than 256 rows have, before a row is looked at, and for S, A or the final set
 unfoldable pub ruleFrom : List ℕ → ℕ → ℕ → ℕ → Made
 unfolding rowsIn twice missing
-ruleFrom text s a f = cond (leb (length text) maxText && numbersFit s a f) (ruleOfRows s a f (rowsIn s a text)) (refuses 17)
+ruleFrom text s a f = cond (leb (length text) maxText && numbersFit s a f) (madeOfRows s a f (rowsIn s a text)) (refuses 17)
 
 -- for a rule buffer of this length: "any other length is refused as 13 for the rule", before all else
 abbrev pub rowsMade : List ℕ → ℕ → ℕ → ℕ → ℕ → Made

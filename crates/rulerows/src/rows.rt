@@ -16,7 +16,7 @@ pub struct Row {
 // What stands where a row is due: a row, or none that is within its limits.
 pub enum RowDue {
     Within(Row),
-    Outside,
+    NotWithin,
 }
 
 // A rule was made, or a refusal.

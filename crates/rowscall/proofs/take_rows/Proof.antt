@@ -4,6 +4,7 @@
 use mathlib.Core.Path.{refl, sym, _∙_}
 use native.Mathlib.Omega.{arith}
 use borrow.Author.Needs.{needs}
+use borrow.Author.Tests.{not-true, not-false}
 use Rattle.automaton.proofs.AutomatonLaws.{numbers-fit-says}
 use Rattle.rowscall.proofs.CallLaws.{rows-other-length, rows-too-long, rows-unfit, rows-refused, rows-missing, rows-accepted}
 use Rattle.rowscall.proofs.take_rows.Statement.{statement}
@@ -22,22 +23,28 @@ returns-2 c =
 do-numbers-fit-requires : tie.Need-do-numbers-fit-requires
 do-numbers-fit-requires c κs = search needs
 
+returns-3 : tie.Need-returns-3
+returns-3 c =
+    let x = c .before .before .before .before .before .before .args in
+    rows-unfit (x .rows .now) (x .rule .now) (x .states) (x .symbols) (x .finals) (omega (arith, c .before .before .before .if1 .left))
+    (omega (arith, c .before .before .if2 .left)) (sym (c .before .do-numbers-fit .ensures) ∙ not-true _ (c .if3 .taken))
+
 slice-aggregate-take-all : tie.Need-slice-aggregate-take-all
 slice-aggregate-take-all c = search needs
 
 take-all-requires : tie.Need-take-all-requires
 take-all-requires c κs =
     let x = c .before .before .before .before .before .before .before .args in
-    let fit = numbers-fit-says (x .states) (x .symbols) (x .finals) .0 (sym (c .before .before .do-numbers-fit .ensures) ∙ c .before .if3 .taken) in
+    let fit = numbers-fit-says (x .states) (x .symbols) (x .finals) .0 (sym (c .before .before .do-numbers-fit .ensures) ∙ not-false _ (c .before .if3 .left)) in
     (omega (arith, c .before .before .before .if2 .left), (fit .few-states, (fit .few-symbols, refl)))
 
-returns-3 : tie.Need-returns-3
-returns-3 c =
+returns-4 : tie.Need-returns-4
+returns-4 c =
     let t = c .before .before in
     let u = t .before .before in
     let x = u .before .before .before .before .before .before .args in
     rows-refused (x .rows .now) (x .rule .now) (x .states) (x .symbols) (x .finals) (omega (arith, u .before .before .before .if1 .left))
-    (omega (arith, u .before .before .if2 .left)) (sym (u .before .do-numbers-fit .ensures) ∙ u .if3 .taken) _ (t .take-all .result)
+    (omega (arith, u .before .before .if2 .left)) (sym (u .before .do-numbers-fit .ensures) ∙ not-false _ (u .if3 .left)) _ (t .take-all .result)
     (t .take-all .ensures) (c .if4 .taken)
 
 slice-aggregate-is-missing : tie.Need-slice-aggregate-is-missing
@@ -48,16 +55,16 @@ is-missing-requires c κs =
     let t = c .before .before .before in
     let u = t .before .before in
     let x = u .before .before .before .before .before .before .args in
-    let fit = numbers-fit-says (x .states) (x .symbols) (x .finals) .0 (sym (u .before .do-numbers-fit .ensures) ∙ u .if3 .taken) in
+    let fit = numbers-fit-says (x .states) (x .symbols) (x .finals) .0 (sym (u .before .do-numbers-fit .ensures) ∙ not-false _ (u .if3 .left)) in
     (t .take-all .ensures .long, (fit .few-states, fit .few-symbols))
 
-returns-4 : tie.Need-returns-4
-returns-4 c =
+returns-5 : tie.Need-returns-5
+returns-5 c =
     let t = c .before .before .before .before .before in
     let u = t .before .before in
     let x = u .before .before .before .before .before .before .args in
     rows-missing (x .rows .now) (x .rule .now) (x .states) (x .symbols) (x .finals) (omega (arith, u .before .before .before .if1 .left))
-    (omega (arith, u .before .before .if2 .left)) (sym (u .before .do-numbers-fit .ensures) ∙ u .if3 .taken) _ (t .take-all .result)
+    (omega (arith, u .before .before .if2 .left)) (sym (u .before .do-numbers-fit .ensures) ∙ not-false _ (u .if3 .left)) _ (t .take-all .result)
     (t .take-all .ensures) (c .before .before .before .if4 .left) (sym (c .before .is-missing .ensures) ∙ c .if5 .taken)
 
 slice-aggregate-write-rule : tie.Need-slice-aggregate-write-rule
@@ -69,22 +76,16 @@ write-rule-requires c κs = search needs
 same-length : tie.Need-same-length
 same-length c = search needs
 
-returns-5 : tie.Need-returns-5
-returns-5 c =
+returns-6 : tie.Need-returns-6
+returns-6 c =
     let m = c .before .before .before .before .before .before in
     let t = m .before .before .before .before in
     let u = t .before .before in
     let x = u .before .before .before .before .before .before .args in
     rows-accepted (x .rows .now) (x .rule .now) (x .states) (x .symbols) (x .finals) (omega (arith, u .before .before .before .if1 .left))
-    (omega (arith, u .before .before .if2 .left)) (sym (u .before .do-numbers-fit .ensures) ∙ u .if3 .taken) _ (t .take-all .result)
+    (omega (arith, u .before .before .if2 .left)) (sym (u .before .do-numbers-fit .ensures) ∙ not-false _ (u .if3 .left)) _ (t .take-all .result)
     (t .take-all .ensures) (m .before .before .if4 .left) (sym (m .is-missing .ensures) ∙ c .before .before .before .before .before .if5 .left) _
     (c .before .before .write-rule .ensures)
-
-returns-6 : tie.Need-returns-6
-returns-6 c =
-    let x = c .before .before .before .before .before .before .args in
-    rows-unfit (x .rows .now) (x .rule .now) (x .states) (x .symbols) (x .finals) (omega (arith, c .before .before .before .if1 .left))
-    (omega (arith, c .before .before .if2 .left)) (sym (c .before .do-numbers-fit .ensures) ∙ c .if3 .left)
 
 pub take-rows-spec : {M : Type 1} → statement M
 take-rows-spec =
@@ -93,14 +94,14 @@ take-rows-spec =
     returns
     returns-2
     do-numbers-fit-requires
+    returns-3
     slice-aggregate-take-all
     take-all-requires
-    returns-3
+    returns-4
     slice-aggregate-is-missing
     is-missing-requires
-    returns-4
+    returns-5
     slice-aggregate-write-rule
     write-rule-requires
     same-length
-    returns-5
     returns-6)

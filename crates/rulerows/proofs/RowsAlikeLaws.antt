@@ -7,12 +7,12 @@ use Prim.Native.Nat.{ℕ, suc, _/_, _≤_}
 use native.Mathlib.Omega.{arith}
 use lib.ListN.{length, replicate, length-map}
 use Rattle.lines.specs.Line.{writeLines}
-use Rattle.lines.specs.Lines.{Lines, lines, linesOf}
+use Rattle.lines.specs.Lines.{lines, linesOf}
 use Rattle.lines.specs.Written.{Fits, Stand, GoodLines, good-none, good-more, LinesAt}
 use Rattle.lines.specs.Alike.{Equal, AlikeUpTo, NoZerosOver, FileDue, all-due, AlikeFiles}
 use Rattle.lines.proofs.SpelledLine.{fits-cons}
 use Rattle.lines.proofs.SpelledLines.{written-stand}
-use Rattle.lines.proofs.AlikeLaws.{alike-stand, stand-only, written-only, ReadAlike, same-lines, same-refusal, due-alike, files-alike, lines-say-alike}
+use Rattle.lines.proofs.AlikeLaws.{alike-stand, ReadAlike, alike-by, exact-no-zeros, exact-only, due-alike, files-alike, lines-say-alike}
 use Rattle.rulerows.specs.declared.rows.Row.{Row}
 use Rattle.rulerows.specs.RuleRows.{rowOf, rowLine, rowsRead, rowsDue, rowsIn}
 use Rattle.rulerows.specs.RowsSay.{RowWithin, RowsText}
@@ -22,19 +22,6 @@ use Rattle.rulerows.proofs.TextLaws.{text-length}
 
 -- ---- texts that are read alike
 
--- bytes follow the rows in both or in neither
-past-alike
-    : (ls : List (List ℕ)) (rest other : List ℕ) → length rest ≡ length other → rowsRead (lines ls rest) ≡ rowsRead (lines ls other)
-past-alike ls [] [] e = refl
-past-alike ls [] (b ∷ other) e = absurd (omega arith)
-past-alike ls (b ∷ rest) [] e = absurd (omega arith)
-past-alike ls (b ∷ rest) (d ∷ other) e = refl
-
--- lines read alike are the same rows
-rows-alike : {x y : Lines} → ReadAlike x y → rowsRead x ≡ rowsRead y
-rows-alike (same-lines {ls} {rest} {other} e) = past-alike ls rest other e
-rows-alike same-refusal = refl
-
 module _ (s a : ℕ) (f g : List ℕ) where
   -- texts of one length
   texts-alike
@@ -42,7 +29,7 @@ module _ (s a : ℕ) (f g : List ℕ) where
       → rowsIn s a f ≡ rowsIn s a g
   unfolding rowsIn
   texts-alike long read =
-      rows-alike read ∙ ap (λ (n : ℕ). rowsRead (linesOf (rowLine s a) (n / 32) 0 [] g)) long
+      alike-by rowsRead (λ ls b d rest other. refl) read ∙ ap (λ (n : ℕ). rowsRead (linesOf (rowLine s a) (n / 32) 0 [] g)) long
 
   -- texts alike
   pub read-alike : AlikeRows s a f g → rowsIn s a f ≡ rowsIn s a g
@@ -96,8 +83,8 @@ module _ (s a : ℕ) where
       }
 
   -- a row within its limits is a good line
-  row-fits : s ≤ 16 → a ≤ 16 → (r : Row) → RowWithin s a r → Fits (rowNumbers r)
-  row-fits hs ha r w =
+  numbers-fit : s ≤ 16 → a ≤ 16 → (r : Row) → RowWithin s a r → Fits (rowNumbers r)
+  numbers-fit hs ha r w =
       let last : List ℕ = r .next ∷ [] in
       let symbols : List ℕ = r .symbols .last ∷ last in
       let from-symbol : List ℕ = r .symbols .first ∷ symbols in
@@ -112,7 +99,7 @@ module _ (s a : ℕ) where
   rows-good hs ha i before [] within = good-none
   rows-good hs ha i before (r ∷ rs) within =
       let w = within 0 (omega arith) in
-      good-more refl (row-fits hs ha r w) (row-within s a i before (rowNumbers r) .1 w)
+      good-more refl (numbers-fit hs ha r w) (row-within s a i before (rowNumbers r) .1 w)
       (rows-good hs ha (suc i) (rowNumbers r) rs (λ k l. within (suc k) (omega arith)))
 
   -- the rows of these lines
@@ -140,23 +127,17 @@ module _ (s a : ℕ) where
 
   module _ (f : List ℕ) (rs : List Row) (t : RowsText s a f rs) where
     -- the lines as they are written
-    whole : writeLines 81 (t .lines) ++ [] ≡ writeRows rs
+    whole : writeLines 81 (t .lines) ≡ writeRows rs
     unfolding writeRows
-    whole = append-nil (writeLines 81 (t .lines)) ∙ ap (writeLines 81) (text-lines f rs t)
-
-    -- a line for each row
-    counts : replicate (length (t .lines)) (rowLine s a .count) ++ [] ≡ replicate (length rs) (rowLine s a .count)
-    counts =
-        append-nil (replicate (length (t .lines)) (rowLine s a .count))
-        ∙ ap (λ (n : ℕ). replicate n (rowLine s a .count)) (t .stand .count)
+    whole = ap (writeLines 81) (text-lines f rs t)
 
     -- no zeros
     pub without-zeros : NoZerosOver (replicate (length rs) 5) (writeRows rs)
-    without-zeros = rw (← counts, ← whole) (written-only (rowLine s a) [] [] (t .stand .good) tt)
+    without-zeros = rw (← whole) (exact-no-zeros (rowLine s a) f (t .lines) (t .stand))
 
     -- no other text has none
     pub only : NoZerosOver (replicate (length rs) 5) f → f ≡ writeRows rs
-    only none = stand-only (rowLine s a) (t .lines) [] f [] (t .stand .stand) (rw counts none) .0 ∙ whole
+    only none = exact-only (rowLine s a) f (t .lines) (t .stand) none ∙ whole
 
 -- ---- together
 
