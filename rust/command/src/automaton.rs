@@ -60,10 +60,8 @@ impl Automaton {
             |&most: &usize| parts(most).all(|(sides, rows)| table::has_room(sides, &rows, room));
         let mut sizes = (1..=symbols.len()).map(|parts| symbols.len().div_ceil(parts));
         let most = sizes.find(fits).unwrap_or(1);
-        let tables: Vec<_> = parts(most)
-            .map(|(sides, rows)| table::fitted(sides, &rows, room))
-            .collect();
-        tables.join("\n") + &self.words()
+        let parts: Vec<_> = parts(most).collect();
+        table::fitted_alike(&parts, room).join("\n") + &self.words()
     }
 
     /// How many symbols there are.

@@ -10,7 +10,7 @@ use std::io::{self, Read};
 const PLAN_FILE: usize = 4_096;
 /// The bytes of a volume file, a price file or rule rows that are read; the longest that are accepted have far
 /// fewer.
-const NUMBERED_FILE: usize = 65_536;
+pub const NUMBERED_FILE: usize = 65_536;
 
 /// A file that was read.
 pub struct Input {

@@ -29,8 +29,8 @@ const KINDS: [(&str, Kind); 3] = [
 /// For each symbol, node and state of a job or a rule its name, if it has one.
 #[derive(Default)]
 pub struct Names {
-    /// What has them.
-    owner: &'static str,
+    /// What has those of each kind.
+    owners: [&'static str; 3],
     /// The names of each kind.
     named: [Vec<Option<String>>; 3],
 }
@@ -54,21 +54,22 @@ impl Names {
     /// The names for a job in a file, or none: a line for each name.
     pub fn read(file: Option<&OsStr>, job: &Job) -> Result<Self, String> {
         let counts = [job.symbols as usize, job.nodes.len(), job.states()];
-        Names::read_for(file, "job", counts)
+        Names::read_for(file, ["the job"; 3], counts)
     }
 
     /// The same for a rule of so many states and symbols. Nodes of the job that the rule is for may be named too.
     pub fn of_rule(file: Option<&OsStr>, states: usize, symbols: usize) -> Result<Self, String> {
-        Names::read_for(file, "rule", [symbols, dapohiru::PLAN_LEN, states])
+        let owners = ["the rule", "a job", "the rule"];
+        Names::read_for(file, owners, [symbols, dapohiru::PLAN_LEN, states])
     }
 
     fn read_for(
         file: Option<&OsStr>,
-        owner: &'static str,
+        owners: [&'static str; 3],
         counts: [usize; 3],
     ) -> Result<Self, String> {
         let named = counts.map(|count| vec![None; count]);
-        let mut names = Names { owner, named };
+        let mut names = Names { owners, named };
         let Some(file) = file else {
             return Ok(names);
         };
@@ -94,12 +95,12 @@ impl Names {
 
     /// Gives a name to what has none yet.
     fn add(&mut self, kind: Kind, number: usize, name: String) -> Result<(), String> {
-        let (word, owner) = (KINDS[kind as usize].0, self.owner);
+        let (word, owner) = (KINDS[kind as usize].0, self.owners[kind as usize]);
         let names = &mut self.named[kind as usize];
         let last = names.len().saturating_sub(1);
         match names.get_mut(number) {
             None => Err(format!(
-                "the {word}s of the {owner} are 0 to {last}, and the line names {number}"
+                "the {word}s of {owner} are 0 to {last}, and the line names {number}"
             )),
             Some(Some(_)) => Err(format!("{word} {number} has a name already")),
             Some(free) => {
@@ -177,6 +178,22 @@ impl Names {
 
     /// The names as they stand in the file: for symbols, nodes and states a list.
     pub fn json(&self) -> Json {
+        let [symbols, nodes, states] = self.lists();
+        Json::Object(vec![
+            ("symbols", symbols),
+            ("nodes", nodes),
+            ("states", states),
+        ])
+    }
+
+    /// The same without nodes, which a rule has not.
+    pub fn json_of_rule(&self) -> Json {
+        let [symbols, _, states] = self.lists();
+        Json::Object(vec![("symbols", symbols), ("states", states)])
+    }
+
+    /// The names of each kind.
+    fn lists(&self) -> [Json; 3] {
         let named = |(number, name): (usize, &Option<String>)| {
             let name = Json::text(name.as_ref()?);
             Some(Json::Object(vec![
@@ -184,14 +201,9 @@ impl Names {
                 ("name", name),
             ]))
         };
-        let [symbols, nodes, states] = &self.named;
         let list =
             |names: &Vec<_>| Json::List(names.iter().enumerate().filter_map(named).collect());
-        Json::Object(vec![
-            ("symbols", list(symbols)),
-            ("nodes", list(nodes)),
-            ("states", list(states)),
-        ])
+        self.named.each_ref().map(list)
     }
 }
 

@@ -38,14 +38,7 @@ impl Told {
     pub fn json(&self) -> Json {
         let mut fields = vec![("number", Json::Number(self.refusal.0))];
         if let Some(fault) = &self.fault {
-            fields.push(("meaning", Json::text(meaning(fault.number))));
-            if let Some((line, first, last)) = fault.place {
-                let columns = [first, last].map(Json::number).to_vec();
-                fields.push(("line", Json::number(line)));
-                fields.push(("columns", Json::List(columns)));
-            }
-            fields.push(("found", Json::text(&fault.found)));
-            fields.push(("expected", Json::text(&fault.expected)));
+            fields.extend(fields_of(meaning(fault.number), fault));
         }
         fields.extend(self.hint.iter().map(|hint| ("has", Json::text(hint))));
         Json::Object(fields)
@@ -88,6 +81,21 @@ pub fn of_rows(rows: &Input, sizes: &Sizes, names: &Names, refusal: Refusal) -> 
     told_of(rows, refusal, rows::first_fault(&rows.bytes, sizes, names))
 }
 
+/// What is said of numbers beside rows that no call can be given, in a document and in words; they have no number of a
+/// refusal.
+pub fn before_the_call(command: &str, fault: Option<Fault>) -> (Json, String) {
+    let meaning = "a number given with the rows is outside its limits";
+    let fields = fault.as_ref().map(|fault| fields_of(meaning, fault));
+    let words = fault.as_ref().map(|fault| words(meaning, fault));
+    (
+        Json::Object(fields.unwrap_or_default()),
+        format!(
+            "{command}: refused before the call{}",
+            words.unwrap_or_default()
+        ),
+    )
+}
+
 /// The refusal of a file, with what is told of how it was written.
 fn told_of(file: &Input, refusal: Refusal, fault: Option<Fault>) -> Told {
     let told = told(&file.shown, refusal, fault);
@@ -102,6 +110,7 @@ fn told_of(file: &Input, refusal: Refusal, fault: Option<Fault>) -> Told {
 fn told(shown: &str, refusal: Refusal, fault: Option<Fault>) -> Told {
     let fault = fault.filter(|fault| fault.number == refusal.0);
     let fault = fault.map(Box::new);
+    let words = |fault: &Fault| words(meaning(fault.number), fault);
     let more = fault.as_deref().map(words).unwrap_or_default();
     Told {
         refusal,
@@ -111,14 +120,26 @@ fn told(shown: &str, refusal: Refusal, fault: Option<Fault>) -> Told {
     }
 }
 
-/// A fault in words, after its number.
-fn words(fault: &Fault) -> String {
+/// A fault with its meaning, as fields of a document.
+fn fields_of(meaning: &str, fault: &Fault) -> Vec<(&'static str, Json)> {
+    let mut fields = vec![("meaning", Json::text(meaning))];
+    if let Some((line, first, last)) = fault.place {
+        let columns = [first, last].map(Json::number).to_vec();
+        fields.push(("line", Json::number(line)));
+        fields.push(("columns", Json::List(columns)));
+    }
+    fields.push(("found", Json::text(&fault.found)));
+    fields.push(("expected", Json::text(&fault.expected)));
+    fields
+}
+
+/// A fault in words, with its meaning.
+fn words(meaning: &str, fault: &Fault) -> String {
     let place = match fault.place {
         Some((line, first, last)) if first == last => format!("line {line}, column {first}: "),
         Some((line, first, last)) => format!("line {line}, columns {first} to {last}: "),
         None => String::new(),
     };
-    let meaning = meaning(fault.number);
     let Fault {
         found, expected, ..
     } = fault;

@@ -1,5 +1,6 @@
 //! Rule rows, read a second time for their first fault and what is expected there.
 use crate::fault::{Due, Fault};
+use crate::input::NUMBERED_FILE;
 use crate::names::Names;
 use crate::sizes::Sizes;
 use dapohiru_second::reading;
@@ -28,64 +29,63 @@ struct Row {
 
 /// The first fault of rows with these numbers given, if they have one.
 pub fn first_fault(text: &[u8], sizes: &Sizes, names: &Names) -> Option<Fault> {
-    if text.len() > dapohiru::ROWS_LEN {
-        return Some(too_long(text, sizes));
-    }
     if let Some(fault) = sizes.fault() {
-        return Some(fault);
+        return Some(with_length(fault, text));
     }
-    match rows(text, sizes) {
-        Err(fault) => Some(fault),
-        Ok(rows) => named_twice(&rows, names).or_else(|| unnamed(&rows, sizes, names)),
+    let limits = sizes.within()?;
+    match rows(text, limits) {
+        Err(fault) => Some(with_length(fault, text)),
+        Ok(rows) => row_too_many(text)
+            .or_else(|| named_twice(&rows, names))
+            .or_else(|| unnamed(&rows, limits, names)),
     }
 }
 
-/// The fault of a text of more bytes than the rows may have: the first row too many, if all before it are rows.
-fn too_long(text: &[u8], sizes: &Sizes) -> Fault {
-    let (before, bytes) = text.split_at(dapohiru::ROWS_LEN);
-    let are_rows = sizes.fault().is_none() && rows(before, sizes).is_ok();
-    let (number, line) = (17, ROWS + 1);
+/// A fault, and that the text is too long besides, where it is.
+fn with_length(mut fault: Fault, text: &[u8]) -> Fault {
+    let (len, most) = (text.len(), dapohiru::ROWS_LEN);
+    if len > most {
+        // no more is read
+        let more = if len == NUMBERED_FILE { " or more" } else { "" };
+        fault.expected += &format!(
+            "; besides, the text has {len}{more} bytes, and at most {most} are accepted ({ROWS} rows of {ROW})"
+        );
+    }
+    fault
+}
+
+/// The fault of the first row after the most rows, if there is one.
+fn row_too_many(text: &[u8]) -> Option<Fault> {
     let end = Due {
-        number,
-        line,
-        bytes,
+        number: 17,
+        line: ROWS + 1,
+        bytes: text.get(dapohiru::ROWS_LEN..)?,
     };
-    match end.end_fault().filter(|_| are_rows) {
-        Some(fault) => Fault {
-            expected: format!("the end of the file, since there are at most {ROWS} rows"),
-            ..fault
-        },
-        None => Fault {
-            number,
-            place: None,
-            found: "a longer text".to_string(),
-            expected: format!(
-                "at most {ROWS} rows of {ROW} bytes, {} bytes in all",
-                dapohiru::ROWS_LEN
-            ),
-        },
-    }
+    Some(Fault {
+        expected: format!("the end of the file, since there are at most {ROWS} rows"),
+        ..end.end_fault()?
+    })
 }
 
-/// The rows of a text, or the first fault of a row; S and A are within their limits.
-fn rows(text: &[u8], sizes: &Sizes) -> Result<Vec<Row>, Fault> {
+/// The rows of a text, of a longer one the most rows, or the first fault of a row.
+fn rows(text: &[u8], limits: [usize; 2]) -> Result<Vec<Row>, Fault> {
     let mut due = Due {
         number: 17,
         line: 1,
         bytes: text,
     };
     let mut rows = Vec::new();
-    while !due.bytes.is_empty() {
-        rows.push(row(due, sizes)?);
+    while !due.bytes.is_empty() && rows.len() < ROWS {
+        rows.push(row(due, limits)?);
         due.line += 1;
         due.bytes = &due.bytes[ROW..];
     }
     Ok(rows)
 }
 
-/// The row that is due, or its fault.
-fn row(due: Due, sizes: &Sizes) -> Result<Row, Fault> {
-    let (state, symbol) = (sizes.states - 1, sizes.symbols - 1);
+/// The row that is due, or its fault, with S and A.
+fn row(due: Due, limits: [usize; 2]) -> Result<Row, Fault> {
+    let [state, symbol] = limits.map(|size| size as u64 - 1);
     let most = [state, state, symbol, symbol, state];
     let names: Vec<_> = FIELDS
         .iter()
@@ -139,8 +139,7 @@ fn first_shared(one: &RangeInclusive<usize>, other: &RangeInclusive<usize>) -> O
 }
 
 /// The fault of rows that leave out a pair.
-fn unnamed(rows: &[Row], sizes: &Sizes, names: &Names) -> Option<Fault> {
-    let [states, symbols] = sizes.within()?;
+fn unnamed(rows: &[Row], [states, symbols]: [usize; 2], names: &Names) -> Option<Fault> {
     let pairs = (0..states).flat_map(|state| (0..symbols).map(move |symbol| (state, symbol)));
     let is_left_out = |(state, symbol): &(usize, usize)| {
         let names = |row: &Row| row.states.contains(state) && row.symbols.contains(symbol);

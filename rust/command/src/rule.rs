@@ -4,7 +4,6 @@ use crate::automaton::Automaton;
 use crate::dot::{Drawer, Picture};
 use crate::json::{self, Json};
 use crate::names::Names;
-use crate::refusal::Told;
 use crate::sizes::Sizes;
 use crate::{diagram, input, output, refusal, terminal};
 use dapohiru::Rule;
@@ -111,16 +110,15 @@ fn run(given: &Given) -> Result<u8, String> {
         None => Names::default(),
     };
     let origin = ("rows", Json::name(name));
-    let Sizes {
-        states,
-        symbols,
-        finals,
-    } = sizes;
+    let Some([states, symbols, finals]) = sizes.passed() else {
+        let told = refusal::before_the_call(COMMAND.name, sizes.fault());
+        return Err(refused(&form, origin, told));
+    };
     match dapohiru::rows(&rows.bytes, states, symbols, finals) {
         Ok(rule) => deliver(given, &form, origin, &rule, &read),
         Err(refusal) => {
             let told = refusal::of_rows(&rows, &sizes, &read, refusal);
-            Err(refused(&form, origin, told))
+            Err(refused(&form, origin, (told.json(), told.text)))
         }
     }
 }
@@ -147,7 +145,11 @@ fn deliver(
         Form::Json => {
             let mut fields = vec![origin];
             fields.extend(automaton.json());
-            fields.extend(given.value("--names").map(|_| ("names", names.json())));
+            fields.extend(
+                given
+                    .value("--names")
+                    .map(|_| ("names", names.json_of_rule())),
+            );
             json::document(fields).into_bytes()
         }
         Form::Dot => diagram::drawn(&automaton, names).into_bytes(),
@@ -161,12 +163,12 @@ fn deliver(
 }
 
 /// Prints a refusal where the form has one, and gives what is said of it.
-fn refused(form: &Form, origin: (&'static str, Json), told: Told) -> String {
+fn refused(form: &Form, origin: (&'static str, Json), (refused, text): (Json, String)) -> String {
     match form {
         Form::Json => {
-            let document = json::document(vec![origin, ("refused", told.json())]);
-            output::refused(&document, told.text)
+            let document = json::document(vec![origin, ("refused", refused)]);
+            output::refused(&document, text)
         }
-        _ => told.text,
+        _ => text,
     }
 }

@@ -3,49 +3,67 @@ use crate::args::{Command, Given};
 use crate::fault::Fault;
 use crate::place::SIZES;
 use crate::shown;
-use dapohiru_second::job::members;
 use std::ffi::OsStr;
 
+/// A number as decimal digits write it.
+#[derive(PartialEq, Eq)]
+struct Number {
+    /// Its digits, without zeros before them.
+    digits: String,
+    /// What they write, where 64 bits hold it.
+    value: Option<u64>,
+}
+
 /// The numbers of a rule that are given beside its rows; what they may be the proved call says.
-#[derive(Clone, Copy)]
 pub struct Sizes {
-    pub states: u64,
-    pub symbols: u64,
-    /// The set of final states: bit q stands for state q.
-    pub finals: u64,
+    states: Number,
+    symbols: Number,
+    finals: Vec<Number>,
 }
 
 impl Sizes {
     /// The numbers that the options of a command say.
     pub fn of(given: &Given, command: &Command) -> Result<Self, String> {
+        let wrong = |option, why| format!("{}: {option} {why}", command.name);
         let size = |option, letter, (_, low, high)| {
             let Some(asked) = given.value(option) else {
                 return Err(command.wrong(format!("{option} {letter} is missing")));
             };
-            number(asked.as_encoded_bytes()).ok_or_else(|| {
-                let (name, asked) = (command.name, shown::name(asked));
-                format!("{name}: {option} is {asked}, and {letter} is a number, {low} to {high}")
+            Number::of(asked.as_encoded_bytes()).ok_or_else(|| {
+                let asked = shown::name(asked);
+                let why = format!("is `{asked}`, and {letter} is a number, {low} to {high}");
+                wrong(option, why)
             })
         };
-        let states = size("--states", "S", SIZES[0])?;
-        let symbols = size("--symbols", "A", SIZES[1])?;
-        let finals = finals(given.value("--finals"), states)
-            .map_err(|why| format!("{}: --finals {why}", command.name))?;
+        let finals = |option| {
+            let asked = given.value(option).map(finals).unwrap_or(Ok(Vec::new()));
+            asked.map_err(|why| wrong(option, why))
+        };
         Ok(Sizes {
-            states,
-            symbols,
-            finals,
+            states: size("--states", "S", SIZES[0])?,
+            symbols: size("--symbols", "A", SIZES[1])?,
+            finals: finals("--finals")?,
         })
+    }
+
+    /// S, A and the set of final states, in which bit q stands for state q, where a call can be given them.
+    pub fn passed(&self) -> Option<[u64; 3]> {
+        let bit = |state: &Number| 1u64.checked_shl(state.value?.try_into().ok()?);
+        let mut bits = self.finals.iter().map(bit);
+        let finals = bits.try_fold(0, |set, bit| Some(set | bit?))?;
+        Some([self.states.value?, self.symbols.value?, finals])
     }
 
     /// S and A, where both are within their limits.
     pub fn within(&self) -> Option<[usize; 2]> {
-        let sizes = [self.states, self.symbols];
-        let are_good = sizes
-            .iter()
-            .zip(SIZES)
-            .all(|(size, (_, low, high))| (low..=high).contains(size));
-        are_good.then(|| sizes.map(|size| size as usize))
+        let within = |size: &Number, (_, low, high)| {
+            let value = size.value.filter(|value| (low..=high).contains(value))?;
+            Some(value as usize)
+        };
+        Some([
+            within(&self.states, SIZES[0])?,
+            within(&self.symbols, SIZES[1])?,
+        ])
     }
 
     /// The first fault of these numbers, if they have one.
@@ -58,53 +76,51 @@ impl Sizes {
                 expected,
             })
         };
-        let sizes = [("--states", self.states), ("--symbols", self.symbols)];
+        let sizes = [("--states", &self.states), ("--symbols", &self.symbols)];
         for ((option, size), (name, low, high)) in sizes.into_iter().zip(SIZES) {
-            if !(low..=high).contains(&size) {
-                return fault(
-                    format!("{option} {size}"),
-                    format!("{name}, {low} to {high}"),
-                );
+            if size.value.is_none_or(|size| !(low..=high).contains(&size)) {
+                let found = format!("{option} {}", size.digits);
+                return fault(found, format!("{name}, {low} to {high}"));
             }
         }
-        let state = members(self.finals).find(|&state| state as u64 >= self.states)?;
-        let last = self.states - 1;
+        let last = self.states.value? - 1;
+        let is_wrong = |state: &&Number| state.value.is_none_or(|state| state > last);
+        let state = self.finals.iter().find(is_wrong)?;
         fault(
-            format!("--finals with {state}"),
+            format!("--finals with {}", state.digits),
             format!("final states below S, 0 to {last}"),
         )
     }
 }
 
-/// The number that decimal digits write.
-fn number(digits: &[u8]) -> Option<u64> {
-    let digits = str::from_utf8(digits).ok()?;
-    let are_digits = digits.bytes().all(|byte| byte.is_ascii_digit());
-    are_digits.then(|| digits.parse().ok())?
+impl Number {
+    /// The number that decimal digits write, if they are such.
+    fn of(digits: &[u8]) -> Option<Self> {
+        let all = str::from_utf8(digits).ok()?;
+        let (zeros, last) = all.split_at_checked(all.len().checked_sub(1)?)?;
+        if !all.bytes().all(|byte| byte.is_ascii_digit()) {
+            return None;
+        }
+        let digits = zeros.trim_start_matches('0').to_string() + last;
+        let value = digits.parse().ok();
+        Some(Number { digits, value })
+    }
 }
 
-/// The set of the final states in a list, or what is wrong with it; no list is no state.
-fn finals(asked: Option<&OsStr>, states: u64) -> Result<u64, String> {
-    let Some(asked) = asked else { return Ok(0) };
-    let mut set = 0;
+/// The final states in a list, or what is wrong with it.
+fn finals(asked: &OsStr) -> Result<Vec<Number>, String> {
+    let mut states = Vec::new();
     for digits in asked.as_encoded_bytes().split(|&byte| byte == b',') {
-        match number(digits) {
-            Some(state @ 0..=63) if set >> state & 1 == 1 => {
-                return Err(format!("names state {state} twice"))
-            }
-            Some(state @ 0..=63) => set |= 1 << state,
-            Some(state) => {
-                return Err(format!(
-                    "names {state}, and final states are below S, which is {states}"
-                ))
-            }
-            None => {
-                return Err(format!(
-                    "is `{}`, and final states are numbers with a comma between them, such as 0,2",
-                    shown::name(asked)
-                ))
-            }
+        let Some(state) = Number::of(digits) else {
+            return Err(format!(
+                "is `{}`, and final states are numbers with a comma between them, such as 0,2",
+                shown::name(asked)
+            ));
+        };
+        if states.contains(&state) {
+            return Err(format!("names state {} twice", state.digits));
         }
+        states.push(state);
     }
-    Ok(set)
+    Ok(states)
 }

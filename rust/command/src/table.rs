@@ -14,6 +14,8 @@ pub enum Side {
 
 /// The columns that a name needs.
 pub const LEAST: usize = 8;
+/// The spaces between columns, where there is room.
+const GAP: usize = 2;
 /// What stands for the middle of a cell that is too long.
 const CUT: &str = "..";
 
@@ -31,7 +33,27 @@ pub fn fitted(
     room: Option<usize>,
 ) -> String {
     let sides = sides.as_ref();
-    let (widths, gap) = shape(sides, rows, room).unwrap_or_else(|narrowest| narrowest);
+    let shape = shape(sides, rows, room, GAP).unwrap_or_else(|narrowest| narrowest);
+    laid_out(sides, rows, &shape)
+}
+
+/// Several tables, each fitted, with the same spaces between columns.
+pub fn fitted_alike(tables: &[(Vec<Side>, Vec<Vec<String>>)], room: Option<usize>) -> Vec<String> {
+    let shaped = |gap: usize| {
+        let shape = move |(sides, rows): &(Vec<Side>, Vec<Vec<String>>)| {
+            shape(sides, rows, room, gap).unwrap_or_else(|narrowest| narrowest)
+        };
+        tables.iter().map(shape)
+    };
+    let gap = shaped(GAP).map(|(_, gap)| gap).min().unwrap_or(GAP);
+    let tables = tables.iter().zip(shaped(gap));
+    tables
+        .map(|((sides, rows), shape)| laid_out(sides, rows, &shape))
+        .collect()
+}
+
+/// The rows in a shape.
+fn laid_out(sides: &[Side], rows: &[impl AsRef<[String]>], (widths, gap): &Shape) -> String {
     let columns: Vec<_> = (0..sides.len())
         .map(|column| {
             let cells = rows.iter().map(|row| row.as_ref()[column].as_str());
@@ -39,11 +61,11 @@ pub fn fitted(
         })
         .collect();
     let line = |row: usize| {
-        let cells = columns.iter().zip(&widths).zip(sides);
+        let cells = columns.iter().zip(widths).zip(sides);
         let cells: Vec<_> = cells
             .map(|((cells, &width), &side)| padded(&cells[row], width, side))
             .collect();
-        cells.join(&" ".repeat(gap)).trim_end().to_string() + "\n"
+        cells.join(&" ".repeat(*gap)).trim_end().to_string() + "\n"
     };
     (0..rows.len()).map(line).collect()
 }
@@ -54,17 +76,19 @@ pub fn has_room(
     rows: &[impl AsRef<[String]>],
     room: Option<usize>,
 ) -> bool {
-    shape(sides.as_ref(), rows, room).is_ok()
+    shape(sides.as_ref(), rows, room, GAP).is_ok()
 }
 
 /// The widths of the columns, and the spaces between them.
 type Shape = (Vec<usize>, usize);
 
-/// The widest shape of the rows that has room, or the narrowest where none has.
+/// The widest shape of the rows that has room, with so many spaces between columns at most, or the narrowest where
+/// none has.
 fn shape(
     sides: &[Side],
     rows: &[impl AsRef<[String]>],
     room: Option<usize>,
+    widest_gap: usize,
 ) -> Result<Shape, Shape> {
     let width = |column: usize| {
         let cells = rows.iter().map(|row| shown::width(&row.as_ref()[column]));
@@ -83,8 +107,8 @@ fn shape(
         room.is_none_or(|room| needed <= room)
     };
     let widest = whole.iter().copied().max().unwrap_or(0).max(LEAST);
-    let mut shapes = [2, 1]
-        .into_iter()
+    let mut shapes = (1..=widest_gap)
+        .rev()
         .flat_map(|gap| (LEAST..=widest).rev().map(move |most| (most, gap)));
     match shapes.find(fits) {
         Some((most, gap)) => Ok((widths(most), gap)),

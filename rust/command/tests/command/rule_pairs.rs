@@ -73,6 +73,11 @@ fn pairs_without_a_row_are_told() {
     );
 }
 
+/// What is added of a text of so many bytes.
+fn besides(len: usize) -> String {
+    format!("; besides, the text has {len} bytes, and at most 8192 are accepted (256 rows of 32)")
+}
+
 #[test]
 fn more_than_256_rows_are_told() {
     // with S and A of 16 a row for each pair is accepted
@@ -85,21 +90,55 @@ fn more_than_256_rows_are_told() {
     let place = "line 257, column 1: found `Q`";
     let expected = "the end of the file, since there are at most 256 rows";
     assert_eq!(done, told(REFUSED_17, place, expected));
-    // of any other text its length alone is told
-    let expected = "at most 256 rows of 32 bytes, 8192 bytes in all";
-    let longer = told(REFUSED_17, "found a longer text", expected);
-    for text in [" ".repeat(8_193), PAIR.repeat(2_000), "Q\n".repeat(5_000)] {
-        assert_eq!(pair("-", &[], &text), longer);
+    // a wrong row before it comes first, with the length
+    let form = "Q and 5 fields of six columns, 31 columns in all";
+    let end = format!("the end of the line (byte 10) after {form}; this line has 32");
+    let cut = rows.clone() + &rows[..40];
+    let last = rows[..255 * 32].to_string() + &rows[..31] + &" ".repeat(2_000);
+    let spaced = rows[..249 * 32].replace('\n', " \n");
+    for (text, place, expected) in [
+        (
+            " ".repeat(8_193),
+            "line 1, column 1: found ` `",
+            "the letter Q",
+        ),
+        (
+            PAIR.repeat(200),
+            "line 1, column 1: found `J`",
+            "the letter Q",
+        ),
+        (spaced, "line 1, column 32: found ` `", &end),
+        (
+            last,
+            "line 256, column 32: found ` `",
+            &end.replace("this line has 32", "this line has more than 1000"),
+        ),
+    ] {
+        let done = run(&words, &text);
+        let expected = format!("{expected}{}", besides(text.len()));
+        assert_eq!(done, told(REFUSED_17, place, &expected));
     }
+    // rows that meet and pairs without a row do not
+    for text in [cut, rows[..32].repeat(300), rows[..32].repeat(257)] {
+        let done = run(&words, &text);
+        assert_eq!(done, told(REFUSED_17, place, expected));
+    }
+    // nor does a row too many where a number is wrong
     let words = [&["rule", "-"][..], &["--states=17", SIZES[1], SIZES[2]]].concat();
-    assert_eq!(run(&words, &(rows.clone() + &rows)), longer);
+    let expected = format!("S, the number of states, 1 to 16{}", besides(16_384));
+    let done = run(&words, &(rows.clone() + &rows));
+    assert_eq!(done, told(REFUSED_17, "found --states 17", &expected));
     let windows = rows.replace('\n', "\r\n");
     let (_, _, wrong) = pair("-", &[], &windows);
-    assert_eq!(wrong, longer.2.trim_end().to_string() + WINDOWS + "\n");
+    let ends = format!("{end}{}{WINDOWS}\n", besides(8_448));
+    assert!(wrong.ends_with(&ends), "{wrong}");
     // an endless file
     let (status, _, wrong) = pair("/dev/zero", &[], "");
     assert_eq!(status, 2);
-    assert_eq!(wrong, longer.2.replace("standard input", "/dev/zero"));
+    let expected = format!("the letter Q{}", besides(65_536)).replace("65536", "65536 or more");
+    let place = "line 1, column 1: found `\\0`";
+    let longer = told(REFUSED_17, place, &expected).2;
+    assert_eq!(wrong, longer.replace("standard input", "/dev/zero"));
 }
 
 #[test]

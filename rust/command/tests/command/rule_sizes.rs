@@ -1,4 +1,5 @@
-//! S, A and the final states that `rule` is given: outside their limits, and no numbers at all.
+//! S, A and the final states that `rule` is given: outside their limits, too large for a call, and no numbers at all.
+use crate::json::is_document;
 use crate::program::{example, run};
 use crate::rule::{ROWS, SIZES};
 use crate::rule_faults::{told, REFUSED_17};
@@ -48,7 +49,7 @@ fn sizes_outside_their_limits_are_told_with_them() {
         ),
         (
             [SIZES[0], SIZES[1], "--finals=63,1,5"],
-            "--finals with 5",
+            "--finals with 63",
             "final states below S, 0 to 2",
         ),
     ] {
@@ -69,27 +70,27 @@ fn sizes_that_are_no_numbers_are_told_as_words() {
     for (words, why) in [
         (
             ["--states=x", SIZES[1], SIZES[2]],
-            "--states is x, and S is a number, 1 to 16".to_string(),
+            "--states is `x`, and S is a number, 1 to 16".to_string(),
         ),
         (
             ["--states=-1", SIZES[1], SIZES[2]],
-            "--states is -1, and S is a number, 1 to 16".to_string(),
+            "--states is `-1`, and S is a number, 1 to 16".to_string(),
         ),
         (
             ["--states=+3", SIZES[1], SIZES[2]],
-            "--states is +3, and S is a number, 1 to 16".to_string(),
+            "--states is `+3`, and S is a number, 1 to 16".to_string(),
         ),
         (
-            ["--states=18446744073709551616", SIZES[1], SIZES[2]],
-            "--states is 18446744073709551616, and S is a number, 1 to 16".to_string(),
+            ["--states= 3", SIZES[1], SIZES[2]],
+            "--states is ` 3`, and S is a number, 1 to 16".to_string(),
         ),
         (
             [SIZES[0], "--symbols=3 ", SIZES[2]],
-            "--symbols is 3 , and A is a number, 1 to 16".to_string(),
+            "--symbols is `3 `, and A is a number, 1 to 16".to_string(),
         ),
         (
             [SIZES[0], "--symbols=\x1b", SIZES[2]],
-            "--symbols is \\u{1b}, and A is a number, 1 to 16".to_string(),
+            "--symbols is `\\u{1b}`, and A is a number, 1 to 16".to_string(),
         ),
         (
             [SIZES[0], SIZES[1], "--finals=a"],
@@ -116,15 +117,74 @@ fn sizes_that_are_no_numbers_are_told_as_words() {
             "--finals names state 1 twice".to_string(),
         ),
         (
-            [SIZES[0], SIZES[1], "--finals=2,64"],
-            "--finals names 64, and final states are below S, which is 3".to_string(),
+            [SIZES[0], SIZES[1], "--finals=2,02"],
+            "--finals names state 2 twice".to_string(),
         ),
         (
-            [SIZES[0], SIZES[1], "--finals=300"],
-            "--finals names 300, and final states are below S, which is 3".to_string(),
+            [SIZES[0], SIZES[1], "--finals=64,64"],
+            "--finals names state 64 twice".to_string(),
         ),
     ] {
-        let done = run(&[&["rule", "-"][..], &words].concat(), ROWS);
-        assert_eq!(done, (2, String::new(), format!("dapohiru: rule: {why}\n")));
+        for form in [&[][..], &["--json"]] {
+            let done = run(&[&["rule", "-"][..], &words, form].concat(), ROWS);
+            assert_eq!(done, (2, String::new(), format!("dapohiru: rule: {why}\n")));
+        }
+    }
+}
+
+#[test]
+fn numbers_that_no_call_can_be_given_are_told_with_their_limits() {
+    let states = "S, the number of states, 1 to 16";
+    let finals = "final states below S, 0 to 2";
+    for (words, found, expected) in [
+        (
+            ["--states=18446744073709551616", SIZES[1], SIZES[2]],
+            "--states 18446744073709551616",
+            states,
+        ),
+        (
+            ["--states=099999999999999999999", "--symbols=0", SIZES[2]],
+            "--states 99999999999999999999",
+            states,
+        ),
+        (
+            [SIZES[0], "--symbols=18446744073709551619", SIZES[2]],
+            "--symbols 18446744073709551619",
+            "A, the number of symbols, 1 to 16",
+        ),
+        (
+            [SIZES[0], SIZES[1], "--finals=2,64"],
+            "--finals with 64",
+            finals,
+        ),
+        (
+            [SIZES[0], SIZES[1], "--finals=4294967298"],
+            "--finals with 4294967298",
+            finals,
+        ),
+        (
+            [SIZES[0], SIZES[1], "--finals=18446744073709551616"],
+            "--finals with 18446744073709551616",
+            finals,
+        ),
+        // another number is wrong before it
+        (
+            ["--states=300", SIZES[1], "--finals=299"],
+            "--states 300",
+            states,
+        ),
+    ] {
+        let words = [&["rule", "-"][..], &words].concat();
+        let meaning = "a number given with the rows is outside its limits";
+        let wrong = format!(
+            "dapohiru: rule: refused before the call: {meaning}\n  found {found}\n  expected: {expected}\n"
+        );
+        assert_eq!(run(&words, ROWS), (2, String::new(), wrong.clone()));
+        let document = format!(
+            "{{\"rows\":\"-\",\"refused\":{{\"meaning\":\"{meaning}\",\"found\":\"{found}\",\"expected\":\"{expected}\"}}}}\n"
+        );
+        is_document(&document);
+        let done = run(&[&words[..], &["--json"]].concat(), ROWS);
+        assert_eq!(done, (2, document, wrong));
     }
 }

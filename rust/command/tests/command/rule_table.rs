@@ -40,13 +40,11 @@ fn document_has_the_sizes_the_final_states_and_the_next_states() {
     let names = example("pair-full.names");
     let (_, printed, _) = pair("-", &["--json", "--names", &names], ROWS);
     is_document(&printed);
-    let begins = document.replace(
-        "}\n",
-        ",\"names\":{\"symbols\":[{\"number\":0,\"name\":\"seal\"},",
-    );
-    assert!(printed.starts_with(&begins), "{printed}");
-    let ends = "\"states\":[{\"number\":0,\"name\":\"open\"},{\"number\":1,\"name\":\"sealed\"},{\"number\":2,\"name\":\"touched\"}]}}\n";
-    assert!(printed.ends_with(ends), "{printed}");
+    // it names nodes too
+    let names = "{\"symbols\":[{\"number\":0,\"name\":\"seal\"},{\"number\":1,\"name\":\"reopen\"},{\"number\":2,\"name\":\"write\"}],\
+                 \"states\":[{\"number\":0,\"name\":\"open\"},{\"number\":1,\"name\":\"sealed\"},{\"number\":2,\"name\":\"touched\"}]}";
+    let named = document.replace("}\n", &format!(",\"names\":{names}}}\n"));
+    assert_eq!(printed, named);
 }
 
 #[test]
@@ -84,7 +82,7 @@ fn wrong_names_are_refused() {
         ),
         (
             "node 512 x\n",
-            "the nodes of the rule are 0 to 511, and the line names 512".to_string(),
+            "the nodes of a job are 0 to 511, and the line names 512".to_string(),
         ),
         (
             "state 0 \x1b[2J\n",
@@ -144,6 +142,19 @@ fn table_comes_in_parts_on_a_narrow_terminal() {
     let (_, printed, _) = narrow(40, &[&words[..], &["-o", &to]].concat());
     assert_eq!(printed, "");
     assert_eq!(fs::read_to_string(&to).unwrap(), whole);
+    // all parts have the same spaces between columns
+    let (_, printed, _) = narrow(40, &words[..6]);
+    let headings: Vec<_> = printed
+        .lines()
+        .filter(|line| line.starts_with("state"))
+        .collect();
+    assert_eq!(
+        headings,
+        [
+            "state final 0 1 2 3 4 5 6 7",
+            "state final 8 9 10 11 12 13 14 15",
+        ]
+    );
     // without names 16 symbols have room
     let (_, printed, _) = narrow(80, &words[..6]);
     assert_eq!(printed.lines().count(), 20, "{printed}");
