@@ -1,6 +1,6 @@
 //! Buffers between two pages that fault: who reads or writes a byte beside one ends the process with
 //! SIGSEGV, and so does who writes to one that is only lent to be read. The calls of the tests are made on such
-//! copies too, flush with their ends and with their starts.
+//! copies too, flush with their ends and with their starts. And buffers whose lengths no machine holds.
 use std::array;
 use std::cell::RefCell;
 use std::ffi::{c_int, c_void};
@@ -18,6 +18,7 @@ mod ffi {
     pub const MAP_SHARED: c_int = 0x01;
     pub const MAP_FIXED: c_int = 0x10;
     pub const MAP_PRIVATE_ANONYMOUS: c_int = 0x02 | 0x20;
+    pub const MAP_NORESERVE: c_int = 0x4000;
 
     extern "C" {
         pub fn mmap(
@@ -183,6 +184,65 @@ impl Drop for ReadRoom {
         unsafe {
             ffi::munmap(self.filled.cast(), self.guarded.bytes.len());
         }
+    }
+}
+
+/// Memory that is mapped and takes no room where it is not touched, of any length that there are addresses for.
+struct Unreserved(NonNull<[u8]>);
+
+impl Unreserved {
+    /// So many bytes, all of them zero; nothing where they cannot be mapped.
+    fn new(len: usize) -> Option<Self> {
+        let flags = ffi::MAP_PRIVATE_ANONYMOUS | ffi::MAP_NORESERVE;
+        // SAFETY: a new mapping.
+        let first = unsafe { ffi::mmap(ptr::null_mut(), len, ffi::PROT_READ_WRITE, flags, -1, 0) };
+        let bytes = ptr::slice_from_raw_parts_mut(first.cast(), len);
+        let is_mapped = first.addr() != usize::MAX;
+        is_mapped.then(|| Unreserved(NonNull::new(bytes).expect("a mapping is not at 0")))
+    }
+
+    fn bytes(&mut self) -> &mut [u8] {
+        // SAFETY: the bytes are of this mapping, which lives as long as it is borrowed.
+        unsafe { self.0.as_mut() }
+    }
+}
+
+impl Drop for Unreserved {
+    fn drop(&mut self) {
+        // SAFETY: the mapping that `new` made, which nothing borrows any more.
+        unsafe {
+            ffi::munmap(self.0.as_ptr().cast(), self.0.len());
+        }
+    }
+}
+
+/// The bits of a length that are tried: fewer than those of an address, for several threads at once.
+const MOST_BITS: u32 = 44;
+/// A length of so many bits is mapped on every machine.
+const LEAST_BITS: u32 = 24;
+
+/// Makes a call on buffers that begin with these bytes, are zero past them, and are longer than them by 2^b bytes for
+/// each b from `first` on. A call that looks at the length alone touches none of it. Panics if one writes to a buffer's
+/// first or last bytes. Tells the lengths that cannot be mapped; those up to 2^24 can.
+pub fn lend_longer(bytes: &[u8], first: u32, mut call: impl FnMut(&mut [u8])) {
+    const LOOKED_AT: usize = 4_096;
+    for bits in first..=MOST_BITS {
+        let len = (1 << bits) + bytes.len();
+        let Some(mut longer) = Unreserved::new(len) else {
+            println!("{len} bytes are not tried: they cannot be mapped");
+            assert!(bits > LEAST_BITS, "{len} bytes cannot be mapped");
+            continue;
+        };
+        let longer = longer.bytes();
+        longer[..bytes.len()].copy_from_slice(bytes);
+        call(longer);
+        let (start, past) = longer.split_at(bytes.len());
+        assert_eq!(start, bytes, "of {len} bytes the first");
+        let ends = [
+            &past[..LOOKED_AT.min(past.len())],
+            &past[past.len().saturating_sub(LOOKED_AT)..],
+        ];
+        assert_eq!(ends.concat().iter().max(), Some(&0), "of {len} bytes");
     }
 }
 

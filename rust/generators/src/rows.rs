@@ -109,30 +109,41 @@ pub fn of_rule(job: &Job) -> (Given, Vec<Row>) {
     (given, rows)
 }
 
-/// Has some pairs named twice: those of a row, or some of them, by a row that stands anywhere or right beside it, with
-/// the same next state or with another; where there are 256 rows, in the place of another. Asks for a row.
+/// Has some pairs named twice or more: those of a row, some of them, or the last pair alone, by rows that stand anywhere
+/// or right beside it, with the same next state or with another; where there are 256 rows, in the place of another. Asks
+/// for a row.
 pub fn name_twice(random: &mut Random, given: Given, rows: &mut Vec<Row>) {
-    let place = random.place(rows.len());
+    let last = [given.states - 1, given.symbols - 1];
+    let names_last = |row: &Row| [row.states[1], row.symbols[1]] == last;
+    let of_last = rows.iter().position(names_last);
+    let of_last = of_last.filter(|_| random.once_in(3));
+    let place = of_last.unwrap_or_else(|| random.place(rows.len()));
     let mut again = rows[place];
     let mut part = |[first, last]: [u64; 2]| {
         let low = random.between(first, last);
         [low, random.between(low, last)]
     };
     let (states, symbols) = (part(again.states), part(again.symbols));
-    if random.once_in(2) {
+    if of_last.is_some() {
+        (again.states, again.symbols) = ([last[0]; 2], [last[1]; 2]);
+    } else if random.once_in(2) {
         (again.states, again.symbols) = (states, symbols);
     }
     if random.once_in(2) {
         again.next = random.below(given.states);
     }
-    if rows.len() == LONGEST / ROW {
+    let most = LONGEST / ROW;
+    if rows.len() == most {
         let other = (place + 1 + random.place(rows.len() - 1)) % rows.len();
         rows[other] = again;
         return;
     }
-    let beside = place + random.place(2);
-    let anywhere = random.place(rows.len() + 1);
-    rows.insert(random.pick(&[beside, anywhere]), again);
+    let copies = random.pick(&[1, 1, 1, 2, 2, 3]);
+    for _ in 0..copies.min(most - rows.len()) {
+        let beside = place + random.place(2);
+        let anywhere = random.place(rows.len() + 1);
+        rows.insert(random.pick(&[beside, anywhere]), again);
+    }
 }
 
 /// Has some pairs named by no row: a row goes, or ends before its last state or symbol. At least a row is left, where
@@ -280,4 +291,28 @@ pub fn damaged(random: &mut Random, rows: &[Row]) -> Vec<u8> {
         _ => damage(random, &mut damaged),
     }
     damaged
+}
+
+/// A text like the one of these rows, with any zeros and one byte that could be taken for the right one: in the place of
+/// a letter, of an end byte, of a number's last digit or of what is before it, or past the end.
+pub fn misread(random: &mut Random, rows: &[Row]) -> Vec<u8> {
+    let mut misread = filled(random, text(rows));
+    let start = ROW * random.place(rows.len());
+    let digit = start + 6 * (1 + random.place(5));
+    let (place, taken): (usize, &[u8]) = match random.below(6) {
+        0 => (start, b"qRPO\0"),
+        1 => (start + ROW - 1, b"\r\x0b\x0c\x1a\x85\0 "),
+        2 | 3 => (digit, b"/:;<=>?ABCDEFabcdefO "),
+        4 => (digit - 1, b"\t--+_"),
+        _ => {
+            misread.push(random.pick(b"\n\x0c\x1a\0 Q"));
+            return misread;
+        }
+    };
+    misread[place] = match random.below(4) {
+        0 => misread[place] ^ 0x80,
+        1 => random.below(256) as u8,
+        _ => random.pick(taken),
+    };
+    misread
 }

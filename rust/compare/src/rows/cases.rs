@@ -99,7 +99,8 @@ impl Case {
     }
 }
 
-/// The calls of some rows: as they are, with each fault and with several, damaged, and without a row.
+/// The calls of some rows: as they are, damaged, with a byte that could be taken for another, with each fault and with
+/// several, and without a row.
 pub fn cases(random: &mut Random) -> Vec<Case> {
     let (given, sound) = match random.below(16) {
         0 => rows::most_rows(random),
@@ -112,6 +113,9 @@ pub fn cases(random: &mut Random) -> Vec<Case> {
         Case::of(given, &sound).with_zeros(random),
         Case::of_text(given, rows::damaged(random, &sound)),
     ];
+    for _ in 0..4 {
+        cases.push(Case::of_text(given, rows::misread(random, &sound)));
+    }
     for faults in [&[13][..], &[17], &[17], &[18], &[19]] {
         cases.push(Case::with_faults(random, given, &sound, faults));
     }

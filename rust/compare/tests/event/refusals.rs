@@ -1,6 +1,8 @@
 //! Refusals 13 to 15, their order, and what is no fault.
 use crate::steps::{answer, pair};
 use dapohiru::{Refusal, Report};
+use dapohiru_compare::guarded::lend_longer;
+use dapohiru_compare::library::CALLS;
 use dapohiru_compare::wrapper::event;
 use dapohiru_generators::events::Call;
 use dapohiru_generators::random::Random;
@@ -54,6 +56,23 @@ fn refusals_go_by_rising_number_across_wrong_lengths() {
             }
         }
     }
+}
+
+#[test]
+fn rule_and_record_of_the_right_lengths_in_any_low_bits_of_their_own_are_13_and_15() {
+    let good = pair();
+    let event = |table: &[u8], record: &mut [u8]| {
+        let (states, symbols, finals) = (good.states, good.symbols, good.finals);
+        (CALLS.event)(table, states, symbols, finals, 0, record)
+    };
+    lend_longer(&good.table, 8, |table| {
+        let mut record = [0; 16];
+        let number = event(table, &mut record);
+        assert_eq!((number, record), (13, [0; 16]), "{} bytes", table.len());
+    });
+    lend_longer(&[0; 16], 4, |record| {
+        assert_eq!(event(&good.table, record), 15, "{} bytes", record.len());
+    });
 }
 
 #[test]

@@ -1,14 +1,16 @@
 //! Texts with damage.
 use crate::agreement::{Calls, ALL};
 use dapohiru_compare::damage;
-use dapohiru_compare::rows::Case;
+use dapohiru_compare::library::CALLS;
+use dapohiru_compare::memory::Counts;
+use dapohiru_compare::rows::{refused, Case, Memory};
 use dapohiru_generators::random::Random;
 use dapohiru_generators::rows::{self, of_rule};
 use dapohiru_generators::samples::pair;
 use dapohiru_generators::sized::Sizes;
 use dapohiru_generators::zeros::{filled, zero_filled};
 use dapohiru_second::job::spell;
-use dapohiru_second::rows::{lines, Given};
+use dapohiru_second::rows::{lines, text, Given, Row};
 
 #[test]
 fn damaged_texts_are_refused_or_make_the_rule_that_they_spell() {
@@ -61,6 +63,46 @@ fn every_damage_of_the_rows_of_pair_agrees() {
     }
     calls.counts.print("the rows of PAIR, damaged");
     calls.counts.came([None, Some(17), Some(18), Some(19)]);
+}
+
+#[test]
+fn every_byte_replaced_by_every_other_agrees() {
+    let every: Vec<u8> = (0..=255).collect();
+    let row = |states: [u64; 2], symbols: [u64; 2], next: u64| Row {
+        states,
+        symbols,
+        next,
+    };
+    let (low, high, all) = ([0, 7], [8, 15], [0, 15]);
+    // where a byte is read as one more digit, up to 15, its number is within its limits
+    let sixteen = Given {
+        states: 16,
+        symbols: 16,
+        finals: 1 << 15,
+    };
+    let four = vec![
+        row(low, low, 0),
+        row(low, high, 7),
+        row(high, low, 10),
+        row(high, high, 15),
+    ];
+    let mut memory = Memory::new(CALLS);
+    let mut counts = Counts::default();
+    for (given, rows) in [
+        of_rule(&pair()),
+        (sixteen, vec![row(all, all, 9)]),
+        (sixteen, four),
+    ] {
+        let spaced = text(&rows);
+        for whole in [zero_filled(spaced.clone()), spaced] {
+            for text in damage::bytes_replaced(&whole, &every) {
+                let compared = Case::of_text(given, text).compare(&mut memory, None);
+                counts.agree("a byte", compared, |seen| refused(seen.number));
+            }
+        }
+    }
+    counts.print("every byte replaced by every other");
+    counts.came([None, Some(17), Some(18), Some(19)]);
 }
 
 #[test]

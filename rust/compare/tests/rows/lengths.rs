@@ -1,12 +1,14 @@
 //! Rule buffers and texts of all lengths around the limits, and of none.
-use dapohiru_compare::library::{Library, GUARDED};
+use dapohiru::Refusal;
+use dapohiru_compare::guarded::lend_longer;
+use dapohiru_compare::library::{Library, CALLS, GUARDED};
 use dapohiru_compare::rows::{Case, Memory};
 use dapohiru_compare::rulebuffer::LENGTHS;
 use dapohiru_compare::wrapper::WRAPPER;
 use dapohiru_generators::random::Random;
 use dapohiru_generators::rows::{most_rows, of_rule};
 use dapohiru_generators::samples::{in_loop, pair, sixteen};
-use dapohiru_second::rows::{text, LONGEST, ROW};
+use dapohiru_second::rows::{text, Given, LONGEST, ROW};
 use dapohiru_second::rulebuffer::RULE;
 
 const LIBRARIES: [Library; 2] = [GUARDED, WRAPPER];
@@ -45,6 +47,36 @@ fn rule_buffer_of_256_bytes_in_the_lowest_24_bits_of_its_length_is_13_and_left()
         );
         assert_eq!(number, 13);
         assert!(rule.iter().all(|&byte| byte == 99));
+    }
+}
+
+#[test]
+fn rule_buffer_of_256_bytes_in_any_low_bits_of_its_length_is_13_and_left() {
+    let (given, rows) = of_rule(&pair());
+    let text = text(&rows);
+    lend_longer(&[99; RULE], 8, |rule| {
+        let number = (CALLS.rows)(&text, given.states, given.symbols, given.finals, rule);
+        assert_eq!(number, 13, "{} bytes", rule.len());
+    });
+}
+
+#[test]
+fn text_of_a_sound_length_in_any_low_bits_of_its_own_is_17() {
+    let (given, rows) = of_rule(&pair());
+    let most = most_rows(&mut Random::of_this_run());
+    for (given, rows) in [(given, rows), (given, vec![]), most] {
+        let Given {
+            states,
+            symbols,
+            finals,
+        } = given;
+        lend_longer(&text(&rows), 13, |text| {
+            let mut rule = [99; RULE];
+            let number = (CALLS.rows)(text, states, symbols, finals, &mut rule);
+            assert_eq!((number, rule), (17, [99; RULE]), "{} bytes", text.len());
+            let made = dapohiru::rows(text, states, symbols, finals);
+            assert_eq!(made, Err(Refusal(17)), "{} bytes", text.len());
+        });
     }
 }
 

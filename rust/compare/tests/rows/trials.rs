@@ -179,6 +179,58 @@ fn two_rows_that_meet_in_one_pair_are_18_though_they_agree() {
 }
 
 #[test]
+fn row_that_stands_up_to_256_times_is_18() {
+    let mut calls = Calls::new();
+    for (states, symbols) in [(1, 1), (1, 2), (2, 1), (2, 2), (11, 11), (12, 11), (16, 16)] {
+        let of_state = |state: u64| row([state; 2], [0, symbols - 1], state);
+        let by_states: Vec<_> = (0..states).map(of_state).collect();
+        for sound in [vec![row([0, states - 1], [0, symbols - 1], 0)], by_states] {
+            let last = sound[sound.len() - 1];
+            for count in 2..=256 {
+                let mut texts = vec![vec![last; count]];
+                if let Some(more) = count.checked_sub(sound.len()).filter(|&more| more > 0) {
+                    let copies = vec![last; more];
+                    texts.extend([
+                        [&sound[..], &copies].concat(),
+                        [&copies[..], &sound].concat(),
+                    ]);
+                }
+                for rows in texts {
+                    let case = Case::of(sizes(states, symbols), &rows);
+                    let seen = calls.agree("copies", &case);
+                    assert_eq!((seen.number, seen.written), (18, vec![]), "{count} rows");
+                }
+            }
+        }
+    }
+}
+
+#[test]
+fn every_pair_that_has_two_rows_or_more_is_18() {
+    let mut calls = Calls::new();
+    for (states, symbols) in [
+        (1, 1),
+        (3, 2),
+        (16, 7),
+        (8, 16),
+        (11, 13),
+        (16, 15),
+        (16, 16),
+    ] {
+        let given = sizes(states, symbols);
+        let all = row([0, states - 1], [0, symbols - 1], 0);
+        for place in 0..states * symbols {
+            let pair = row([place / symbols; 2], [place % symbols; 2], states - 1);
+            for copies in [1, 2, 3, 4, 127, 128, 255] {
+                let rows = [vec![all], vec![pair; copies]].concat();
+                let seen = calls.agree("one pair", &Case::of(given, &rows));
+                assert_eq!((seen.number, seen.written), (18, vec![]), "{place}");
+            }
+        }
+    }
+}
+
+#[test]
 fn pair_without_a_row_is_19_and_so_is_no_row_at_all() {
     let mut calls = Calls::new();
     for states in [1, 2, 3, 16] {

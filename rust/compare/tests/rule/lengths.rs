@@ -1,5 +1,6 @@
 //! Buffers of all lengths around the limits, and of none.
-use dapohiru_compare::library::{Library, GUARDED};
+use dapohiru_compare::guarded::lend_longer;
+use dapohiru_compare::library::{Library, CALLS, GUARDED};
 use dapohiru_compare::rulebuffer::{LENGTHS, MOST_RULE};
 use dapohiru_compare::ruling::{Case, Memory};
 use dapohiru_compare::wrapper::WRAPPER;
@@ -40,6 +41,15 @@ fn rule_buffer_of_256_bytes_in_the_lowest_24_bits_of_its_length_is_13_and_left()
         assert!(rule.iter().all(|&byte| byte == 99));
         assert!(work.iter().all(|&byte| byte == 0));
     }
+}
+
+#[test]
+fn rule_buffer_of_256_bytes_in_any_low_bits_of_its_length_is_13_and_left() {
+    let file = pair().file();
+    lend_longer(&[99; RULE], 8, |rule| {
+        let number = (CALLS.rule)(&file, &mut [9; WORK], rule);
+        assert_eq!(number, 13, "{} bytes", rule.len());
+    });
 }
 
 #[test]
