@@ -91,8 +91,8 @@ pub record TiedTable (file : List ℕ) (work : ℕ) (j : Job) : Type 0 where
 
 -- the statement: where planning accepts a file, so does the rule call, with the same job; the bytes that it leaves and the numbers that are read
 -- back from its number, or the table and the numbers by value, are the rule of that job in every call of the event step; a refusal is told as that
--- refusal and leaves the rule buffer, and by the number a caller sees whether there is such a rule. So a caller who plans with `dapohiru_plan`, takes the rule with `dapohiru_rule` and reports events
--- with `dapohiru_event` has calls as both halves ask for
+-- refusal and leaves the rule buffer, and by the number a caller sees whether there is such a rule. So a caller who plans with `dapohiru_plan`,
+-- takes the rule with `dapohiru_rule` and reports events with `dapohiru_event` has calls as both halves ask for
 pub record RuleTied : Type 0 where
   pub rule-accepts
       : (file plan : List ℕ) (size : ℕ) (j : Job) → planAnswer file size (length plan) ≡ accepted j → (work : ℕ) → workSize ≤ work

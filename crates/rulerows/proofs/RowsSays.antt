@@ -1,5 +1,4 @@
--- What the call for rule rows answers: each refusal in its order, and the one rule of rows that name every pair just once; its bytes and its
--- number; and that the rule is one as any other.
+-- What the call for rule rows answers: each refusal in its order, and the one rule of rows that name every pair just once.
 -- Assumes nothing.
 use mathlib.Core.Path.{_≡_, refl, sym, ap, _∙_, subst}
 use mathlib.Core.Logic.{_≢_, _⊎_, inl, inr, by-cases}

@@ -29,8 +29,8 @@ pub const COMMAND: Command = Command {
   --svg         its picture, made by Graphviz's program dot, which must be installed
   --png         likewise
   --seconds N   with --svg or --png, how long the picture may take, 1 to 3600; without it 60
-  --names FILE  names for the symbols and states, for all but the R lines and for refused rows; `dapohiru
-                help` shows such a file, and the names of nodes that it may have are not shown
+  --names FILE  names for the symbols and states, for refused rows and for all forms but the R lines;
+                `dapohiru help` shows such a file, and the names of nodes that it may have are not shown
   -o FILE       writes there and not to standard output; the file is written whole or not at all; - is
                 standard output
 One of the files that are read may be - for standard input.
