@@ -1,11 +1,12 @@
--- Every answer of planning, of listing, of pricing and of the rule call has a number of 64 bits: the counts are at most 513, a listing fits its
--- buffer, a price is at most the largest, and a rule has at most sixteen states and symbols.
+-- Every answer of planning, of listing, of pricing and of the calls for a rule has a number of 64 bits: the counts are at most 513, a listing fits
+-- its buffer, a price is at most the largest, and a rule has at most sixteen states and symbols.
 -- Assumes nothing.
 use mathlib.Core.Path.{_≡_, refl, sym, subst}
 use mathlib.Core.Bool.{Bool}
 use mathlib.Core.List.{List}
 use Prim.Native.Nat.{ℕ}
 use native.Mathlib.Omega.{arith}
+use lib.ListN.{length}
 use Rattle.admission.specs.Admission.{admitted}
 use Rattle.planoutcome.specs.PlanCall.{outcomeOf}
 use Rattle.planoutcome.specs.declared.plan.Outcome.{Outcome}
@@ -28,7 +29,11 @@ use Rattle.ruleoutcome.specs.declared.rule.RuleAnswer.{RuleAnswer}
 use Rattle.ruleoutcome.specs.declared.rule.RuleAnswer.the-variants.{Rule, Refused as RuleRefused}
 use Rattle.ruleoutcome.specs.RuleCall.{ruleAnswer, ruledOf}
 use Rattle.ruleoutcome.proofs.RuleLaws.{rule-well-formed, finals-few}
-use Rattle.rulenumbers.specs.Fits.{RuleFits}
+use Rattle.automaton.specs.Made.{Made, makes, refuses}
+use Rattle.expressionrule.specs.declared.answer.ExpressionAnswer.{ExpressionAnswer}
+use Rattle.expressionrule.specs.ExpressionRule.{ExpressionMakes, expressionAnswer, AnswersExpression}
+use Rattle.expressionrule.proofs.ExpressionServe.{made-fits}
+use Rattle.rulenumbers.specs.Fits.{RuleFits, ExpressionFits}
 
 -- of planning
 pub outcome-fits : (file : List ℕ) (short : Bool) (r : Outcome) → r ≡ outcomeOf (admitted file short) → OutcomeFits r
@@ -61,3 +66,12 @@ rule-fits file work rule r e = subst RuleFits (sym e) (go (ruleAnswer file work 
         let wf = rule-well-formed file work rule j is in
         (omega (arith, wf .few-states), omega (arith, wf .few-symbols), finals-few (j .rule) wf)
     go (turned k) is = tt
+
+-- of the call for an expression
+pub expression-fits
+    : (t : List ℕ) (a : ℕ) (before after : List ℕ) (r : ExpressionAnswer) → AnswersExpression t a before after r → ExpressionFits r
+expression-fits t a before after r x = subst ExpressionFits (sym (x .answer)) (go (x .made) (x .makes))
+  where
+    go : (y : Made) → ExpressionMakes t a (length before) y → ExpressionFits (expressionAnswer y)
+    go (makes m) z = let (few, small) = made-fits t a (length before) m z in (omega (arith, few), small)
+    go (refuses k) z = tt

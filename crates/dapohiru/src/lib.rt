@@ -6,3 +6,4 @@ pub mod list; // list.rt: listing
 pub mod price; // price.rt: pricing
 pub mod rule; // rule.rt: the rule of a job
 pub mod rows; // rows.rt: rule rows
+pub mod expression; // expression.rt: rules as expressions

@@ -5,3 +5,4 @@ pub mod CallsLaws
 pub mod RuleLaws
 pub mod Promise
 pub mod RowsLaws
+pub mod ExpressionLaws

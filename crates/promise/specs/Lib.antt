@@ -2,3 +2,4 @@
 -- Assumes nothing.
 pub mod Promise
 pub mod RowsTied
+pub mod ExpressionTied

@@ -1,9 +1,11 @@
-// The number that a C call returns for each answer of the rule call and of the call for rule rows.
+// The number that a C call returns for each answer of the calls for a rule: the rule of a job, of rows and of an expression.
 ghost use mathlib.Core.Path.{_≡_};
 ghost use Rattle.ruleoutcome.specs.RuleCall.{ruleNumber};
 ghost use Rattle.rulerows.specs.RuleRows.{rowsNumber};
-ghost use Rattle.rulenumbers.specs.Fits.{RuleFits};
+ghost use Rattle.expressionrule.specs.ExpressionRule.{expressionNumber};
+ghost use Rattle.rulenumbers.specs.Fits.{RuleFits, ExpressionFits};
 use callnumber::ACCEPTED;
+use expressionrule::answer::ExpressionAnswer;
 use ruleoutcome::rule::RuleAnswer;
 use rulerows::rows::RowsAnswer;
 
@@ -27,5 +29,16 @@ pub fn of_rows(answer: RowsAnswer) -> u64
     match answer {
         RowsAnswer::Accepted => ACCEPTED,
         RowsAnswer::Refused(number) => number,
+    }
+}
+
+// 2^48 plus states times 2^16 and the final set, or the refusal's number.
+pub fn of_expression(answer: ExpressionAnswer) -> u64
+    requires { ⌜ ExpressionFits answer ⌝ }
+    ensures { λ r. ⌜ r ≡ expressionNumber answer ⌝ }
+{
+    match answer {
+        ExpressionAnswer::Accepted(met) => ACCEPTED + met.states * 65_536 + met.finals,
+        ExpressionAnswer::Refused(number) => number,
     }
 }

@@ -1,0 +1,3 @@
+-- The ways out of the call.
+-- Assumes nothing.
+pub mod CallLaws

@@ -1,0 +1,20 @@
+-- `expressionparts::part::follow_on` meets its contract: it is the definition, field by field.
+-- Assumes nothing.
+use borrow.Author.Needs.{needs}
+use Rattle.expressionparts.proofs.part.follow_on.Statement.{statement}
+use Rattle.expressionparts.proofs.part.follow_on.Tie as tie
+
+both-requires : tie.Need-both-requires
+both-requires c κs = search needs
+
+set-when-requires : tie.Need-set-when-requires
+set-when-requires c κs = search needs
+
+set-when-requires-2 : tie.Need-set-when-requires-2
+set-when-requires-2 c κs = search needs
+
+returns : tie.Need-returns
+returns c = cc
+
+pub follow-on-spec : {M : Type 1} → statement M
+follow-on-spec = tie.close (tie.spec both-requires set-when-requires set-when-requires-2 returns)

@@ -1,0 +1,3 @@
+-- What the reader of an expression answers: inner contracts.
+-- Assumes nothing.
+pub mod Reading

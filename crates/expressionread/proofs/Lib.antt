@@ -1,0 +1,3 @@
+-- Laws of what the reader of an expression answers.
+-- Assumes nothing.
+pub mod AnswerLaws

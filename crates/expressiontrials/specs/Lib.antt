@@ -1,0 +1,3 @@
+-- Trials of expressions.
+-- Assumes nothing.
+pub mod ExpressionTrials

@@ -1,0 +1,1 @@
+// Trials of the call for expressions: in specs/, and that they pass in proofs/.

@@ -1,0 +1,3 @@
+-- Laws of the loops over positions and states.
+-- Assumes nothing.
+pub mod NumberLaws

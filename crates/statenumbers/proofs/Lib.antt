@@ -1,0 +1,3 @@
+-- Laws of the loop over the states.
+-- Assumes nothing.
+pub mod FinalLaws
