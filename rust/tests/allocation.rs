@@ -2,6 +2,7 @@
 use dapohiru::{
     numbers, planfile, Job, Record, LISTING_LEN, PLAN_LEN, RECORD_LEN, RULE_LEN, WORK_LEN,
 };
+use dapohiru_generators::expressions::SEALED;
 use dapohiru_generators::rows::of_rule;
 use dapohiru_generators::samples::{pair, points, sixteen, turn};
 use dapohiru_generators::{prices, volumes};
@@ -83,6 +84,12 @@ fn calls_allocate_nothing_accepted_or_refused() {
             none("rows", || dapohiru::rows(rows, states, symbols, finals));
             none("numbers::rows", || {
                 numbers::rows(rows, states, symbols, finals, &mut table)
+            });
+        }
+        for text in [SEALED, b"a", b"(", b"", &[b'a'; 64]] {
+            none("expression", || dapohiru::expression(text, symbols));
+            none("numbers::expression", || {
+                numbers::expression(text, symbols, &mut table)
             });
         }
         let day = volumes::file(&vec![1_000; job.nodes.len()]);

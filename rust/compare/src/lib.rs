@@ -2,16 +2,19 @@
 //! byte is looked at, between pages that fault, and both halves of the third promise on real walks.
 pub mod checking;
 pub mod damage;
+pub mod expression;
 pub mod guarded;
 pub mod library;
 pub mod memory;
 pub mod on_file;
 pub mod on_job;
+pub mod on_text;
 pub mod pricing;
 pub mod promise;
 pub mod records;
 pub mod rows;
 pub mod rulebuffer;
+pub mod rulecall;
 pub mod ruling;
 pub mod seen;
 pub mod serving;

@@ -13,7 +13,10 @@ pub type PriceBy = fn(&[u8], &[u8], &[u8], &[u8]) -> u64;
 /// Rule rows: text, S, A, final set, rule buffer.
 pub type Rows = fn(&[u8], u64, u64, u64, &mut [u8]) -> u64;
 
-/// The eight calls. Each returns the number of its answer.
+/// An expression: text, A, rule buffer.
+pub type Expression = fn(&[u8], u64, &mut [u8]) -> u64;
+
+/// The nine calls. Each returns the number of its answer.
 #[derive(Clone, Copy)]
 pub struct Library {
     /// Job, work buffer, plan buffer.
@@ -28,6 +31,7 @@ pub struct Library {
     /// Job, work buffer, rule buffer.
     pub rule: fn(&[u8], &mut [u8], &mut [u8]) -> u64,
     pub rows: Rows,
+    pub expression: Expression,
     pub event: Event,
 }
 
@@ -50,6 +54,7 @@ pub const CALLS: Library = Library {
     price_by: numbers::price_by,
     rule: numbers::rule,
     rows: numbers::rows,
+    expression: numbers::expression,
     event: numbers::event,
 };
 
@@ -89,6 +94,11 @@ pub const GUARDED: Library = Library {
     rows: |rows, states, symbols, finals, rule| {
         lend([rows], [rule], |[rows], [rule]| {
             numbers::rows(rows, states, symbols, finals, rule)
+        })
+    },
+    expression: |text, symbols, rule| {
+        lend([text], [rule], |[text], [rule]| {
+            numbers::expression(text, symbols, rule)
         })
     },
     event: |rule, states, symbols, finals, symbol, record| {

@@ -1,4 +1,4 @@
-//! Rule buffers, which the call for a job's rule and the one for rows write to.
+//! Rule buffers, which the calls for a job's rule, for rows and for an expression write to.
 use crate::memory::Lent;
 use crate::seen::Seen;
 use dapohiru_generators::random::Random;

@@ -53,6 +53,11 @@ pub fn rows(rows: &[u8], states: u64, symbols: u64, finals: u64) -> Result<Rule,
     })
 }
 
+/// [`dapohiru::expression()`], on guarded buffers too.
+pub fn expression(text: &[u8], symbols: u64) -> Result<Rule, Refusal> {
+    lend([text], [], |[text], []| dapohiru::expression(text, symbols))
+}
+
 /// [`dapohiru::event`], on guarded buffers too.
 pub fn event(
     rule: &[u8],
@@ -105,6 +110,16 @@ pub const WRAPPER: Library = Library {
             );
             buffer.copy_from_slice(&made.table);
             0
+        }))
+    },
+    expression: |text, symbols, buffer| {
+        if buffer.len() != RULE_LEN {
+            return (GUARDED.expression)(text, symbols, buffer);
+        }
+        number(expression(text, symbols).map(|made| {
+            assert_eq!(made.symbols, symbols);
+            buffer.copy_from_slice(&made.table);
+            (made.states << 16) + made.finals
         }))
     },
     event: |rule, states, symbols, finals, symbol, record| {

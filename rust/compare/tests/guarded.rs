@@ -1,6 +1,7 @@
 //! Guarded buffers do what they are for: a byte read or written beside one is fatal, by hand and by the
 //! library, and so is a byte written to one that is lent to be read. Each test runs itself again as a child that must die.
 use dapohiru_compare::guarded::{lend, Flush, ReadRoom, Room};
+use dapohiru_generators::expressions::SEALED;
 use dapohiru_generators::rows::of_rule;
 use dapohiru_generators::samples::pair;
 use dapohiru_generators::{prices, volumes};
@@ -96,12 +97,12 @@ fn longer_than_it_is(room: &mut Room, len: usize, missing: usize, flush: Flush) 
     unsafe { slice::from_raw_parts_mut(first, len) }
 }
 
-/// Makes all eight calls, with the named buffer shorter than it is said to be.
+/// Makes all nine calls, with the named buffer shorter than it is said to be.
 fn call_with_short(name: &str, flush: Flush) {
     let (file, thousands, house) = (pair().file(), volumes::file(&[1_000; 3]), prices::house());
     let (given, of_pair) = of_rule(&pair());
     let of_pair = text(&of_pair);
-    let mut rooms: Vec<_> = (0..14).map(|_| Room::new(1 << 17)).collect();
+    let mut rooms: Vec<_> = (0..16).map(|_| Room::new(1 << 17)).collect();
     let mut rooms = rooms.iter_mut();
     let mut lent = |of: &str, len: usize, missing: usize| {
         let missing = if of == name { missing } else { 0 };
@@ -123,6 +124,8 @@ fn call_with_short(name: &str, flush: Flush) {
     let taken = lent("taken", 256, 1);
     let rows = lent("rows", of_pair.len(), 1);
     let made = lent("made", 256, 1);
+    let expression = lent("expression", SEALED.len(), 1);
+    let expressed = lent("expressed", 256, 1);
     let rule = lent("rule", 256, 1);
     let record = lent("record", 16, 1);
     for (of, lent, bytes) in [
@@ -130,6 +133,7 @@ fn call_with_short(name: &str, flush: Flush) {
         ("volumes", volumes, thousands),
         ("prices", prices, house),
         ("rows", rows, of_pair),
+        ("expression", expression, SEALED.to_vec()),
     ] {
         let there = match flush {
             _ if of != name => 0..bytes.len(),
@@ -146,6 +150,7 @@ fn call_with_short(name: &str, flush: Flush) {
         dapohiru::numbers::price_by(job, priced, volumes, prices),
         dapohiru::numbers::rule(job, work, taken),
         dapohiru::numbers::rows(rows, given.states, given.symbols, given.finals, made),
+        dapohiru::numbers::expression(expression, 3, expressed),
         dapohiru::numbers::event(rule, 16, 16, 0, 15, record),
     ];
     black_box(numbers);
@@ -153,9 +158,23 @@ fn call_with_short(name: &str, flush: Flush) {
 
 #[test]
 fn library_that_is_told_a_longer_buffer_dies_where_its_bytes_end() {
-    const NAMES: [&str; 14] = [
-        "nothing", "job", "work", "plan", "listing", "checked", "priced", "volumes", "prices",
-        "taken", "rows", "made", "rule", "record",
+    const NAMES: [&str; 16] = [
+        "nothing",
+        "job",
+        "work",
+        "plan",
+        "listing",
+        "checked",
+        "priced",
+        "volumes",
+        "prices",
+        "taken",
+        "rows",
+        "made",
+        "expression",
+        "expressed",
+        "rule",
+        "record",
     ];
     if let Ok(task) = env::var(TASK) {
         let (name, flush) = task.split_once(' ').expect("a name and a place");
@@ -267,13 +286,20 @@ fn buffer_that_was_lent_to_be_read_is_lent_to_be_written_next() {
 
 #[test]
 fn library_dies_where_a_buffer_that_it_writes_to_may_only_be_read() {
-    const NAMES: [&str; 7] = [
-        "nothing", "work", "plan", "listing", "taken", "made", "record",
+    const NAMES: [&str; 8] = [
+        "nothing",
+        "work",
+        "plan",
+        "listing",
+        "taken",
+        "made",
+        "expressed",
+        "record",
     ];
     if let Ok(name) = env::var(TASK) {
         let file = pair().file();
         let (given, of_pair) = of_rule(&pair());
-        let mut rooms: Vec<_> = (0..6).map(|_| Room::new(1 << 17)).collect();
+        let mut rooms: Vec<_> = (0..7).map(|_| Room::new(1 << 17)).collect();
         let mut only_read = ReadRoom::new(1 << 17);
         let mut rooms = rooms.iter_mut();
         let mut lent = |of: &str, len: usize| {
@@ -293,6 +319,7 @@ fn library_dies_where_a_buffer_that_it_writes_to_may_only_be_read() {
         let listing = lent("listing", 32_768);
         let taken = lent("taken", 256);
         let made = lent("made", 256);
+        let expressed = lent("expressed", 256);
         let record = lent("record", 16);
         black_box([
             dapohiru::numbers::plan(&file, work, plan),
@@ -305,6 +332,7 @@ fn library_dies_where_a_buffer_that_it_writes_to_may_only_be_read() {
                 given.finals,
                 made,
             ),
+            dapohiru::numbers::expression(SEALED, 3, expressed),
             dapohiru::numbers::event(&[0; 256], 16, 16, 1, 15, record),
         ]);
         return;

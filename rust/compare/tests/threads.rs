@@ -1,6 +1,7 @@
 //! The calls in many threads at once answer as they do alone, and so does a job that they share.
 use dapohiru::{Job as Shared, Record, Report};
 use dapohiru_compare::wrapper::WRAPPER;
+use dapohiru_generators::expressions;
 use dapohiru_generators::random::Random;
 use dapohiru_generators::rows::of_rule;
 use dapohiru_generators::zeros::filled;
@@ -10,13 +11,14 @@ use dapohiru_second::reading::WORK;
 use dapohiru_second::rows::text;
 use std::thread;
 
-/// A job with its file, a volume file and a price file, and its rule in rows.
+/// A job with its file, a volume file and a price file, its rule in rows, and an expression of its symbols.
 struct Files {
     job: Job,
     file: Vec<u8>,
     volumes: Vec<u8>,
     prices: Vec<u8>,
     rows: Vec<u8>,
+    expression: Vec<u8>,
 }
 
 /// The answers of all calls for one job, with what they write.
@@ -27,9 +29,10 @@ fn answers(files: &Files, work: &mut [u8]) -> (Vec<u64>, Vec<u8>) {
         volumes,
         prices,
         rows,
+        expression,
     } = files;
     let (mut plan, mut listing) = (vec![7; 512], vec![7; 32_768]);
-    let (mut rule, mut made) = ([7; 256], [7; 256]);
+    let [mut rule, mut made, mut expressed] = [[7; 256]; 3];
     let (states, symbols, finals) = (job.states() as u64, job.symbols, job.final_set());
     let mut numbers = vec![
         (WRAPPER.plan)(file, work, &mut plan),
@@ -41,6 +44,8 @@ fn answers(files: &Files, work: &mut [u8]) -> (Vec<u64>, Vec<u8>) {
         (WRAPPER.rule)(file, work, &mut [7; 255]),
         (WRAPPER.rows)(rows, states, symbols, finals, &mut made),
         (WRAPPER.rows)(&rows[32..], states, symbols, finals, &mut [7; 256]),
+        (WRAPPER.expression)(expression, symbols, &mut expressed),
+        (WRAPPER.expression)(&expression[1..], symbols, &mut [7; 256]),
     ];
     assert_eq!(made, rule);
     let mut record = [0; 16];
@@ -55,7 +60,8 @@ fn answers(files: &Files, work: &mut [u8]) -> (Vec<u64>, Vec<u8>) {
             &mut record,
         ));
     }
-    (numbers, [&plan[..], &listing, &rule, &record].concat())
+    let written = [&plan[..], &listing, &rule, &expressed, &record];
+    (numbers, written.concat())
 }
 
 #[test]
@@ -69,6 +75,7 @@ fn many_threads_get_the_answers_that_one_gets() {
                 volumes: volumes::any(&mut random, job.nodes.len()),
                 prices: prices::any(&mut random),
                 rows: filled(&mut random, text(&of_rule(&job).1)),
+                expression: expressions::sound(&mut random, job.symbols),
                 job,
             }
         })

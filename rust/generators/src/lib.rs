@@ -1,8 +1,9 @@
 //! What tests and benchmarks are made of, from a printed seed: random jobs, small and large, volume files and
-//! price files, rule rows, damaged files, zeros before the numbers of files, random walks and random calls of the
-//! event step; and jobs written by hand.
+//! price files, rule rows, expressions, damaged files, zeros before the numbers of files, random walks and random
+//! calls of the event step; and jobs written by hand.
 pub mod damage;
 pub mod events;
+pub mod expressions;
 pub mod faults;
 pub mod features;
 pub mod large;

@@ -1,8 +1,21 @@
-//! The rule buffer, which the call for a job's rule and the one for rows write to: its length, and the table in it.
+//! The rule buffer, which the calls for a job's rule, for rows and for an expression write to: its length, and the
+//! table in it.
+use crate::outcome;
 use crate::slip::Slip;
 
 /// The length of a rule: sixteen rows of sixteen next states.
 pub const RULE: usize = 256;
+
+/// The answer to a call that makes a rule from a text.
+#[derive(Clone, Copy, Debug, PartialEq, Eq)]
+pub enum Answer {
+    /// With what is added to 2^48.
+    Made(u64),
+    Refused(u64),
+}
+
+/// What such a call leaves in the rule buffer; it is lent no work buffer.
+pub type Outcome = outcome::Outcome<Answer>;
 
 /// A rule buffer, with one slip or with none.
 #[derive(Clone, Copy)]

@@ -60,6 +60,19 @@ impl Slip {
         .concat()
     }
 
+    /// The slips that making a rule from an expression can make.
+    pub fn of_expression() -> Vec<Slip> {
+        [
+            Slip::RULE_BUFFER,
+            Slip::EXPRESSION_ORDER,
+            Slip::EXPRESSION_GIVEN,
+            Slip::EXPRESSION_GRAMMAR,
+            Slip::EXPRESSION_WORDS,
+            Slip::EXPRESSION_STATES,
+        ]
+        .concat()
+    }
+
     /// The slips that planning and listing can make.
     pub fn of_planning() -> Vec<Slip> {
         [
@@ -463,7 +476,7 @@ slips! {
         OtherNodesNotWritten,
     }
 
-    /// Slips of the rule buffer, in both calls that write to it.
+    /// Slips of the rule buffer, in all calls that write to it.
     RULE_BUFFER {
         // its length
         /// A rule buffer of another length is 2.
@@ -745,5 +758,173 @@ slips! {
         NoneAs18,
         /// The pairs that rows name are counted: more than there are is 18, fewer 19, and as many are accepted.
         PairsOnlyCounted,
+    }
+
+    /// Slips of the order of refusals of expressions, of their numbers, of the number of an accepted call, and of what a
+    /// refusal leaves.
+    EXPRESSION_ORDER {
+        /// 13 is tested after 20.
+        RuleLengthAfterExpression,
+        /// 13 is tested after 20 and 21.
+        RuleLengthAfterStates,
+        /// 21 is answered where a letter is past A, too.
+        StatesBeforeLetters,
+        /// 21 is answered for a text of 65 characters, too.
+        StatesBeforeLength,
+        /// A text outside the grammar is 4.
+        ExpressionAs4,
+        /// A text outside the grammar is 17.
+        ExpressionAs17,
+        /// A letter past A is 14.
+        LetterPastAs14,
+        /// A letter past A is 21.
+        LetterPastAs21,
+        /// More than 16 states are 17.
+        ManyStatesAs17,
+        /// More than 16 states are 20.
+        ManyStatesAs20,
+        /// Refusal 21 writes the rule of the states that were met.
+        ManyStatesWritten,
+        /// The final set and the count of states are swapped.
+        FinalsBeforeStates,
+        /// The number has the states times 2^32, the symbols times 2^16 and the final set in it.
+        NumberAsOfJob,
+        /// The start is not counted in the number.
+        StatesLessOne,
+        /// Of the count of states the lowest 4 bits are there, so that 16 is 0.
+        StatesCutTo4Bits,
+        /// The number has no count of states.
+        StatesLeftOut,
+    }
+
+    /// Slips of the length of an expression, and of the A that is given with it.
+    EXPRESSION_GIVEN {
+        /// Of A the lowest 8 bits count.
+        ExpressionSymbolsCutTo8Bits,
+        /// Of A the lowest 16 bits count.
+        ExpressionSymbolsCutTo16Bits,
+        /// Of A the lowest 32 bits count.
+        ExpressionSymbolsCutTo32Bits,
+        /// A = 16 is refused.
+        SixteenExpressionSymbolsRefused,
+        /// A = 17 is accepted.
+        SeventeenExpressionSymbolsAccepted,
+        /// The letter of A is accepted.
+        LetterOfSymbolsAccepted,
+        /// Letters a to p are accepted, whatever A is.
+        LettersHeldAgainst16,
+        /// A text of 64 characters is refused.
+        LongestExpressionRefused,
+        /// A text of 65 characters is read.
+        Expression65Read,
+        /// Of a longer text the first 64 characters are read.
+        LongExpressionCut,
+        /// Of the text's length the lowest 8 bits count.
+        ExpressionLengthCutTo8Bits,
+        /// Of the text's length the lowest 16 bits count.
+        ExpressionLengthCutTo16Bits,
+    }
+
+    /// Slips of the grammar of expressions: which texts are accepted.
+    EXPRESSION_GRAMMAR {
+        // what is missing
+        /// An empty text is accepted, and its word is empty.
+        EmptyExpressionAccepted,
+        /// Empty parentheses are accepted, and their word is empty.
+        EmptyParenthesesAccepted,
+        /// A star with nothing before it is accepted, and skipped.
+        StarOfNothingAccepted,
+        /// A bar with nothing on one side is accepted, and the word of nothing is empty.
+        BarOfNothingAccepted,
+        /// A star after a star is refused.
+        SecondStarRefused,
+        /// Parentheses may be left open.
+        UnclosedAccepted,
+        /// A closing parenthesis without an opening one is skipped.
+        ClosedWithoutOpenAccepted,
+
+        // other bytes
+        /// The letters A to P are accepted.
+        CapitalsAccepted,
+        /// The digits are accepted as symbols.
+        DigitsAccepted,
+        /// The highest bit of a byte is not looked at.
+        HighBitCut,
+        /// Spaces are skipped.
+        BlanksSkipped,
+        /// Dots are skipped.
+        DotsSkipped,
+        /// The byte 10 is accepted at the end.
+        EndByteAccepted,
+        /// A byte 0 ends the text.
+        ZeroByteEnds,
+        /// A plus is a bar.
+        PlusForBar,
+        /// Bytes that are no characters of expressions are skipped, but for small letters.
+        OtherBytesSkipped,
+    }
+
+    /// Slips of the language of an expression, and of what alarms.
+    EXPRESSION_WORDS {
+        // what binds
+        /// The bar binds before following on.
+        BarBeforeFollowing,
+        /// A star is for the two pieces before it.
+        StarOfTwoPieces,
+        /// A star is for all pieces before it, back to a bar or parenthesis.
+        StarOfRow,
+        /// Parentheses are skipped.
+        ParenthesesDoNotGroup,
+
+        // what it means
+        /// A star is for once or more.
+        StarAtLeastOnce,
+        /// A star is for once or not at all.
+        StarAtMostOnce,
+        /// A word may begin at any event.
+        WordBeginsAnywhere,
+        /// An event alarms where the events so far begin a word.
+        AlarmWhereWordBegins,
+        /// An event alarms where every letter that it can stand for ends a word.
+        AlarmWhereEveryWayEnds,
+    }
+
+    /// Slips of the states of an expression, and of their numbers.
+    EXPRESSION_STATES {
+        // the start
+        /// The start is final where the empty word is one.
+        StartFinal,
+        /// An event leads back to the start where the same can follow.
+        StartTakenForItsEqual,
+
+        // the sets
+        /// The empty set is the start.
+        EmptySetIsStart,
+        /// An event that leads to the empty set leaves the state.
+        EmptySetStays,
+        /// The empty set does not count among the 16 states.
+        EmptySetNotCounted,
+        /// States that the same can follow, both final or both not, are one.
+        StatesOfOneResidualMerged,
+        /// A state is the letters that the next event can stand for.
+        SetsOfNextLetters,
+
+        // their numbers
+        /// States are numbered depth first.
+        DepthFirst,
+        /// States are numbered with symbols falling.
+        SymbolsFalling,
+        /// Bit q + 1 of the final set stands for state q.
+        ExpressionFinalsShifted,
+        /// The lowest bit of the final set stands for the last state.
+        ExpressionFinalsFromTheHighest,
+
+        // how many there are
+        /// 16 states are refused.
+        SixteenStatesRefused,
+        /// 17 states are accepted.
+        SeventeenStatesAccepted,
+        /// More than 15 letters are 21, and no others.
+        ManyLettersAs21,
     }
 }

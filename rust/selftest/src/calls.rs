@@ -4,8 +4,9 @@ use dapohiru::numbers::ACCEPTED;
 use dapohiru_compare::library::CALLS;
 use dapohiru_compare::on_job::JobLent;
 use dapohiru_compare::pricing::{By, Case};
+use dapohiru_compare::rulecall::RuleCall;
 use dapohiru_compare::seen::Seen;
-use dapohiru_compare::{checking, rows, ruling, serving};
+use dapohiru_compare::{checking, expression, rows, ruling, serving};
 use dapohiru_generators::random::Random;
 use dapohiru_generators::samples::pair;
 use dapohiru_generators::{prices, volumes};
@@ -100,6 +101,14 @@ impl Calls {
         } = *given;
         let number = (CALLS.rows)(&text, states, symbols, finals, &mut rule);
         self.tally.add_made(number);
+        as_wanted(number, &rule, case.wanted(None), || case.words())
+    }
+
+    /// Makes a rule from an expression as the second implementation does; gives the number.
+    pub fn expression(&mut self, case: &expression::Case) -> Result<u64, String> {
+        let (text, mut rule) = (exact(&case.text), filled(case.rule_len, UNWRITTEN));
+        let number = (CALLS.expression)(&text, case.symbols, &mut rule);
+        self.tally.add_expressed(number);
         as_wanted(number, &rule, case.wanted(None), || case.words())
     }
 

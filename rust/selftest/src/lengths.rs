@@ -1,7 +1,8 @@
 //! Buffers of all lengths around the limits, in every place of every call.
 use crate::calls::{exact, filled, Calls};
 use dapohiru::numbers::ACCEPTED;
-use dapohiru::{PRICES_LEN, ROWS_LEN, RULE_LEN};
+use dapohiru::{EXPRESSION_LEN, PRICES_LEN, ROWS_LEN, RULE_LEN};
+use dapohiru_compare::expression;
 use dapohiru_compare::library::CALLS;
 use dapohiru_compare::rows::Case;
 use dapohiru_generators::events::Call;
@@ -42,6 +43,7 @@ pub fn run(calls: &mut Calls, random: &mut Random) -> Result<(), String> {
     files(calls, &zero_filled(pair().file()))?;
     rule_buffers(calls)?;
     texts_of_rows(calls)?;
+    expressions(calls)?;
     rules_and_records(calls)?;
     events(calls, random, Second { slip: None })
 }
@@ -178,6 +180,54 @@ fn texts_of_rows(calls: &mut Calls) -> Result<(), String> {
                 };
                 let what = format!("text of {len}, rule buffer of {rule} bytes");
                 same(number, wanted, &what)?;
+            }
+        }
+    }
+    Ok(())
+}
+
+/// Expressions of a letter and stars, of letters alone, and of a letter in parentheses, of all lengths around the limits,
+/// with rule buffers.
+fn expressions(calls: &mut Calls) -> Result<(), String> {
+    let past = HIGH.map(|high| 1 + high);
+    for len in LENGTHS
+        .into_iter()
+        .chain(1..=EXPRESSION_LEN + 1)
+        .chain(past)
+    {
+        let mut starred = vec![b'*'; len];
+        starred.iter_mut().take(1).for_each(|first| *first = b'a');
+        let mut deep = vec![b'('; len];
+        deep[len / 2..].fill(b')');
+        deep.iter_mut()
+            .skip(len / 2)
+            .take(1)
+            .for_each(|middle| *middle = b'a');
+        let of_letters = match len {
+            1..=14 => ACCEPTED,
+            15..=EXPRESSION_LEN => 21,
+            _ => 20,
+        };
+        let is_one = (1..=EXPRESSION_LEN).contains(&len);
+        let of_starred = if is_one { ACCEPTED } else { 20 };
+        let of_deep = if is_one && len % 2 == 1 { ACCEPTED } else { 20 };
+        for (text, wanted) in [
+            (starred, of_starred),
+            (vec![b'a'; len], of_letters),
+            (deep, of_deep),
+        ] {
+            for rule in LENGTHS.into_iter().chain(HIGH.map(|high| RULE_LEN + high)) {
+                // of most texts the right length of the rule buffer is enough
+                if ![0, 1, EXPRESSION_LEN].contains(&len) && rule != RULE_LEN {
+                    continue;
+                }
+                let number = calls.expression(&expression::Case {
+                    rule_len: rule,
+                    ..expression::Case::of(&text, 1)
+                })?;
+                let wanted = if rule == RULE_LEN { wanted } else { 13 };
+                let what = format!("expression of {len}, rule buffer of {rule} bytes");
+                same(number.min(ACCEPTED), wanted, &what)?;
             }
         }
     }

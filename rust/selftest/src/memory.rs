@@ -5,7 +5,7 @@ use crate::calls::Calls;
 use crate::found::Found;
 use crate::lengths;
 use crate::progress::Progress;
-use dapohiru_compare::rows::cases;
+use dapohiru_compare::{expression, rows};
 use dapohiru_generators::damage::{damage, damaged};
 use dapohiru_generators::random::Random;
 use dapohiru_generators::sized::{self, Sizes, FULL};
@@ -13,8 +13,8 @@ use dapohiru_generators::small;
 use dapohiru_generators::zeros::{filled, spoil};
 use std::io::{self, Write};
 
-/// How many files there are between the calls for rule rows.
-const ROWS_AFTER: u64 = 8;
+/// How many files there are between the calls for rule rows and expressions.
+const TEXTS_AFTER: u64 = 8;
 
 /// A file with any zeros: mostly a damaged one, of a small job or of one of other sizes.
 fn file(random: &mut Random) -> Vec<u8> {
@@ -39,10 +39,16 @@ fn file(random: &mut Random) -> Vec<u8> {
     }
 }
 
-/// Rules made from rows of this seed, sound, damaged and with faults.
-fn rows(calls: &mut Calls, seed: u64) -> Result<(), String> {
-    let cases = cases(&mut Random(seed));
-    cases.iter().try_for_each(|case| calls.rows(case).map(drop))
+/// Rules made from rows and from expressions of this seed, sound, damaged and with faults.
+fn texts(calls: &mut Calls, seed: u64) -> Result<(), String> {
+    let random = &mut Random(seed);
+    for case in rows::cases(random) {
+        calls.rows(&case)?;
+    }
+    for case in expression::cases(random) {
+        calls.expression(&case)?;
+    }
+    Ok(())
 }
 
 /// Makes the calls, and says what they came to.
@@ -63,8 +69,8 @@ pub fn run(seed: u64, files: u64, out: &mut impl Write) -> io::Result<Found> {
         }
         let file = file(&mut random);
         let mut answer = calls.file(&mut random, &file);
-        if number % ROWS_AFTER == 0 {
-            answer = answer.and_then(|()| rows(&mut calls, !seed ^ number));
+        if number % TEXTS_AFTER == 0 {
+            answer = answer.and_then(|()| texts(&mut calls, !seed ^ number));
         }
         found = answer.map_err(|why| format!("file {number}: {why}"));
         progress.show(number, files, "files");

@@ -3,11 +3,13 @@ use crate::arguments::Slips;
 use crate::tally::Tally;
 use dapohiru::numbers::ACCEPTED;
 use dapohiru_compare::checking;
+use dapohiru_compare::expression;
 use dapohiru_compare::library::GUARDED;
 use dapohiru_compare::on_file::OnFile;
 use dapohiru_compare::pricing;
 use dapohiru_compare::promise;
 use dapohiru_compare::rows;
+use dapohiru_compare::rulecall::RuleCall;
 use dapohiru_compare::ruling;
 use dapohiru_compare::serving;
 use dapohiru_compare::step::compare;
@@ -36,6 +38,7 @@ pub struct Rounds {
     pricing: pricing::Memory,
     ruling: ruling::Memory,
     rows: rows::Memory,
+    expressions: expression::Memory,
     /// Makes the volume files and price files of a round and what is priced with them; the other calls are made
     /// without it.
     lines: Random,
@@ -53,6 +56,7 @@ impl Rounds {
             pricing: pricing::Memory::new(GUARDED),
             ruling: ruling::Memory::new(GUARDED),
             rows: rows::Memory::new(GUARDED),
+            expressions: expression::Memory::new(GUARDED),
             lines: Random(0),
             tally: Tally::default(),
         }
@@ -81,7 +85,8 @@ impl Rounds {
             2 => self.damaged(random),
             3 => {
                 self.step(random)?;
-                self.rule_rows(random)
+                self.rule_rows(random)?;
+                self.expressions(random)
             }
             6 => self.walk(random),
             _ if number % 1_024 == 1_023 => self.large(random),
@@ -202,6 +207,18 @@ impl Rounds {
             for case in rows::cases(random) {
                 let seen = case.compare(&mut self.rows, self.slips.walks)?;
                 self.tally.add_made(seen.number);
+            }
+        }
+        Ok(())
+    }
+
+    /// Rules made from expressions, sound, damaged and with faults.
+    fn expressions(&mut self, random: &mut Random) -> Result<(), String> {
+        self.expressions.begin(random.number());
+        for _ in 0..4 {
+            for case in expression::cases(random) {
+                let seen = case.compare(&mut self.expressions, self.slips.walks)?;
+                self.tally.add_expressed(seen.number);
             }
         }
         Ok(())

@@ -1,9 +1,9 @@
 //! What the rounds came to.
 use dapohiru_compare::checking;
+use dapohiru_compare::on_text::refused;
 use dapohiru_compare::pricing::By;
 use dapohiru_compare::promise::{Needed, Walked};
 use dapohiru_compare::records;
-use dapohiru_compare::rows;
 use dapohiru_compare::ruling;
 use dapohiru_compare::serving;
 use dapohiru_second::pricing;
@@ -21,6 +21,7 @@ pub struct Tally {
     pub priced_by: u64,
     taken: u64,
     made: u64,
+    expressed: u64,
     pub quiet: u64,
     pub alarm: u64,
     /// By number, up to 28.
@@ -36,7 +37,7 @@ pub struct Tally {
 }
 
 /// What each refusal means.
-const MEANINGS: [(usize, &str); 20] = [
+const MEANINGS: [(usize, &str); 22] = [
     (1, "the file is longer than 49,914 bytes"),
     (2, "a lent buffer is too short"),
     (3, "the file ends where a line is due"),
@@ -62,6 +63,8 @@ const MEANINGS: [(usize, &str); 20] = [
     (17, "rule rows, or a number of them or given with them"),
     (18, "two rule rows name one pair of state and symbol"),
     (19, "a pair of state and symbol has no rule row"),
+    (20, "an expression, or the symbols given with it"),
+    (21, "an expression has more than 16 states"),
     (
         28,
         "a price file is not exactly one B line for each of 16 symbols, in order",
@@ -113,8 +116,16 @@ impl Tally {
 
     /// Counts an answer of the call for rule rows, by its number.
     pub fn add_made(&mut self, number: u64) {
-        match rows::refused(number) {
+        match refused(number) {
             None => self.made += 1,
+            Some(number) => self.add_refused(number, 1),
+        }
+    }
+
+    /// Counts an answer of the call for an expression, by its number.
+    pub fn add_expressed(&mut self, number: u64) {
+        match refused(number) {
+            None => self.expressed += 1,
             Some(number) => self.add_refused(number, 1),
         }
     }
@@ -158,7 +169,8 @@ impl Tally {
     pub fn calls(&self) -> u64 {
         let checked = self.faithful + self.different;
         let priced = self.priced + self.priced_by;
-        let accepted = self.planned + self.listed + checked + priced + self.taken + self.made;
+        let made = self.taken + self.made + self.expressed;
+        let accepted = self.planned + self.listed + checked + priced + made;
         let on_walks = 2 * self.told.events - self.told.skipped;
         let refused: u64 = self.refused.iter().sum();
         accepted + self.quiet + self.alarm + on_walks + refused
@@ -177,6 +189,7 @@ impl fmt::Display for Tally {
             (self.priced_by, "plans priced by a price file"),
             (self.taken, "rules taken from jobs"),
             (self.made, "rules made from rows"),
+            (self.expressed, "rules made from expressions"),
             (self.quiet, "events quiet"),
             (self.alarm, "events with an alarm"),
             (self.walks, "walks with two monitors"),

@@ -52,6 +52,7 @@ fn rounds_find_no_difference_and_every_answer_comes() {
         "plans priced by a price file",
         "rules taken from jobs",
         "rules made from rows",
+        "rules made from expressions",
         "events quiet",
         "events with an alarm",
         "walks that came in again",
@@ -82,6 +83,12 @@ fn every_slip() -> Vec<String> {
         slip::Slip::PRICE_FILE.to_vec(),
         slip::Slip::RULE.to_vec(),
         slip::Slip::of_rows(),
+        // those of the rule buffer are among the ones of rows
+        slip::Slip::EXPRESSION_ORDER.to_vec(),
+        slip::Slip::EXPRESSION_GIVEN.to_vec(),
+        slip::Slip::EXPRESSION_GRAMMAR.to_vec(),
+        slip::Slip::EXPRESSION_WORDS.to_vec(),
+        slip::Slip::EXPRESSION_STATES.to_vec(),
     ];
     let of_walks = of_walks.concat();
     let of_walks = of_walks.iter().map(|slip| format!("{slip:?}"));

@@ -378,6 +378,72 @@ static void rule_of_256_rows_is_made(void)
     made(DAPOHIRU_ROW_MISSING, len - 32, 16, 16, 0x8000, DAPOHIRU_RULE_LEN);
 }
 
+/* The rule of EXPRESSION, row by row. */
+static const uint8_t OF_EXPRESSION[5][3] = {{1, 2, 2}, {3, 2, 4}, {2, 2, 2}, {3, 2, 4}, {3, 2, 4}};
+
+/* Whether the rule buffer has the rule of EXPRESSION, and what it held past it. */
+static int is_rule_of_expression(void)
+{
+    size_t q, a;
+    int same = all(rule + DAPOHIRU_RULE_LEN, PAST, FILL);
+
+    for (q = 0; q < 16; q++)
+        for (a = 0; a < 16; a++)
+            same = same && rule[16 * q + a] == (q < 5 && a < 3 ? OF_EXPRESSION[q][a] : 0);
+    return same;
+}
+
+/* Asks that an expression of this length, with these symbols and a rule buffer of this length, is refused by this number,
+   which leaves the rule buffer; and that no character is changed. */
+static void not_expressed(uint64_t number, const char *text, size_t len, uint64_t symbols, size_t rule_len)
+{
+    static uint8_t lent[300], kept[sizeof lent];
+
+    memset(lent, '*', sizeof lent);
+    memcpy(lent, text, strlen(text));
+    memcpy(kept, lent, sizeof lent);
+    memset(rule, FILL, sizeof rule);
+    HOLD(dapohiru_expression(lent, len, symbols, rule, rule_len) == number);
+    HOLD(all(rule, sizeof rule, FILL));
+    HOLD(memcmp(kept, lent, sizeof lent) == 0);
+}
+
+static void rule_is_made_from_an_expression_or_refused_by_number(void)
+{
+    static const size_t others[] = {0, 1, 255, 257, 256 + PAST};
+    static const char *const outside[] = {"*a", "|a", "a|", "()", "(", ")", "a()", "A", "a c", "q", "\n"};
+    const char *const letters = "aaaaaaaaaaaaaaa";
+    const uint8_t *const text = (const uint8_t *)EXPRESSION;
+    uint64_t answer;
+    size_t k;
+
+    memset(rule, FILL, sizeof rule);
+    answer = dapohiru_expression(text, EXPRESSION_LEN, 3, rule, DAPOHIRU_RULE_LEN);
+    HOLD(answer == DAPOHIRU_ACCEPTED + (UINT64_C(5) << 16) + 16);
+    HOLD(DAPOHIRU_EXPRESSION_STATES(answer) == 5 && DAPOHIRU_FINALS(answer) == 16);
+    HOLD(is_rule_of_expression());
+    for (k = 0; k < sizeof others / sizeof *others; k++) {
+        not_expressed(DAPOHIRU_BAD_RULE, EXPRESSION, EXPRESSION_LEN, 3, others[k]);
+        /* the length of the rule buffer is tested first */
+        not_expressed(DAPOHIRU_BAD_RULE, "(", 1, 0, others[k]);
+        not_expressed(DAPOHIRU_BAD_RULE, letters, 15, 1, others[k]);
+    }
+    for (k = 0; k < sizeof outside / sizeof *outside; k++)
+        not_expressed(DAPOHIRU_BAD_EXPRESSION, outside[k], strlen(outside[k]), 16, DAPOHIRU_RULE_LEN);
+    not_expressed(DAPOHIRU_BAD_EXPRESSION, "", 0, 3, DAPOHIRU_RULE_LEN);
+    not_expressed(DAPOHIRU_BAD_EXPRESSION, EXPRESSION, EXPRESSION_LEN, 0, DAPOHIRU_RULE_LEN);
+    not_expressed(DAPOHIRU_BAD_EXPRESSION, EXPRESSION, EXPRESSION_LEN, 2, DAPOHIRU_RULE_LEN);
+    not_expressed(DAPOHIRU_BAD_EXPRESSION, EXPRESSION, EXPRESSION_LEN, 17, DAPOHIRU_RULE_LEN);
+    not_expressed(DAPOHIRU_BAD_EXPRESSION, EXPRESSION, EXPRESSION_LEN, UINT64_C(3) << 32, DAPOHIRU_RULE_LEN);
+    /* stars follow, up to 64 characters and more */
+    not_expressed(DAPOHIRU_BAD_EXPRESSION, "a", DAPOHIRU_EXPRESSION_LEN + 1, 1, DAPOHIRU_RULE_LEN);
+    not_expressed(DAPOHIRU_BAD_EXPRESSION, "a", 257, 1, DAPOHIRU_RULE_LEN);
+    not_expressed(DAPOHIRU_BAD_EXPRESSION, letters, DAPOHIRU_EXPRESSION_LEN + 1, 1, DAPOHIRU_RULE_LEN);
+    not_expressed(DAPOHIRU_TOO_MANY_STATES, letters, 15, 1, DAPOHIRU_RULE_LEN);
+    HOLD(dapohiru_expression((const uint8_t *)letters, 14, 1, rule, DAPOHIRU_RULE_LEN)
+         == DAPOHIRU_ACCEPTED + (UINT64_C(16) << 16) + (1 << 14));
+}
+
 /* The files as they were. */
 static uint8_t kept_file[sizeof file], kept_volumes[sizeof volumes], kept_prices[sizeof prices];
 
@@ -528,6 +594,25 @@ static void events_are_taken_by_the_rule_of_the_rows(void)
 #undef TAKE
 }
 
+/* Events under the rule of an expression, with the numbers of its answer: a write to a sealed batch that nobody
+   reopened. */
+static void events_are_taken_by_the_rule_of_the_expression(void)
+{
+    uint64_t answer;
+
+    answer = dapohiru_expression((const uint8_t *)EXPRESSION, EXPRESSION_LEN, 3, rule, DAPOHIRU_RULE_LEN);
+#define TAKE(symbol) dapohiru_event(rule, DAPOHIRU_RULE_LEN, DAPOHIRU_EXPRESSION_STATES(answer), 3, \
+                                    DAPOHIRU_FINALS(answer), symbol, room, DAPOHIRU_RECORD_LEN)
+    put_record(0, 0);
+    HOLD(TAKE(0) == DAPOHIRU_QUIET && is_record(1, 0, 0));
+    HOLD(TAKE(2) == DAPOHIRU_ALARM && is_record(4, 1, 0));
+    HOLD(TAKE(2) == DAPOHIRU_ALARM && is_record(4, 2, 0));
+    HOLD(TAKE(3) == DAPOHIRU_BAD_SYMBOL && is_record(4, 2, 0));
+    HOLD(TAKE(1) == DAPOHIRU_QUIET && is_record(2, 2, 0));
+    HOLD(TAKE(0) == DAPOHIRU_QUIET && is_record(2, 2, 0));
+#undef TAKE
+}
+
 static void events_move_the_record_and_count_alarms(void)
 {
     uint8_t own[DAPOHIRU_RULE_LEN], kept[DAPOHIRU_RULE_LEN];
@@ -587,6 +672,8 @@ int main(void)
     plans_are_priced_by_a_file_or_refused_by_number();
     events_are_taken_by_the_rule_of_the_job();
     events_are_taken_by_the_rule_of_the_rows();
+    rule_is_made_from_an_expression_or_refused_by_number();
+    events_are_taken_by_the_rule_of_the_expression();
     events_move_the_record_and_count_alarms();
     printf("%d tests, %d failed\n", tests, failures);
     return failures == 0 && tests > 0 ? EXIT_SUCCESS : EXIT_FAILURE;

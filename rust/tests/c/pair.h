@@ -1,5 +1,5 @@
 /*
- * PAIR, the job of examples/pair.job, its listing, its rule in rows, a volume file with a thousand events at each node,
+ * PAIR, the job of examples/pair.job, its listing, its rule in rows, an expression over its symbols, a volume file with a thousand events at each node,
  * and a price file in which symbol 0 costs 12 cents and symbol 2 costs 150.
  */
 static const char PAIR[] = "J     3     3     3     2\n"
@@ -19,6 +19,7 @@ static const char ROWS[] = "Q     0     2     0     0     1\n"
                            "Q     0     2     1     1     0\n"
                            "Q     0     0     2     2     0\n"
                            "Q     1     2     2     2     2\n";
+static const char EXPRESSION[] = "a(a|c)*c";
 static const char VOLUMES[] = "V     0  1000\n"
                               "V     1  1000\n"
                               "V     2  1000\n";
@@ -41,5 +42,6 @@ static const char PRICES[] = "B     0    12\n"
 #define PAIR_LEN (sizeof PAIR - 1)
 #define LINES_LEN (sizeof LINES - 1)
 #define ROWS_LEN (sizeof ROWS - 1)
+#define EXPRESSION_LEN (sizeof EXPRESSION - 1)
 #define VOLUMES_LEN (sizeof VOLUMES - 1)
 #define PRICES_LEN (sizeof PRICES - 1)

@@ -1,9 +1,11 @@
 //! Random calls: rows that name every pair just once, and calls with faults.
-use super::memory::{self, Memory};
+use crate::library::Library;
 use crate::memory::start_of;
 use crate::on_file::OnFile;
-use crate::rulebuffer::{leaves, wrong_length};
-use crate::seen::{held_to, Seen};
+use crate::on_text::{self, refused, TextMemory};
+use crate::rulebuffer::wrong_length;
+use crate::rulecall::RuleCall;
+use crate::seen::Seen;
 use dapohiru_generators::random::Random;
 use dapohiru_generators::rows;
 use dapohiru_second::rows::{make, text, Call, Given, Row};
@@ -64,27 +66,34 @@ impl Case {
         }
         case
     }
+}
 
-    /// What the second implementation wants to be seen, with one slip or with none.
-    pub fn wanted(&self, slip: Option<Slip>) -> Seen {
+impl RuleCall for Case {
+    type Memory = TextMemory;
+    type Said = Option<u64>;
+
+    fn memory(library: Library) -> TextMemory {
+        TextMemory::new(library)
+    }
+
+    fn said(number: u64) -> Option<u64> {
+        refused(number)
+    }
+
+    fn seen(&self, memory: &mut TextMemory) -> Result<Seen, String> {
+        memory.call(&self.text, self.given, self.rule_len)
+    }
+
+    fn wanted(&self, slip: Option<Slip>) -> Seen {
         let call = Call {
             text: &self.text,
             given: self.given,
             rule_len: self.rule_len,
         };
-        memory::wanted(make(&call, slip))
+        on_text::wanted(make(&call, slip))
     }
 
-    /// What is seen of the library, or in words how it differs from the second implementation with this slip or with
-    /// none.
-    pub fn compare(&self, memory: &mut Memory, slip: Option<Slip>) -> Result<Seen, String> {
-        let wanted = self.wanted(slip);
-        let seen = memory.call(&self.text, self.given, self.rule_len);
-        held_to(&wanted, seen, leaves, self.words())
-    }
-
-    /// The call in words; of a long text only its start.
-    pub fn words(&self) -> String {
+    fn words(&self) -> String {
         let Given {
             states,
             symbols,

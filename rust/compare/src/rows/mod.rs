@@ -2,5 +2,5 @@
 mod cases;
 mod memory;
 
+pub use crate::on_text::{refused, TextMemory as Memory};
 pub use cases::{cases, Case};
-pub use memory::{refused, Memory};

@@ -1,9 +1,11 @@
 //! Random calls: jobs with buffers of the right lengths, and calls with faults.
-use super::memory::{self, Memory};
+use super::memory::{self, Memory, Said};
+use crate::library::Library;
 use crate::on_file::OnFile;
 use crate::on_job::{JobLent, OnJob};
-use crate::rulebuffer::{leaves, wrong_length};
-use crate::seen::{held_to, Seen};
+use crate::rulebuffer::wrong_length;
+use crate::rulecall::RuleCall;
+use crate::seen::Seen;
 use dapohiru_generators::damage::Damaged;
 use dapohiru_generators::faults::{possible, NUMBERS};
 use dapohiru_generators::random::Random;
@@ -56,9 +58,25 @@ impl Case {
         }
         self
     }
+}
 
-    /// What the second implementation wants to be seen, with one slip or with none.
-    pub fn wanted(&self, slip: Option<Slip>) -> Seen {
+impl RuleCall for Case {
+    type Memory = Memory;
+    type Said = Said;
+
+    fn memory(library: Library) -> Memory {
+        Memory::new(library)
+    }
+
+    fn said(number: u64) -> Said {
+        Said::of(number)
+    }
+
+    fn seen(&self, memory: &mut Memory) -> Result<Seen, String> {
+        memory.call(&self.on.file, self.on.work_len, self.rule_len)
+    }
+
+    fn wanted(&self, slip: Option<Slip>) -> Seen {
         let call = Call {
             file_len: self.on.file.len(),
             held: self.on.held(&self.job),
@@ -68,16 +86,7 @@ impl Case {
         memory::wanted(take(&call, slip))
     }
 
-    /// What is seen of the library, or in words how it differs from the second implementation with this slip or with
-    /// none.
-    pub fn compare(&self, memory: &mut Memory, slip: Option<Slip>) -> Result<Seen, String> {
-        let wanted = self.wanted(slip);
-        let seen = memory.call(&self.on.file, self.on.work_len, self.rule_len);
-        held_to(&wanted, seen, leaves, self.words())
-    }
-
-    /// The call in words; of a long file only its start.
-    pub fn words(&self) -> String {
+    fn words(&self) -> String {
         format!(
             "rule buffer of {} and work buffer of {} bytes, {}",
             self.rule_len,

@@ -1,43 +1,18 @@
 //! The library and the second implementation on the same calls.
-use dapohiru_compare::library::{Library, CALLS, GUARDED};
+use dapohiru_compare::library::{CALLS, GUARDED};
 use dapohiru_compare::memory::Counts;
 use dapohiru_compare::on_file::OnFile;
 use dapohiru_compare::rows::{cases, refused, Case, Memory};
-use dapohiru_compare::seen::Seen;
+use dapohiru_compare::rulecall::{self, RuleCall};
 use dapohiru_compare::wrapper::WRAPPER;
 use dapohiru_generators::random::Random;
 use dapohiru_generators::rows;
 use dapohiru_plain::rows as plain;
 use dapohiru_second::rows::{Given, Row};
 use std::collections::BTreeSet;
-use std::fmt::Display;
 
-/// Calls that the two are compared on, with counts of the refusals: by number, and by the wrapper.
-pub struct Calls {
-    memories: [Memory; 2],
-    pub counts: Counts<Option<u64>>,
-}
-
-impl Calls {
-    /// No call so far.
-    pub fn new() -> Self {
-        let libraries: [Library; 2] = [GUARDED, WRAPPER];
-        Calls {
-            memories: libraries.map(Memory::new),
-            counts: Counts::default(),
-        }
-    }
-
-    /// Makes a call in both ways, asks that each agrees with the second implementation, and gives what is seen of it.
-    #[track_caller]
-    pub fn agree(&mut self, name: impl Display, case: &Case) -> Seen {
-        let [by_number, by_wrapper] = &mut self.memories;
-        let compared = case.compare(by_number, None);
-        let compared = compared.and_then(|_| case.compare(by_wrapper, None));
-        self.counts
-            .agree(name, compared, |seen| refused(seen.number))
-    }
-}
+/// Calls that the two are compared on.
+pub type Calls = rulecall::Calls<Case>;
 
 /// A rule, and every refusal of the call.
 pub const ALL: [Option<u64>; 5] = [None, Some(13), Some(17), Some(18), Some(19)];

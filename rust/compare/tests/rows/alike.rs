@@ -2,6 +2,7 @@
 use crate::agreement::{Calls, ALL};
 use dapohiru_compare::damage::leads_replaced;
 use dapohiru_compare::rows::{cases, Case};
+use dapohiru_compare::rulecall::RuleCall;
 use dapohiru_generators::random::Random;
 use dapohiru_generators::rows::of_rule;
 use dapohiru_generators::samples::pair;

@@ -1,42 +1,15 @@
 //! The library and the second implementation on the same calls.
-use dapohiru_compare::library::{Library, GUARDED};
-use dapohiru_compare::memory::Counts;
-use dapohiru_compare::ruling::{cases, Case, Memory, Said};
-use dapohiru_compare::seen::Seen;
-use dapohiru_compare::wrapper::WRAPPER;
+use dapohiru_compare::library::GUARDED;
+use dapohiru_compare::rulecall::{self, RuleCall};
+use dapohiru_compare::ruling::{cases, Case, Said};
 use dapohiru_generators::mixed;
 use dapohiru_generators::random::Random;
 use dapohiru_generators::sized::{self, Sizes, FULL};
 use dapohiru_second::job::Job;
 use std::collections::BTreeSet;
-use std::fmt::Display;
 
-/// Calls that the two are compared on, with counts of the answers: by number, and by the wrapper.
-pub struct Calls {
-    memories: [Memory; 2],
-    pub counts: Counts<Said>,
-}
-
-impl Calls {
-    /// No call so far.
-    pub fn new() -> Self {
-        let libraries: [Library; 2] = [GUARDED, WRAPPER];
-        Calls {
-            memories: libraries.map(Memory::new),
-            counts: Counts::default(),
-        }
-    }
-
-    /// Makes a call in both ways, asks that each agrees with the second implementation, and gives what is seen of it.
-    #[track_caller]
-    pub fn agree(&mut self, name: impl Display, case: &Case) -> Seen {
-        let [by_number, by_wrapper] = &mut self.memories;
-        let compared = case.compare(by_number, None);
-        let compared = compared.and_then(|_| case.compare(by_wrapper, None));
-        self.counts
-            .agree(name, compared, |seen| Said::of(seen.number))
-    }
-}
+/// Calls that the two are compared on.
+pub type Calls = rulecall::Calls<Case>;
 
 /// A job: a small one, one of any sizes, one with 512 nodes or one with the longest file.
 pub fn job(random: &mut Random, number: usize) -> Job {

@@ -2,6 +2,7 @@
 use dapohiru_compare::guarded::lend_longer;
 use dapohiru_compare::library::{Library, CALLS, GUARDED};
 use dapohiru_compare::rulebuffer::{LENGTHS, MOST_RULE};
+use dapohiru_compare::rulecall::RuleCall;
 use dapohiru_compare::ruling::{Case, Memory};
 use dapohiru_compare::wrapper::WRAPPER;
 use dapohiru_generators::samples::{in_loop, pair, points};

@@ -5,10 +5,11 @@ mod pairs;
 mod text;
 
 use crate::job::{spell, Line};
-use crate::outcome;
 use crate::rulebuffer::RuleBuffer;
 use crate::slip::Slip;
 use pairs::Pairs;
+
+pub use crate::rulebuffer::{Answer, Outcome};
 
 /// The letter of a row.
 pub const LETTER: u8 = b'Q';
@@ -70,18 +71,7 @@ pub struct Call<'a> {
     pub rule_len: usize,
 }
 
-/// The answer to a call.
-#[derive(Clone, Copy, Debug, PartialEq, Eq)]
-pub enum Answer {
-    /// With what is added to 2^48: nothing, but for slips.
-    Made(u64),
-    Refused(u64),
-}
-
-/// What a call leaves in the rule buffer; it is lent no work buffer.
-pub type Outcome = outcome::Outcome<Answer>;
-
-/// What a call leaves, with one slip or with none.
+/// What a call leaves, with one slip or with none. Nothing is added to 2^48 for a rule, but for slips.
 pub fn make(call: &Call, slip: Option<Slip>) -> Outcome {
     let making = Making { slip };
     let rule = RuleBuffer {
