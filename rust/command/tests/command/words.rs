@@ -340,7 +340,7 @@ fn words_that_do_not_go_together_are_told() {
         ),
         (
             &["rule", &rows, "--svg", "--seconds=0"],
-            "rule: --seconds is 0, and a picture may take 1 to 3600",
+            "rule: --seconds is `0`, and a picture may take 1 to 3600",
         ),
     ] {
         let wrong = format!("dapohiru: {why}\n");
