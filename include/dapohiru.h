@@ -1,10 +1,10 @@
 /*
  * Planning, listing, the plan check, the journal price of a plan by the house table and by a price file, the rule of a
- * job, the rule that rows make, and the event step of the monitor: the eight calls of the static library
- * libdapohiru.a, for C (from C99 on) and C++.
+ * job, the rule that rows make, the rule that an expression makes, and the event step of the monitor: the nine calls of
+ * the static library libdapohiru.a, for C (from C99 on) and C++.
  *
  * Each call gets byte buffers, each as a pointer and a length, and returns one 64-bit number. A number
- * from 1 to 19, or 28, is a refusal. Every other answer has DAPOHIRU_ACCEPTED added.
+ * from 1 to 21, or 28, is a refusal. Every other answer has DAPOHIRU_ACCEPTED added.
  *
  * The caller owns every buffer, before and after. Buffers marked const are only read. A pointer is valid
  * for its length; where the length is 0 it is not looked at, and may be anything but NULL. Buffers that a
@@ -26,11 +26,12 @@
 extern "C" {
 #endif
 
-/* Lengths in bytes. A job file, volume file or text of rows may be shorter, and the three buffers may be longer. */
+/* Lengths in bytes. A job file, volume file, text of rows or expression may be shorter, and the three buffers may be longer. */
 #define DAPOHIRU_JOB_LEN 49914     /* the longest job file */
 #define DAPOHIRU_VOLUMES_LEN 7168  /* the longest volume file: 14 bytes for each of 512 nodes */
 #define DAPOHIRU_PRICES_LEN 224    /* a price file: 14 bytes for each of 16 symbols */
 #define DAPOHIRU_ROWS_LEN 8192     /* the longest text of rule rows: 32 bytes for each of 256 rows */
+#define DAPOHIRU_EXPRESSION_LEN 64 /* the longest expression */
 #define DAPOHIRU_WORK_LEN 65536    /* the shortest work buffer */
 #define DAPOHIRU_PLAN_LEN 512      /* the shortest plan buffer for planning */
 #define DAPOHIRU_LISTING_LEN 32768 /* the shortest listing buffer */
@@ -63,6 +64,9 @@ extern "C" {
 #define DAPOHIRU_SYMBOLS(answer) ((answer) >> 16 & 0xffff)
 #define DAPOHIRU_FINALS(answer) ((answer) & 0xffff)
 
+/* The states in the answer of dapohiru_expression, when it is accepted; DAPOHIRU_FINALS has its final states. */
+#define DAPOHIRU_EXPRESSION_STATES(answer) ((answer) >> 16 & 0xffff)
+
 /*
  * Refusals. The lowest that applies is returned; the lines of a file are tested in turn, 3 to 8 on each.
  * A field is a number in six columns: spaces or none, then digits, of which the first may be zeros.
@@ -87,6 +91,8 @@ extern "C" {
 #define DAPOHIRU_BAD_ROWS 17         /* rule rows: their S, A or final set, their count, a row's form, a number; a first above a last */
 #define DAPOHIRU_ROWS_OVERLAP 18     /* two rule rows name one pair of state and symbol, also with one next state */
 #define DAPOHIRU_ROW_MISSING 19      /* a pair of state and symbol has no rule row */
+#define DAPOHIRU_BAD_EXPRESSION 20   /* an expression: its A, its length, its grammar, a letter past A */
+#define DAPOHIRU_TOO_MANY_STATES 21  /* an expression of more than 16 states */
 #define DAPOHIRU_BAD_PRICES 28       /* the price file is not exactly one B line for each of 16 symbols, in order */
 
 /*
@@ -148,6 +154,20 @@ uint64_t dapohiru_rule(const uint8_t *job, size_t job_len, uint8_t *work, size_t
 uint64_t dapohiru_rows(const uint8_t *rows, size_t rows_len, uint64_t states, uint64_t symbols, uint64_t finals, uint8_t *rule, size_t rule_len);
 
 /*
+ * Makes a rule from an expression, for dapohiru_event with the same symbols: an event alarms exactly when the events so
+ * far, from state 0 on, form a word of the expression's language. The symbols are the letters a to p; a star binds
+ * first, then following on, then the bar; parentheses group, and stars may follow one another. State 0 is the start,
+ * which is not final and which no event leads back to; every other state is a set of letters of the text, those that the
+ * last event can stand for in a word that begins with the events so far, numbered as first met, breadth first and
+ * symbols ascending. Writes all DAPOHIRU_RULE_LEN bytes of rule, the next state of state q on symbol a at 16 * q + a, and
+ * 0 past the states and symbols. Returns DAPOHIRU_ACCEPTED plus states times 2^16 and the set of final states. 13 where
+ * rule_len is not DAPOHIRU_RULE_LEN, tested before all else; then 20 for symbols outside 1 to 16, a text_len above
+ * DAPOHIRU_EXPRESSION_LEN, a text that is empty or outside the grammar, or a letter past symbols; then 21. They leave
+ * rule as it was. The call is lent no work buffer.
+ */
+uint64_t dapohiru_expression(const uint8_t *text, size_t text_len, uint64_t symbols, uint8_t *rule, size_t rule_len);
+
+/*
  * Takes one event: moves the record to the next state, and raises its alarm total by one at an alarm; the total
  * stays at 2^64-1 once there. The next state of state q on symbol a is rule[16 * q + a]; bytes past S rows and A
  * columns have no meaning. finals has bit q for a final state q. Returns DAPOHIRU_QUIET or DAPOHIRU_ALARM. Refusals 13
@@ -165,7 +185,8 @@ uint64_t dapohiru_rows(const uint8_t *rows, size_t rows_len, uint64_t states, ui
  *            is the fourth field of the node's P line: in a file that is accepted the six columns from byte
  *            26 + states * (14 + 6 * symbols) + 38 * node + 19 on
  * A rule and numbers of dapohiru_rule are never refused as 13, and no more is a rule of dapohiru_rows with the numbers
- * that it was given.
+ * that it was given, or one of dapohiru_expression with the symbols that it was given, DAPOHIRU_EXPRESSION_STATES and
+ * DAPOHIRU_FINALS of its answer.
  */
 uint64_t dapohiru_event(const uint8_t *rule, size_t rule_len, uint64_t states, uint64_t symbols, uint64_t finals, uint64_t symbol, uint8_t *rec, size_t rec_len);
 

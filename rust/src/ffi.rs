@@ -84,4 +84,13 @@ extern "C" {
         rule: *mut u8,
         rule_len: usize,
     ) -> u64;
+
+    /// `#[no_mangle] pub extern "C" fn dapohiru_expression(text: &[u8], symbols: u64, rule: &mut [u8]) -> u64`
+    pub fn dapohiru_expression(
+        text: *const u8,
+        text_len: usize,
+        symbols: u64,
+        rule: *mut u8,
+        rule_len: usize,
+    ) -> u64;
 }

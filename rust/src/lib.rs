@@ -1,5 +1,6 @@
-//! Planning, listing, the plan check, the journal price of a plan, the rule of a job, rule rows and the
-//! event step of the monitor, for Rust: safe forms of the C calls in the proved static library.
+//! Planning, listing, the plan check, the journal price of a plan, the rule of a job, rules from rows and
+//! from expressions, and the event step of the monitor, for Rust: safe forms of the C calls in the proved
+//! static library.
 //!
 //! A job file holds a rule over events and the flow graph of a procedure. [`Job`] is what a service makes of
 //! it: the plan, the rule, the points and the entries, with functions that take the procedure's events.
@@ -7,9 +8,10 @@
 //! Below it are the proved calls. [`plan`] says which points of the graph must stay watched, [`list`] what
 //! was found at each, [`check`] whether somebody else's plan is faithful, [`price()`] what the journal lines of
 //! a plan's watched points cost a day, [`price_by`] what they cost by an association's own prices; [`rule()`]
-//! takes the rule out of the file, [`rows()`] makes one from the rows of an office, and [`event`] (or
-//! [`Rule::event`]) takes one event on the record of a running monitor.
-//! A refusal carries its number, 1 to 19 or 28, as documents 01 and 02 list it. The functions of
+//! takes the rule out of the file, [`rows()`] makes one from the rows of an office, [`expression()`] from an
+//! officer's expression, and [`event`] (or [`Rule::event`]) takes one event on the record of a running
+//! monitor.
+//! A refusal carries its number, 1 to 21 or 28, as documents 01 and 02 list it. The functions of
 //! [`numbers`] are the C calls as they are; those of [`planfile`] read and write plans as files.
 //!
 //! The calls keep nothing between them and share nothing: any number of threads may be in them, each
@@ -98,6 +100,7 @@
 //! ```
 mod answer;
 mod error;
+mod expression;
 mod ffi;
 mod job;
 pub mod numbers;
@@ -109,6 +112,7 @@ mod rows;
 
 pub use answer::{Counts, Refusal, Report, Verdict};
 pub use error::{JobError, NoPoint, NotAdmitted, ReportError};
+pub use expression::expression;
 pub use job::{Entry, Job, Point};
 pub use price::{price, price_by};
 pub use record::{rule, Record, Rule};
@@ -127,6 +131,8 @@ pub const VOLUMES_LEN: usize = 7_168;
 pub const PRICES_LEN: usize = 224;
 /// The greatest length of a text of rule rows: 32 bytes for each of 256 rows.
 pub const ROWS_LEN: usize = 8_192;
+/// The greatest length of an expression.
+pub const EXPRESSION_LEN: usize = 64;
 /// The least length of a work buffer, and the bytes of it that an answer clears.
 pub const WORK_LEN: usize = 65_536;
 /// The least length of a plan buffer.

@@ -1,10 +1,10 @@
 //! The C calls as they are, on byte slices, in the order of their C arguments: each returns one number.
 //!
-//! A refusal is its number, 1 to 19 or 28. Every other answer has 2^48 added: planning returns event
+//! A refusal is its number, 1 to 21 or 28. Every other answer has 2^48 added: planning returns event
 //! nodes times 2^32, watched points times 2^16 and passes, listing the length of its lines, the check 0
 //! for faithful and 1 for different, pricing the cents, the event step 0 for quiet and 1 for alarm, the
-//! call for a job's rule the states times 2^32, the symbols times 2^16 and the set of final states, and
-//! the call for rule rows 0.
+//! call for a job's rule the states times 2^32, the symbols times 2^16 and the set of final states, the
+//! call for rule rows 0, and the call for an expression the states times 2^16 and the set of final states.
 //!
 //! ```
 //! use dapohiru::numbers::{event, ALARM};
@@ -168,6 +168,35 @@ pub fn rows(rows: &[u8], states: u64, symbols: u64, finals: u64, rule: &mut [u8]
             states,
             symbols,
             finals,
+            rule.as_mut_ptr(),
+            rule.len(),
+        )
+    }
+}
+
+/// The number of [`crate::expression()`]; the table is written to `rule`, which is exactly 256 bytes, or else
+/// the call is refused as 13, before anything else is looked at. A refusal leaves `rule` as it was.
+///
+/// ```
+/// use dapohiru::numbers::{expression, ACCEPTED};
+///
+/// // the start, the one letter, and nothing
+/// let mut table = [7; 256];
+/// assert_eq!(expression(b"a", 1, &mut table[1..]), 13);
+/// assert_eq!(table, [7; 256]);
+/// assert_eq!(expression(b"a", 1, &mut table), ACCEPTED + (3 << 16) + 0b10);
+/// assert_eq!((table[0], table[16], table[32]), (1, 2, 2));
+/// assert_eq!(table.iter().sum::<u8>(), 5);
+/// ```
+#[inline]
+pub fn expression(text: &[u8], symbols: u64, rule: &mut [u8]) -> u64 {
+    // SAFETY: each pointer and length are of one slice, `text` is only read, and nothing else holds
+    // `rule` during the call.
+    unsafe {
+        ffi::dapohiru_expression(
+            text.as_ptr(),
+            text.len(),
+            symbols,
             rule.as_mut_ptr(),
             rule.len(),
         )

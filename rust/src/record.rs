@@ -2,7 +2,7 @@
 use crate::{event, numbers, Refusal, Report, RECORD_LEN, RULE_LEN};
 
 /// A rule: states 0 to `states` - 1, symbols 0 to `symbols` - 1. [`rule`] takes it from a job file,
-/// [`crate::rows()`] makes it from rows.
+/// [`crate::rows()`] makes it from rows, [`crate::expression()`] from an expression.
 #[derive(Clone, Debug, PartialEq, Eq)]
 pub struct Rule {
     /// The next state of state q on symbol a, at 16 q + a; other places have no meaning.

@@ -93,7 +93,7 @@ fn header_and_wrapper_declare_the_same_calls() {
     wrapper.sort();
     header.sort();
     assert_eq!(header, wrapper);
-    assert_eq!(header.len(), 8);
+    assert_eq!(header.len(), 9);
 }
 
 #[test]
@@ -127,7 +127,7 @@ fn wrapper_names_the_signatures_of_the_rattle_source() {
         let of_call = declared.into_iter().find(|call| call.0 == name);
         assert_eq!(of_call.expect("it is declared").1, flat, "{name}");
     }
-    assert_eq!(signatures.len(), 8);
+    assert_eq!(signatures.len(), 9);
 }
 
 /// A Rattle argument as C has it.
@@ -163,6 +163,7 @@ fn lengths_and_answers_of_the_header_are_those_of_the_wrapper() {
         ("VOLUMES_LEN", dapohiru::VOLUMES_LEN),
         ("PRICES_LEN", dapohiru::PRICES_LEN),
         ("ROWS_LEN", dapohiru::ROWS_LEN),
+        ("EXPRESSION_LEN", dapohiru::EXPRESSION_LEN),
         ("WORK_LEN", dapohiru::WORK_LEN),
         ("PLAN_LEN", dapohiru::PLAN_LEN),
         ("LISTING_LEN", dapohiru::LISTING_LEN),
@@ -186,10 +187,12 @@ fn lengths_and_answers_of_the_header_are_those_of_the_wrapper() {
         let from = format!("DAPOHIRU_{name} of its answer: answer{shift} & 0xffff");
         assert!(header.contains(&from), "{from}");
     }
+    let states = "#define DAPOHIRU_EXPRESSION_STATES(answer) ((answer) >> 16 & 0xffff) ";
+    assert!(header.contains(states), "{states}");
     let refusals: Vec<_> = between(&header, "#define DAPOHIRU_", " /*")
         .filter_map(|definition| definition.split_once(' '))
         .filter(|(name, _)| !name.ends_with("_LEN"))
         .filter_map(|(_, value)| value.parse::<u64>().ok())
         .collect();
-    assert_eq!(refusals, (1..=19).chain([28]).collect::<Vec<_>>());
+    assert_eq!(refusals, (1..=21).chain([28]).collect::<Vec<_>>());
 }
