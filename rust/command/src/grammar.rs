@@ -174,3 +174,36 @@ impl<'a> Reader<'a> {
         }
     }
 }
+
+#[cfg(test)]
+mod tests {
+    use super::*;
+
+    /// Whether the reader finds a fault.
+    fn has_fault(text: &[u8], symbols: usize) -> bool {
+        let letters = Letters::plain(text);
+        Reader::new(&letters, symbols).fault().is_some()
+    }
+
+    #[test]
+    fn reader_finds_a_fault_exactly_where_the_call_refuses_with_20() {
+        let mut texts = vec![Vec::new()];
+        let mut counts = [0; 2];
+        for _ in 0..=5 {
+            for text in &texts {
+                let call = dapohiru::expression(text, 2);
+                let is_refused = call == Err(Refusal(20));
+                assert_eq!(has_fault(text, 2), is_refused, "{}", text.escape_ascii());
+                counts[usize::from(is_refused)] += 1;
+            }
+            let longer = |text: &Vec<u8>| {
+                let more = b"abc*|() x\xff".iter();
+                let longer = more.map(|&byte| [&text[..], &[byte]].concat());
+                longer.collect::<Vec<_>>()
+            };
+            texts = texts.iter().flat_map(longer).collect();
+        }
+        println!("accepted and refused: {counts:?}");
+        assert!(counts.iter().all(|&count| count > 100), "{counts:?}");
+    }
+}
