@@ -53,8 +53,7 @@ pub struct Letters<'a> {
 impl<'a> Letters<'a> {
     /// What was typed, as it is.
     pub fn plain(typed: &'a [u8]) -> Self {
-        let mut letters = Letters::of_names(typed);
-        letters.with_names = false;
+        let mut letters = Letters::none(typed, false);
         for chunk in typed.utf8_chunks() {
             for letter in chunk.valid().chars() {
                 let first = letters.text.len();
@@ -72,13 +71,13 @@ impl<'a> Letters<'a> {
         letters
     }
 
-    /// None yet of what was typed, with names.
-    pub fn of_names(typed: &'a [u8]) -> Self {
+    /// None yet of what was typed, in which there may be names or not.
+    pub fn none(typed: &'a [u8], with_names: bool) -> Self {
         Letters {
             typed,
             text: Vec::new(),
             places: Vec::new(),
-            with_names: true,
+            with_names,
         }
     }
 

@@ -36,7 +36,7 @@ pub fn letters<'a>(typed: &'a [u8], names: &Names, symbols: usize) -> Result<Let
         names,
         symbols,
     };
-    let mut letters = Letters::of_names(typed);
+    let mut letters = Letters::none(typed, true);
     let mut at = 0;
     while at < typed.len() {
         if typed[at] == b' ' {
@@ -99,7 +99,8 @@ impl Named<'_> {
             let (len, end) = (name.len(), at + name.len());
             let ends = || end == typed.len() || is_apart(typed[end]) || is_apart(typed[end - 1]);
             if rest.starts_with(name.as_bytes()) && ends() && !(is_letter && len == 1) {
-                let is = format!("`{}`, the name of symbol {symbol}", shown::text(name));
+                let name = shown::text(name);
+                let is = format!("`{name}`, the name of symbol {symbol} ({shown})");
                 readings.push(Reading { letter, len, is });
             }
         }
@@ -119,7 +120,7 @@ impl Named<'_> {
                 let ways: Vec<_> = readings.iter().map(|reading| reading.is.as_str()).collect();
                 let ways = ways.join(", and ");
                 let expected = format!(
-                    "what can be read in one way alone; this is {ways}: give another name, or leave out --names and write letters"
+                    "what can be read in one way alone; this is {ways}: take the letter instead of the name or the name instead of the letter, or give another name"
                 );
                 ("a word of the expression can be read in two ways", expected)
             }

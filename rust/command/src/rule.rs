@@ -3,6 +3,7 @@ use crate::args::{Command, Given};
 use crate::expression::{Letters, Typed};
 use crate::made::{Form, Origin, FORMS};
 use crate::names::{File, Names};
+use crate::place::SIZES;
 use crate::sizes::{Size, Sizes};
 use crate::{input, naming, output, refusal};
 use std::ffi::OsStr;
@@ -150,7 +151,8 @@ fn of_expression(given: &Given, form: &Form, asked: &OsStr) -> Result<u8, String
         (Some(names), Some(symbols)) => {
             let file = File::read(Some(names))?;
             // how many states there are the call finds
-            let names = Names::of_rule(&file, 16, symbols)?;
+            let most = SIZES[0].2 as usize;
+            let names = Names::of_rule(&file, most, symbols)?;
             match naming::letters(&typed.text, &names, symbols) {
                 Ok(letters) => {
                     let origin = origin.with_letters(&typed.text, &letters.text);

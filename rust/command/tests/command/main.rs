@@ -22,6 +22,7 @@ mod release;
 mod rule;
 mod rule_drawn;
 mod rule_expression;
+mod rule_expression_any;
 mod rule_expression_faults;
 mod rule_faults;
 mod rule_naming;

@@ -1,4 +1,5 @@
 //! Rules of expressions: R lines, the other forms, and the job that they make.
+use crate::child::with_dot;
 use crate::json::is_document;
 use crate::program::{example, file, folder, names, run, shell, Done, PAIR};
 use std::fs;
@@ -126,14 +127,12 @@ fn every_form_shows_the_rule_of_the_same_rows() {
 }
 
 #[test]
-fn pictures_are_drawn_where_dot_is_installed() {
-    let (status, printed, wrong) = expressed(SEALED, "3", &["--svg"]);
-    if wrong.contains("is not installed") {
-        assert_eq!((status, printed.as_str()), (2, ""));
-    } else {
-        assert_eq!((status, wrong.as_str()), (0, ""));
-        assert_eq!(printed.matches("class=\"node\"").count(), 5);
-    }
+fn pictures_are_of_the_same_graph() {
+    let (_, graph, _) = expressed(SEALED, "3", &["--dot"]);
+    let words = ["rule", "--expression", SEALED, "--symbols=3", "--svg"];
+    let dot = "#!/bin/sh\nexec cat\n";
+    let done = with_dot(&folder("expression-picture"), dot, &words);
+    assert_eq!(done, (0, graph, String::new()));
 }
 
 #[test]

@@ -22,7 +22,7 @@ fn named_by(folder: &Path, names: &str, text: &str) -> Done {
 
 /// What is expected of a word that can be read in these ways.
 fn one_way(ways: &str) -> String {
-    format!("what can be read in one way alone; this is {ways}: give another name, or leave out --names and write letters")
+    format!("what can be read in one way alone; this is {ways}: take the letter instead of the name or the name instead of the letter, or give another name")
 }
 
 #[test]
@@ -162,52 +162,52 @@ fn what_can_be_read_in_two_ways_is_refused() {
             "0 seal\n2 a\n",
             "a b",
             "column 1: found `a`",
-            "a, the letter of symbol 0 seal, and `a`, the name of symbol 2",
+            "a, the letter of symbol 0 seal, and `a`, the name of symbol 2 (c)",
         ),
         // two symbols of one name
         (
             "0 seal\n1 seal\n",
             "c|seal",
             "columns 3 to 6: found `seal`",
-            "`seal`, the name of symbol 0, and `seal`, the name of symbol 1",
+            "`seal`, the name of symbol 0 (a), and `seal`, the name of symbol 1 (b)",
         ),
         // a name that begins another
         (
             "0 close\n1 again\n2 close again\n",
             "close again",
             "columns 1 to 11: found `close again`",
-            "`close`, the name of symbol 0, and `close again`, the name of symbol 2",
+            "`close`, the name of symbol 0 (a), and `close again`, the name of symbol 2 (c)",
         ),
         (
             "0 seal\n1 seal*\n",
             "seal* d",
             "columns 1 to 5: found `seal*`",
-            "`seal`, the name of symbol 0, and `seal*`, the name of symbol 1",
+            "`seal`, the name of symbol 0 (a), and `seal*`, the name of symbol 1 (b)",
         ),
         (
             "0 seal\n1 seal*\n",
             "seal*d",
             "columns 1 to 5: found `seal*`",
-            "`seal`, the name of symbol 0, and `seal*`, the name of symbol 1",
+            "`seal`, the name of symbol 0 (a), and `seal*`, the name of symbol 1 (b)",
         ),
         // a name that begins with a sign
         (
             "0 x\n1 (x)\n",
             "(x)",
             "columns 1 to 3: found `(x)`",
-            "the sign `(`, and `(x)`, the name of symbol 1",
+            "the sign `(`, and `(x)`, the name of symbol 1 (b)",
         ),
         (
             "0 b c\n",
             "d b c",
             "columns 3 to 5: found `b c`",
-            "`b c`, the name of symbol 0, and b, the letter of symbol 1",
+            "`b c`, the name of symbol 0 (a), and b, the letter of symbol 1",
         ),
         (
             "1 *\n",
             "a*",
             "column 2: found `*`",
-            "the sign `*`, and `*`, the name of symbol 1",
+            "the sign `*`, and `*`, the name of symbol 1 (b)",
         ),
     ] {
         let done = named_by(&folder, names, text);
