@@ -36,7 +36,7 @@ pub fn drawn(automaton: &Automaton, names: &Names) -> String {
 /// Ascending symbols: those with a name one by one, each in a line; of the others those that follow one another as
 /// a range.
 fn symbols_label(symbols: &[usize], names: &Names) -> String {
-    let is_named = |symbol: usize| names.has_symbol(symbol);
+    let is_named = |symbol: usize| names.name_of_symbol(symbol).is_some();
     let mut ranges: Vec<(usize, usize)> = Vec::new();
     for &symbol in symbols {
         match ranges.last_mut() {

@@ -71,7 +71,7 @@ impl Drawer {
         match asked.to_str().and_then(|asked| asked.parse().ok()) {
             Some(seconds @ 1..=3600) => Ok(Duration::from_secs(seconds)),
             _ => Err(format!(
-                "{}: --seconds is {}, and a picture may take 1 to 3600",
+                "{}: --seconds is `{}`, and a picture may take 1 to 3600",
                 self.command,
                 shown::name(asked)
             )),

@@ -78,7 +78,12 @@ pub fn hint(text: &[u8]) -> Option<String> {
 
 /// What is added to a message about a file: nothing, or a line with the hint.
 pub fn told(text: &[u8]) -> String {
-    let hint = hint(text).map(|hint| format!("\n  the file has {hint}"));
+    line(hint(text).as_ref())
+}
+
+/// The line with a hint, if there is one.
+pub fn line(hint: Option<&String>) -> String {
+    let hint = hint.map(|hint| format!("\n  the file has {hint}"));
     hint.unwrap_or_default()
 }
 

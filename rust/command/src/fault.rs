@@ -1,16 +1,33 @@
-//! A fault of a job file, a volume file, a price file, rule rows or a plan, with its place; the first fault of a
-//! line.
+//! A fault of a job file, a volume file, a price file, rule rows, an expression or a plan, with its place; the first
+//! fault of a line.
 use crate::encoding::{self, MARK};
 use crate::shown;
 use dapohiru_second::reading;
 
-/// A fault of a file, or of a plan.
+/// Where a fault stands: its line in a text of lines, and its first and last column, counted from 1.
+#[derive(Debug, PartialEq, Eq)]
+pub struct Place {
+    pub line: Option<usize>,
+    pub columns: (usize, usize),
+}
+
+impl Place {
+    /// Columns of a line.
+    pub fn in_line(line: usize, first: usize, last: usize) -> Self {
+        Place {
+            line: Some(line),
+            columns: (first, last),
+        }
+    }
+}
+
+/// A fault of a file, of a plan or of an expression.
 #[derive(Debug, PartialEq, Eq)]
 pub struct Fault {
     /// The refusal that it deserves.
     pub number: u64,
-    /// The line and its first and last column, counted from 1, where the fault has a place.
-    pub place: Option<(usize, usize, usize)>,
+    /// Where it stands, if it has a place.
+    pub place: Option<Place>,
     /// What stands there.
     pub found: String,
     pub expected: String,
@@ -38,7 +55,7 @@ impl Due<'_> {
         let wrong = |first: usize, last: usize, expected| {
             Some(Fault {
                 number: self.number,
-                place: Some((self.line, first, last)),
+                place: Some(Place::in_line(self.line, first, last)),
                 found: found(bytes.get(first - 1..).unwrap_or_default(), last + 1 - first),
                 expected,
             })
@@ -93,7 +110,7 @@ impl Due<'_> {
     pub fn field_fault(self, field: usize, number: u64, expected: String) -> Fault {
         Fault {
             number: self.number,
-            place: Some((self.line, 6 * field + 2, 6 * field + 7)),
+            place: Some(Place::in_line(self.line, 6 * field + 2, 6 * field + 7)),
             found: number.to_string(),
             expected,
         }
@@ -116,7 +133,7 @@ impl Due<'_> {
     pub fn end_fault(self) -> Option<Fault> {
         Some(Fault {
             number: self.number,
-            place: Some((self.line, 1, 1)),
+            place: Some(Place::in_line(self.line, 1, 1)),
             found: format!("`{}`", shown::bytes(self.bytes.get(..1)?)),
             expected: "the end of the file".to_string(),
         })

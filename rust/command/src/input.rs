@@ -65,6 +65,15 @@ pub fn numbered(name: &OsStr) -> Result<Input, String> {
     read(name, NUMBERED_FILE)
 }
 
+/// Reads a file of at most so many bytes, whole.
+pub fn whole(name: &OsStr, most: usize) -> Result<Input, String> {
+    let file = read(name, most + 1)?;
+    match file.bytes.len() > most {
+        true => Err(format!("{}: longer than {most} bytes", file.shown)),
+        false => Ok(file),
+    }
+}
+
 /// Reads a file, or standard input for `-`, up to so many bytes.
 pub fn read(name: &OsStr, most: usize) -> Result<Input, String> {
     let (shown, file): (_, Box<dyn Read>) = if name == "-" {

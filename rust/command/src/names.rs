@@ -35,6 +35,20 @@ pub struct Names {
     named: [Vec<Option<String>>; 3],
 }
 
+/// A file of names, if one is given, as it was read.
+#[derive(Default)]
+pub struct File(Option<Input>);
+
+impl File {
+    pub fn read(name: Option<&OsStr>) -> Result<Self, String> {
+        let Some(name) = name else {
+            return Ok(File(None));
+        };
+        let file = input::whole(name, NAMES_FILE)?;
+        Ok(File(Some(file)))
+    }
+}
+
 /// The file of the names that are asked for, which are shown with one of these options alone.
 pub fn asked<'a>(
     given: &'a Given,
@@ -54,29 +68,26 @@ impl Names {
     /// The names for a job in a file, or none: a line for each name.
     pub fn read(file: Option<&OsStr>, job: &Job) -> Result<Self, String> {
         let counts = [job.symbols as usize, job.nodes.len(), job.states()];
-        Names::read_for(file, ["the job"; 3], counts)
+        Names::of(&File::read(file)?, ["the job"; 3], counts)
     }
 
     /// The same for a rule of so many states and symbols. Nodes of the job that the rule is for may be named too.
-    pub fn of_rule(file: Option<&OsStr>, states: usize, symbols: usize) -> Result<Self, String> {
+    pub fn of_rule(file: &File, states: usize, symbols: usize) -> Result<Self, String> {
         let owners = ["the rule", "a job", "the rule"];
-        Names::read_for(file, owners, [symbols, dapohiru::PLAN_LEN, states])
+        Names::of(file, owners, [symbols, dapohiru::PLAN_LEN, states])
     }
 
-    fn read_for(
-        file: Option<&OsStr>,
+    /// The names in a file for so many of each kind.
+    fn of(
+        File(file): &File,
         owners: [&'static str; 3],
         counts: [usize; 3],
     ) -> Result<Self, String> {
         let named = counts.map(|count| vec![None; count]);
         let mut names = Names { owners, named };
-        let Some(file) = file else {
+        let Some(Input { shown, bytes }) = file else {
             return Ok(names);
         };
-        let Input { shown, bytes } = input::read(file, NAMES_FILE + 1)?;
-        if bytes.len() > NAMES_FILE {
-            return Err(format!("{shown}: longer than {NAMES_FILE} bytes"));
-        }
         for (place, line) in bytes.split_inclusive(|&byte| byte == b'\n').enumerate() {
             let line = line.strip_suffix(b"\n").unwrap_or(line);
             let named = entry(line).ok_or_else(|| {
@@ -86,7 +97,7 @@ impl Names {
             named
                 .and_then(|(kind, number, name)| names.add(kind, number, name))
                 .map_err(|why| {
-                    let hint = encoding::told(&bytes);
+                    let hint = encoding::told(bytes);
                     format!("{shown}: line {}: {why}{hint}", place + 1)
                 })?;
         }
@@ -110,27 +121,32 @@ impl Names {
         }
     }
 
+    /// The name of a number, if it has one.
+    fn name(&self, kind: Kind, number: usize) -> Option<&str> {
+        self.named[kind as usize].get(number)?.as_deref()
+    }
+
     /// A number, with its name if it has one.
-    fn of(&self, kind: Kind, number: usize) -> String {
-        match self.named[kind as usize].get(number) {
-            Some(Some(name)) => format!("{number} {}", shown::text(name)),
-            _ => number.to_string(),
+    fn numbered(&self, kind: Kind, number: usize) -> String {
+        match self.name(kind, number) {
+            Some(name) => format!("{number} {}", shown::text(name)),
+            None => number.to_string(),
         }
     }
 
     /// A symbol's number, with its name if it has one.
     pub fn symbol(&self, symbol: usize) -> String {
-        self.of(Kind::Symbol, symbol)
+        self.numbered(Kind::Symbol, symbol)
     }
 
     /// A node's number, with its name if it has one.
     pub fn node(&self, node: usize) -> String {
-        self.of(Kind::Node, node)
+        self.numbered(Kind::Node, node)
     }
 
     /// A state's number, with its name if it has one.
     pub fn state(&self, state: usize) -> String {
-        self.of(Kind::State, state)
+        self.numbered(Kind::State, state)
     }
 
     /// A set of symbols in braces, by its members.
@@ -144,7 +160,9 @@ impl Names {
     }
 
     fn set(&self, kind: Kind, set: u64) -> String {
-        let members: Vec<_> = members(set).map(|member| self.of(kind, member)).collect();
+        let members: Vec<_> = members(set)
+            .map(|member| self.numbered(kind, member))
+            .collect();
         format!("{{{}}}", members.join(","))
     }
 
@@ -171,9 +189,9 @@ impl Names {
         }
     }
 
-    /// Whether a symbol has a name.
-    pub fn has_symbol(&self, symbol: usize) -> bool {
-        matches!(self.named[Kind::Symbol as usize].get(symbol), Some(Some(_)))
+    /// The name of a symbol, if it has one.
+    pub fn name_of_symbol(&self, symbol: usize) -> Option<&str> {
+        self.name(Kind::Symbol, symbol)
     }
 
     /// The names as they stand in the file: for symbols, nodes and states a list.

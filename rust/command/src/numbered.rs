@@ -1,6 +1,6 @@
 //! Files of numbered lines, volume files and price files, read a second time for the number of each line, or for
 //! the place of the first fault and what is expected there.
-use crate::fault::{Due, Fault};
+use crate::fault::{Due, Fault, Place};
 use dapohiru_second::{numbered, reading};
 
 /// The bytes of a line.
@@ -58,7 +58,7 @@ impl Kind {
             if due.bytes.is_empty() {
                 fault.expected += &format!(", for {owner} {this}");
             }
-            let is_end = fault.place == Some((due.line, LINE, LINE));
+            let is_end = fault.place == Some(Place::in_line(due.line, LINE, LINE));
             if is_end && runs_past(&due.bytes[7..], most) {
                 fault.expected += &format!("; {number} are at most {most}");
             }

@@ -1,14 +1,16 @@
 //! What is said of a refusal: its number, and where the second reader finds the same number also the
 //! meaning, the place and what was expected there.
 use crate::encoding;
-use crate::fault::Fault;
+use crate::expression::{Letters, Typed};
+use crate::fault::{Fault, Place};
+use crate::grammar;
 use crate::input::{Input, Plan};
 use crate::json::Json;
 use crate::names::Names;
 use crate::numbered::{PRICES, VOLUMES};
 use crate::place::first_fault;
 use crate::rows;
-use crate::sizes::Sizes;
+use crate::sizes::{Size, Sizes};
 use crate::tariff::Tariff;
 use dapohiru::Refusal;
 use dapohiru_second::job::{EVENT, REENTRANT};
@@ -81,27 +83,40 @@ pub fn of_rows(rows: &Input, sizes: &Sizes, names: &Names, refusal: Refusal) -> 
     told_of(rows, refusal, rows::first_fault(&rows.bytes, sizes, names))
 }
 
-/// What is said of numbers beside rows that no call can be given, in a document and in words; they have no number of a
-/// refusal.
-pub fn before_the_call(command: &str, fault: Option<Fault>) -> (Json, String) {
-    let meaning = "a number given with the rows is outside its limits";
+/// What is said of a refused expression, or of the number given beside it.
+pub fn of_expression(typed: &Typed, letters: &Letters, symbols: &Size, refusal: Refusal) -> Told {
+    let fault = grammar::first_fault(letters, symbols, refusal);
+    hinted(told(&typed.shown, refusal, fault), typed.hint.clone())
+}
+
+/// What is said of what no call can be given, in a document and in words: its fault, with the meaning and the hint. It
+/// has no number of a refusal.
+pub fn before_the_call(
+    command: &str,
+    meaning: &str,
+    fault: Option<Fault>,
+    hint: Option<&String>,
+) -> (Json, String) {
     let fields = fault.as_ref().map(|fault| fields_of(meaning, fault));
+    let mut fields = fields.unwrap_or_default();
+    fields.extend(hint.map(|hint| ("has", Json::text(hint))));
     let words = fault.as_ref().map(|fault| words(meaning, fault));
-    (
-        Json::Object(fields.unwrap_or_default()),
-        format!(
-            "{command}: refused before the call{}",
-            words.unwrap_or_default()
-        ),
-    )
+    let (words, hint) = (words.unwrap_or_default(), encoding::line(hint));
+    let text = format!("{command}: refused before the call{words}{hint}");
+    (Json::Object(fields), text)
 }
 
 /// The refusal of a file, with what is told of how it was written.
 fn told_of(file: &Input, refusal: Refusal, fault: Option<Fault>) -> Told {
     let told = told(&file.shown, refusal, fault);
+    hinted(told, encoding::hint(&file.bytes))
+}
+
+/// What is said of a refusal, with what the file has.
+fn hinted(told: Told, hint: Option<String>) -> Told {
     Told {
-        hint: encoding::hint(&file.bytes),
-        text: told.text + &encoding::told(&file.bytes),
+        text: told.text + &encoding::line(hint.as_ref()),
+        hint,
         ..told
     }
 }
@@ -123,9 +138,9 @@ fn told(shown: &str, refusal: Refusal, fault: Option<Fault>) -> Told {
 /// A fault with its meaning, as fields of a document.
 fn fields_of(meaning: &str, fault: &Fault) -> Vec<(&'static str, Json)> {
     let mut fields = vec![("meaning", Json::text(meaning))];
-    if let Some((line, first, last)) = fault.place {
-        let columns = [first, last].map(Json::number).to_vec();
-        fields.push(("line", Json::number(line)));
+    if let Some(Place { line, columns }) = fault.place {
+        let columns = [columns.0, columns.1].map(Json::number).to_vec();
+        fields.extend(line.map(|line| ("line", Json::number(line))));
         fields.push(("columns", Json::List(columns)));
     }
     fields.push(("found", Json::text(&fault.found)));
@@ -135,11 +150,15 @@ fn fields_of(meaning: &str, fault: &Fault) -> Vec<(&'static str, Json)> {
 
 /// A fault in words, with its meaning.
 fn words(meaning: &str, fault: &Fault) -> String {
-    let place = match fault.place {
-        Some((line, first, last)) if first == last => format!("line {line}, column {first}: "),
-        Some((line, first, last)) => format!("line {line}, columns {first} to {last}: "),
-        None => String::new(),
+    let place = |Place { line, columns }: &Place| {
+        let line = line.map(|line| format!("line {line}, "));
+        let columns = match columns {
+            (first, last) if first == last => format!("column {first}: "),
+            (first, last) => format!("columns {first} to {last}: "),
+        };
+        line.unwrap_or_default() + &columns
     };
+    let place = fault.place.as_ref().map(place).unwrap_or_default();
     let Fault {
         found, expected, ..
     } = fault;
@@ -157,7 +176,7 @@ fn plan_fault(job: &Input, plan: &[u8], names: &Names) -> Option<Fault> {
     let fault = |number, column, found, expected| {
         Some(Fault {
             number,
-            place: Some((1, column, column)),
+            place: Some(Place::in_line(1, column, column)),
             found,
             expected,
         })
@@ -207,8 +226,10 @@ fn meaning(number: u64) -> &'static str {
         17 => "S, A, the final set, the count of rows, a row's form or a number is outside its limits, or a first exceeds a last",
         18 => "two rows name one pair of a state and a symbol",
         19 => "a pair of a state and a symbol has no row",
+        20 => "A is outside its limits, or the text is too long, outside the grammar or has a letter past A",
+        21 => "more than 16 states are met",
         28 => "the price file is not exactly one B line for each of the symbols 0 to 15, in order",
-        _ => "no refusal of a job, a plan, a volume file, rows or a price file",
+        _ => "no refusal of a job, a plan, a volume file, rows, an expression or a price file",
     }
 }
 

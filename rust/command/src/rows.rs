@@ -1,5 +1,5 @@
 //! Rule rows, read a second time for their first fault and what is expected there.
-use crate::fault::{Due, Fault};
+use crate::fault::{Due, Fault, Place};
 use crate::input::NUMBERED_FILE;
 use crate::names::Names;
 use crate::sizes::Sizes;
@@ -180,7 +180,7 @@ impl Row {
         };
         Fault {
             number: 18,
-            place: Some((self.line, 2, 25)),
+            place: Some(Place::in_line(self.line, 2, 25)),
             found: format!("{pair} again ({})", self.words(names)),
             expected: format!(
                 "every pair in one row alone{agree}; line {} has it too ({})",

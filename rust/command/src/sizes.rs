@@ -14,34 +14,83 @@ struct Number {
     value: Option<u64>,
 }
 
-/// The numbers of a rule that are given beside its rows; what they may be the proved call says.
+/// S or A; what it may be the proved call says.
+pub struct Size {
+    option: &'static str,
+    number: Number,
+    /// What it is, and its limits.
+    is: (&'static str, u64, u64),
+}
+
+impl Size {
+    /// S, as an option of a command says it.
+    fn of_states(given: &Given, command: &Command) -> Result<Self, String> {
+        Size::of(given, command, ("--states", "S"), SIZES[0])
+    }
+
+    /// A, as an option of a command says it.
+    pub fn of_symbols(given: &Given, command: &Command) -> Result<Self, String> {
+        Size::of(given, command, ("--symbols", "A"), SIZES[1])
+    }
+
+    fn of(
+        given: &Given,
+        command: &Command,
+        (option, letter): (&'static str, &str),
+        is: (&'static str, u64, u64),
+    ) -> Result<Self, String> {
+        let Some(asked) = given.value(option) else {
+            return Err(command.wrong(format!("{option} {letter} is missing")));
+        };
+        let number = Number::of(asked.as_encoded_bytes()).ok_or_else(|| {
+            let (_, low, high) = is;
+            let (name, asked) = (command.name, shown::name(asked));
+            format!("{name}: {option} is `{asked}`, and {letter} is a number, {low} to {high}")
+        })?;
+        Ok(Size { option, number, is })
+    }
+
+    /// The number, where a call can be given it.
+    pub fn passed(&self) -> Option<u64> {
+        self.number.value
+    }
+
+    /// The number, where it is within its limits.
+    pub fn within(&self) -> Option<usize> {
+        let (_, low, high) = self.is;
+        let value = self.passed()?;
+        (low..=high).contains(&value).then_some(value as usize)
+    }
+
+    /// Its fault, if it has one, which deserves this refusal.
+    pub fn fault(&self, number: u64) -> Option<Fault> {
+        let (name, low, high) = self.is;
+        self.within().is_none().then(|| Fault {
+            number,
+            place: None,
+            found: format!("{} {}", self.option, self.number.digits),
+            expected: format!("{name}, {low} to {high}"),
+        })
+    }
+}
+
+/// The numbers of a rule that are given beside its rows.
 pub struct Sizes {
-    states: Number,
-    symbols: Number,
+    states: Size,
+    symbols: Size,
     finals: Vec<Number>,
 }
 
 impl Sizes {
     /// The numbers that the options of a command say.
     pub fn of(given: &Given, command: &Command) -> Result<Self, String> {
-        let wrong = |option, why| format!("{}: {option} {why}", command.name);
-        let size = |option, letter, (_, low, high)| {
-            let Some(asked) = given.value(option) else {
-                return Err(command.wrong(format!("{option} {letter} is missing")));
-            };
-            Number::of(asked.as_encoded_bytes()).ok_or_else(|| {
-                let asked = shown::name(asked);
-                let why = format!("is `{asked}`, and {letter} is a number, {low} to {high}");
-                wrong(option, why)
-            })
-        };
         let finals = |option| {
             let asked = given.value(option).map(finals).unwrap_or(Ok(Vec::new()));
-            asked.map_err(|why| wrong(option, why))
+            asked.map_err(|why| format!("{}: {option} {why}", command.name))
         };
         Ok(Sizes {
-            states: size("--states", "S", SIZES[0])?,
-            symbols: size("--symbols", "A", SIZES[1])?,
+            states: Size::of_states(given, command)?,
+            symbols: Size::of_symbols(given, command)?,
             finals: finals("--finals")?,
         })
     }
@@ -51,45 +100,30 @@ impl Sizes {
         let bit = |state: &Number| 1u64.checked_shl(state.value?.try_into().ok()?);
         let mut bits = self.finals.iter().map(bit);
         let finals = bits.try_fold(0, |set, bit| Some(set | bit?))?;
-        Some([self.states.value?, self.symbols.value?, finals])
+        Some([self.states.passed()?, self.symbols.passed()?, finals])
     }
 
     /// S and A, where both are within their limits.
     pub fn within(&self) -> Option<[usize; 2]> {
-        let within = |size: &Number, (_, low, high)| {
-            let value = size.value.filter(|value| (low..=high).contains(value))?;
-            Some(value as usize)
-        };
-        Some([
-            within(&self.states, SIZES[0])?,
-            within(&self.symbols, SIZES[1])?,
-        ])
+        Some([self.states.within()?, self.symbols.within()?])
     }
 
     /// The first fault of these numbers, if they have one.
     pub fn fault(&self) -> Option<Fault> {
-        let fault = |found: String, expected: String| {
-            Some(Fault {
-                number: 17,
-                place: None,
-                found,
-                expected,
-            })
-        };
-        let sizes = [("--states", &self.states), ("--symbols", &self.symbols)];
-        for ((option, size), (name, low, high)) in sizes.into_iter().zip(SIZES) {
-            if size.value.is_none_or(|size| !(low..=high).contains(&size)) {
-                let found = format!("{option} {}", size.digits);
-                return fault(found, format!("{name}, {low} to {high}"));
-            }
+        let number = 17;
+        let size = self.states.fault(number);
+        if let Some(fault) = size.or_else(|| self.symbols.fault(number)) {
+            return Some(fault);
         }
-        let last = self.states.value? - 1;
+        let last = self.states.passed()? - 1;
         let is_wrong = |state: &&Number| state.value.is_none_or(|state| state > last);
         let state = self.finals.iter().find(is_wrong)?;
-        fault(
-            format!("--finals with {}", state.digits),
-            format!("final states below S, 0 to {last}"),
-        )
+        Some(Fault {
+            number,
+            place: None,
+            found: format!("--finals with {}", state.digits),
+            expected: format!("final states below S, 0 to {last}"),
+        })
     }
 }
 

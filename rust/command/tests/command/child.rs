@@ -183,8 +183,9 @@ fn picture_that_takes_too_long_is_given_up() {
     assert!(!runs(&pid(&folder.join("pid"))));
     assert_eq!(names(&folder), ["dot", "pid"]);
     for seconds in ["0", "3601", "x", "-1", "1.5"] {
-        let wrong =
-            format!("dapohiru: graph: --seconds is {seconds}, and a picture may take 1 to 3600\n");
+        let wrong = format!(
+            "dapohiru: graph: --seconds is `{seconds}`, and a picture may take 1 to 3600\n"
+        );
         let done = run(
             &["graph", &job, "--svg", &format!("--seconds={seconds}")],
             "",

@@ -44,7 +44,11 @@ fn wrong_words_are_told_with_the_usage() {
         (&["watch"], "JOB is missing"),
         (&["release"], "DIR is missing"),
         (&["graph", "--svg"], "JOB is missing"),
-        (&["rule", "--states=3", "--symbols=3"], "ROWS is missing"),
+        (
+            &["rule", "--states=3", "--symbols=3"],
+            "ROWS or --expression TEXT is missing",
+        ),
+        (&["rule", "--expression=a"], "--symbols A is missing"),
         (&["rule", &rows, "--symbols=3"], "--states S is missing"),
         (
             &["rule", &rows, "--states=3", "--finals=2"],
@@ -91,6 +95,18 @@ fn wrong_words_are_told_with_the_usage() {
         (
             &["rule", &rows, "--finals=1", "--finals=2"],
             "--finals is given twice",
+        ),
+        (
+            &["rule", "--symbols=3", "--expression", ""],
+            "--expression is not followed by TEXT",
+        ),
+        (
+            &["rule", "--expression", "--symbols=3"],
+            "--expression is not followed by TEXT",
+        ),
+        (
+            &["rule", "--expression=a", "--expression=b"],
+            "--expression is given twice",
         ),
         (&["plan", &job, "-o"], "-o is not followed by FILE"),
         (&["plan", &job, "-o", ""], "-o is not followed by FILE"),
@@ -323,6 +339,26 @@ fn words_that_do_not_go_together_are_told() {
             "rule: ROWS and the names cannot both be standard input",
         ),
         (
+            &["rule", "--expression=-", "--symbols=3", "--names=-"],
+            "rule: the expression and the names cannot both be standard input",
+        ),
+        (
+            &["rule", &rows, "--expression=a", "--symbols=3"],
+            "rule: ROWS and --expression both say a rule, take one",
+        ),
+        (
+            &["rule", "--expression=a", "--symbols=3", "--states=3"],
+            "rule: --states is only of use with ROWS; those of an expression are found by the call",
+        ),
+        (
+            &["rule", "--expression=a", "--symbols=3", "--finals=2"],
+            "rule: --finals is only of use with ROWS; those of an expression are found by the call",
+        ),
+        (
+            &["rule", "--expression=a", "--json", "--dot"],
+            "rule: --json and --dot are two forms, take one",
+        ),
+        (
             &["rule", &rows, "--table", "--json"],
             "rule: --table and --json are two forms, take one",
         ),
@@ -340,7 +376,7 @@ fn words_that_do_not_go_together_are_told() {
         ),
         (
             &["rule", &rows, "--svg", "--seconds=0"],
-            "rule: --seconds is 0, and a picture may take 1 to 3600",
+            "rule: --seconds is `0`, and a picture may take 1 to 3600",
         ),
     ] {
         let wrong = format!("dapohiru: {why}\n");
@@ -375,6 +411,7 @@ fn missing_file_is_named() {
         &["graph", &job, missing],
         &[&["rule", missing][..], &sizes].concat(),
         &[&["rule", &rows, "--names", missing][..], &sizes].concat(),
+        &["rule", "--expression=a", "--symbols=1", "--names", missing],
     ] {
         let wrong = format!("dapohiru: {missing}: No such file or directory (os error 2)\n");
         assert_eq!(run(words, "0\n"), (2, String::new(), wrong), "{words:?}");
