@@ -1,9 +1,9 @@
 -- How the parts that are read are put together.
 -- Assumes nothing.
 use mathlib.Core.Path.{_≡_, refl, sym, ap, subst, _∙_}
-use mathlib.Core.Bool.{Bool, true, false}
+use mathlib.Core.Bool.{Bool, true, false, _&&_, _||_}
 use mathlib.Core.List.{List}
-use Prim.Native.Nat.{ℕ, suc, _+_, _≤_, _<_}
+use Prim.Native.Nat.{ℕ, suc, _+_, _^_, _≤_, _<_}
 use native.Mathlib.Nat.{le-refl}
 use native.Mathlib.Numerals.{add-one}
 use native.Mathlib.Omega.{arith}
@@ -220,6 +220,21 @@ module _ {a : ℕ} {t : List ℕ} where
       there q (of-left h) =
           follow-front (getD f₂ q 0) spread spread′ apart h (r .kept q (omega (arith, in-between spread h .to)) ∙ s .follows q h)
       there q (of-right h) = follow-back (getD f₂ q 0) spread spread′ apart h (r .follows q h)
+
+-- ---- parts by their fields
+
+pub letter-fields : (i n : ℕ) → n ≡ 2 ^ i → _≡_ {A = Part} (record { end = i + 1; nullable = false; first = n; last = n }) (letterPart i)
+letter-fields i n h = cc h
+
+pub followed-fields
+    : (d e : Part) (n : Bool) (x y : ℕ) → n ≡ (d .nullable && e .nullable) → x ≡ when (d .nullable) (e .first) → y ≡ when (e .nullable) (d .last)
+    → _≡_ {A = Part} (record { end = e .end; nullable = n; first = bitOr (d .first) x; last = bitOr (e .last) y }) (followed d e)
+followed-fields d e n x y h k l = cc (h, k, l)
+
+pub either-fields
+    : (d e : Part) (n : Bool) → n ≡ (d .nullable || e .nullable)
+    → _≡_ {A = Part} (record { end = e .end; nullable = n; first = bitOr (d .first) (e .first); last = bitOr (d .last) (e .last) }) (eitherPart d e)
+either-fields d e n h = cc h
 
 -- ---- stars
 

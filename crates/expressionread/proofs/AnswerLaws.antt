@@ -9,7 +9,7 @@ use native.Mathlib.Omega.{arith}
 use lib.ListN.{length, getD}
 use Rattle.expression.specs.Expression.{Expr}
 use Rattle.expression.specs.Grammar.{Level, piece, row, choice, At, IsLetter, Spells, letter-at, group, again, single, then, only, or, TextOf}
-use Rattle.expression.specs.Stops.{Begins, by-letter, by-group, StopRow, Stop, StopAt}
+use Rattle.expression.specs.Stops.{Begins, by-letter, by-group, Stop, StopAt}
 use Rattle.expression.proofs.Linear.{spread-le}
 use Rattle.expression.proofs.Unique.{choice-unique, row-unique, piece-unique, begins, begins-not, stop-close, stop-bar, spells-spread}
 use Rattle.expressionparts.specs.declared.part.Part.{Part}

@@ -115,19 +115,24 @@ read-choice-is-at-requires t c κs = search needs
 read-choice-add-read-choice : (t : ℕ) → read-choice-lts.Need-add-read-choice (read-choice-claims t) (read-choice-at t) read-choice.Post
 read-choice-add-read-choice t c =
     let test = c .before in
-    let end = test .before .before .d .given .0 .0 .end in
-    omega (arith, at-within (test .before .before .before .before .before .before .before .before .before .before .args .text .now) end 124 (omega arith) (test .is-at .ensures .yes-so (c .if1 .taken)))
+    let first = test .before .before .before .before .before .before .before .before .before .before in
+    let asked = first .pre .1 in
+    let bar = test .is-at .ensures .yes-so (c .if1 .taken) in
+    let here = at-within (first .args .text .now) (test .before .before .d .given .0 .0 .end) 124 (omega arith) bar in
+    omega (arith, here, asked .room, asked .fits)
 
 read-choice-read-choice-requires : (t : ℕ) → read-choice-lts.Need-read-choice-requires (read-choice-claims t) (read-choice-at t) read-choice.Post
 read-choice-read-choice-requires t c κs =
     let test = c .before .before in
     let read = test .before .before .before .before .before .before in
-    let z = read .before .before .before .before .args in
-    let w = found (z .letters) (z .text .now) row (z .at) (z .follow .now) (read .read-row .last .1 .1 .1 .0) (read .read-row .result)
-    (test .before .before .d .given .0 .0) (test .before .before .d .given .1) (read .read-row .ensures) in
-    let asked = read .before .before .before .before .pre in
-    let bar = at-within (z .text .now) (test .before .before .d .given .0 .0 .end) 124 (omega arith) (test .is-at .ensures .yes-so (c .before .if1 .taken)) in
-    (omega (arith, bar, goes-on w, asked .0), ready-after (asked .1) w)
+    let first = read .before .before .before .before in
+    let z = first .args in
+    let call = read .read-row in
+    let f = call .last .1 .1 .1 .0 in
+    let d = test .before .before .d .given in
+    let w = found (z .letters) (z .text .now) row (z .at) (z .follow .now) f (call .result) (d .0 .0) (d .1) (call .ensures) in
+    let bar = test .is-at .ensures .yes-so (c .before .if1 .taken) in
+    (omega (arith, at-within (z .text .now) (d .0 .0 .end) 124 (omega arith) bar, goes-on w, first .pre .0), ready-after (first .pre .1) w)
 
 read-choice-enum-known-e : (t : ℕ) → read-choice-lts.Need-enum-known-e (read-choice-claims t) (read-choice-at t) read-choice.Post
 read-choice-enum-known-e t c = search needs
@@ -149,11 +154,15 @@ read-choice-returns t c =
     let next = c .before .before .before .before .before .before in
     let test = next .before .before .before in
     let read = test .before .before .before .before .before .before in
-    let z = read .before .before .before .before .args in
-    let w = found (z .letters) (z .text .now) row (z .at) (z .follow .now) (read .read-row .last .1 .1 .1 .0) (read .read-row .result)
-    (test .before .before .d .given .0 .0) (test .before .before .d .given .1) (read .read-row .ensures) in
-    let v = found (z .letters) (z .text .now) choice (test .before .before .d .given .0 .0 .end + 1) (read .read-row .last .1 .1 .1 .0) (next .read-choice .last .1 .1 .1 .0) (next .read-choice .result) (c .before .before .e .given .0 .0)
-    (c .before .before .e .given .1) (next .read-choice .ensures) in
+    let first = read .before .before .before .before in
+    let z = first .args in
+    let call = read .read-row in
+    let f = call .last .1 .1 .1 .0 in
+    let d = test .before .before .d .given in
+    let w = found (z .letters) (z .text .now) row (z .at) (z .follow .now) f (call .result) (d .0 .0) (d .1) (call .ensures) in
+    let call′ = next .read-choice in
+    let e = c .before .before .e .given in
+    let v = found (z .letters) (z .text .now) choice (d .0 .0 .end + 1) f (call′ .last .1 .1 .1 .0) (call′ .result) (e .0 .0) (e .1) (call′ .ensures) in
     renamed (c .choose .ensures) (choice-or w (test .is-at .ensures .yes-so (next .before .before .if1 .taken)) v)
 
 read-choice-same-length-2 : (t : ℕ) → read-choice-lts.Need-same-length-2 (read-choice-claims t) (read-choice-at t) read-choice.Post
@@ -164,12 +173,16 @@ read-choice-returns-2 t c =
     let next = c .before .before .before .before in
     let test = next .before .before .before in
     let read = test .before .before .before .before .before .before in
-    let z = read .before .before .before .before .args in
-    let w = found (z .letters) (z .text .now) row (z .at) (z .follow .now) (read .read-row .last .1 .1 .1 .0) (read .read-row .result)
-    (test .before .before .d .given .0 .0) (test .before .before .d .given .1) (read .read-row .ensures) in
-    let v = nothing (z .letters) (z .text .now) choice (test .before .before .d .given .0 .0 .end + 1) (read .read-row .last .1 .1 .1 .0) (next .read-choice .last .1 .1 .1 .0) (next .read-choice .result)
-    (c .enum-told .given .1) (next .read-choice .ensures) in
-    choice-none-after (read .before .before .before .before .pre .1 .few) w (test .is-at .ensures .yes-so (next .before .before .if1 .taken)) v
+    let first = read .before .before .before .before in
+    let z = first .args in
+    let call = read .read-row in
+    let f = call .last .1 .1 .1 .0 in
+    let d = test .before .before .d .given in
+    let w = found (z .letters) (z .text .now) row (z .at) (z .follow .now) f (call .result) (d .0 .0) (d .1) (call .ensures) in
+    let call′ = next .read-choice in
+    let e = c .enum-told .given in
+    let v = nothing (z .letters) (z .text .now) choice (d .0 .0 .end + 1) f (call′ .last .1 .1 .1 .0) (call′ .result) (e .1) (call′ .ensures) in
+    choice-none-after (first .pre .1 .few) w (test .is-at .ensures .yes-so (next .before .before .if1 .taken)) v
 
 read-choice-same-length-3 : (t : ℕ) → read-choice-lts.Need-same-length-3 (read-choice-claims t) (read-choice-at t) read-choice.Post
 read-choice-same-length-3 t c = search needs
@@ -178,9 +191,12 @@ read-choice-returns-3 : (t : ℕ) → read-choice-lts.Need-returns-3 (read-choic
 read-choice-returns-3 t c =
     let test = c .before in
     let read = test .before .before .before .before .before .before in
-    let z = read .before .before .before .before .args in
-    let w = found (z .letters) (z .text .now) row (z .at) (z .follow .now) (read .read-row .last .1 .1 .1 .0) (read .read-row .result)
-    (test .before .before .d .given .0 .0) (test .before .before .d .given .1) (read .read-row .ensures) in
+    let first = read .before .before .before .before in
+    let z = first .args in
+    let call = read .read-row in
+    let f = call .last .1 .1 .1 .0 in
+    let d = test .before .before .d .given in
+    let w = found (z .letters) (z .text .now) row (z .at) (z .follow .now) f (call .result) (d .0 .0) (d .1) (call .ensures) in
     choice-only w (test .is-at .ensures .not-so (c .if1 .left))
 
 read-choice-same-length-4 : (t : ℕ) → read-choice-lts.Need-same-length-4 (read-choice-claims t) (read-choice-at t) read-choice.Post
@@ -189,10 +205,11 @@ read-choice-same-length-4 t c = search needs
 read-choice-returns-4 : (t : ℕ) → read-choice-lts.Need-returns-4 (read-choice-claims t) (read-choice-at t) read-choice.Post
 read-choice-returns-4 t c =
     let read = c .before .before .before .before in
-    let z = read .before .before .before .before .args in
-    choice-none (z .at) (read .before .before .before .before .pre .1 .few)
-    (nothing (z .letters) (z .text .now) row (z .at) (z .follow .now) (read .read-row .last .1 .1 .1 .0) (read .read-row .result)
-    (c .enum-told2 .given .1) (read .read-row .ensures))
+    let first = read .before .before .before .before in
+    let z = first .args in
+    let call = read .read-row in
+    let v = nothing (z .letters) (z .text .now) row (z .at) (z .follow .now) (call .last .1 .1 .1 .0) (call .result) (c .enum-told2 .given .1) (call .ensures) in
+    choice-none (z .at) (first .pre .1 .few) v
 
 read-piece-is-at-requires : (t : ℕ) → read-piece-lts.Need-is-at-requires (read-piece-claims t) (read-piece-at t) read-piece.Post
 read-piece-is-at-requires t c κs = search needs
@@ -200,13 +217,15 @@ read-piece-is-at-requires t c κs = search needs
 read-piece-add-read-choice : (t : ℕ) → read-piece-lts.Need-add-read-choice (read-piece-claims t) (read-piece-at t) read-piece.Post
 read-piece-add-read-choice t c =
     let z = c .before .before .before .before .args in
-    omega (arith, at-within (z .text .now) (z .at) 40 (omega arith) (c .before .is-at .ensures .yes-so (c .if1 .taken)))
+    let opens = c .before .is-at .ensures .yes-so (c .if1 .taken) in
+    omega (arith, at-within (z .text .now) (z .at) 40 (omega arith) opens)
 
 read-piece-read-choice-requires : (t : ℕ) → read-piece-lts.Need-read-choice-requires (read-piece-claims t) (read-piece-at t) read-piece.Post
 read-piece-read-choice-requires t c κs =
-    let z = c .before .before .before .before .before .args in
-    let asked = c .before .before .before .before .before .pre in
-    (omega (arith, at-within (z .text .now) (z .at) 40 (omega arith) (c .before .before .is-at .ensures .yes-so (c .before .if1 .taken)), asked .0), asked .1)
+    let first = c .before .before .before .before .before in
+    let z = first .args in
+    let opens = c .before .before .is-at .ensures .yes-so (c .before .if1 .taken) in
+    (omega (arith, at-within (z .text .now) (z .at) 40 (omega arith) opens, first .pre .0), first .pre .1)
 
 read-piece-enum-known-d : (t : ℕ) → read-piece-lts.Need-enum-known-d (read-piece-claims t) (read-piece-at t) read-piece.Post
 read-piece-enum-known-d t c = search needs
@@ -217,10 +236,11 @@ read-piece-is-at-requires-2 t c κs = search needs
 read-piece-add-up-to : (t : ℕ) → read-piece-lts.Need-add-up-to (read-piece-claims t) (read-piece-at t) read-piece.Post
 read-piece-add-up-to t c =
     let test = c .before in
-    let end = test .before .before .d .given .0 .0 .end in
     let first = test .before .before .before .before .before .before .before .before .before .before .before .before in
     let asked = first .pre .1 in
-    omega (arith, at-within (first .args .text .now) end 41 (omega arith) (test .is-at2 .ensures .yes-so (c .if2 .taken)), asked .room, asked .fits)
+    let closes = test .is-at2 .ensures .yes-so (c .if2 .taken) in
+    let here = at-within (first .args .text .now) (test .before .before .d .given .0 .0 .end) 41 (omega arith) closes in
+    omega (arith, here, asked .room, asked .fits)
 
 read-piece-up-to-requires : (t : ℕ) → read-piece-lts.Need-up-to-requires (read-piece-claims t) (read-piece-at t) read-piece.Post
 read-piece-up-to-requires t c κs = search needs
@@ -236,21 +256,24 @@ read-piece-is-letter-requires t c κs = search needs
 
 read-piece-mul-follow : (t : ℕ) → read-piece-lts.Need-mul-follow (read-piece-claims t) (read-piece-at t) read-piece.Post
 read-piece-mul-follow t c =
-    let z = c .before .before .before .before .before .before .args in
-    let asked = c .before .before .before .before .before .before .pre .1 in
-    omega (arith, letter-within (z .at) (c .before .is-letter .ensures .yes-so (c .if3 .taken)), asked .room, asked .fits)
+    let first = c .before .before .before .before .before .before in
+    let asked = first .pre .1 in
+    let x = c .before .is-letter .ensures .yes-so (c .if3 .taken) in
+    omega (arith, letter-within (first .args .at) x, asked .room, asked .fits)
 
 read-piece-slice-write-follow : (t : ℕ) → read-piece-lts.Need-slice-write-follow (read-piece-claims t) (read-piece-at t) read-piece.Post
 read-piece-slice-write-follow t c =
-    let z = c .before .before .before .before .before .before .args in
-    let asked = c .before .before .before .before .before .before .pre .1 in
-    omega (arith, letter-within (z .at) (c .before .is-letter .ensures .yes-so (c .if3 .taken)), asked .room, asked .fits)
+    let first = c .before .before .before .before .before .before in
+    let asked = first .pre .1 in
+    let x = c .before .is-letter .ensures .yes-so (c .if3 .taken) in
+    omega (arith, letter-within (first .args .at) x, asked .room, asked .fits)
 
 read-piece-letter-part-requires : (t : ℕ) → read-piece-lts.Need-letter-part-requires (read-piece-claims t) (read-piece-at t) read-piece.Post
 read-piece-letter-part-requires t c κs =
-    let z = c .before .before .before .before .before .before .args in
-    let asked = c .before .before .before .before .before .before .pre .1 in
-    omega (arith, letter-within (z .at) (c .before .is-letter .ensures .yes-so (c .if3 .taken)), asked .room, asked .fits)
+    let first = c .before .before .before .before .before .before in
+    let asked = first .pre .1 in
+    let x = c .before .is-letter .ensures .yes-so (c .if3 .taken) in
+    omega (arith, letter-within (first .args .at) x, asked .room, asked .fits)
 
 read-piece-with-stars-requires-2 : (t : ℕ) → read-piece-lts.Need-with-stars-requires-2 (read-piece-claims t) (read-piece-at t) read-piece.Post
 read-piece-with-stars-requires-2 t c κs = search needs
@@ -262,14 +285,16 @@ read-piece-returns : (t : ℕ) → read-piece-lts.Need-returns (read-piece-claim
 read-piece-returns t c =
     let test = c .before .before .before .before .before .before in
     let read = test .before .before .before .before .before .before in
-    let z = read .before .before .before .before .before .before .args in
-    let p = read .before .before .before .is-at .ensures .yes-so (read .before .before .if1 .taken) in
-    let w = found (z .letters) (z .text .now) choice (z .at + 1) (z .follow .now) (read .read-choice .last .1 .1 .1 .0) (read .read-choice .result) (test .before .before .d .given .0 .0)
-    (test .before .before .d .given .1) (read .read-choice .ensures) in
-    let q = test .is-at2 .ensures .yes-so (c .before .before .before .before .before .if2 .taken) in
+    let first = read .before .before .before .before .before .before in
+    let z = first .args in
+    let call = read .read-choice in
+    let f = call .last .1 .1 .1 .0 in
+    let d = test .before .before .d .given in
+    let w = found (z .letters) (z .text .now) choice (z .at + 1) (z .follow .now) f (call .result) (d .0 .0) (d .1) (call .ensures) in
+    let opens = read .before .before .before .is-at .ensures .yes-so (read .before .before .if1 .taken) in
+    let closes = test .is-at2 .ensures .yes-so (c .before .before .before .before .before .if2 .taken) in
     c .before .before .with-stars .ensures (z .letters) (z .at) (z .follow .now)
-    (renamed-shown (c .before .before .before .before .up-to .ensures)
-    (group-shown (z .at) (z .follow .now) (read .read-choice .last .1 .1 .1 .0) (test .before .before .d .given .0 .0) p q (w .shown)))
+    (renamed-shown (c .before .before .before .before .up-to .ensures) (group-shown (z .at) (z .follow .now) f (d .0 .0) opens closes (w .shown)))
 
 read-piece-same-length-2 : (t : ℕ) → read-piece-lts.Need-same-length-2 (read-piece-claims t) (read-piece-at t) read-piece.Post
 read-piece-same-length-2 t c = search needs
@@ -278,11 +303,14 @@ read-piece-returns-2 : (t : ℕ) → read-piece-lts.Need-returns-2 (read-piece-c
 read-piece-returns-2 t c =
     let test = c .before in
     let read = test .before .before .before .before .before .before in
-    let z = read .before .before .before .before .before .before .args in
-    let p = read .before .before .before .is-at .ensures .yes-so (read .before .before .if1 .taken) in
-    let w = found (z .letters) (z .text .now) choice (z .at + 1) (z .follow .now) (read .read-choice .last .1 .1 .1 .0) (read .read-choice .result) (test .before .before .d .given .0 .0)
-    (test .before .before .d .given .1) (read .read-choice .ensures) in
-    group-open (read .before .before .before .before .before .before .pre .1 .few) p w (test .is-at2 .ensures .not-so (c .if2 .left))
+    let first = read .before .before .before .before .before .before in
+    let z = first .args in
+    let call = read .read-choice in
+    let f = call .last .1 .1 .1 .0 in
+    let d = test .before .before .d .given in
+    let w = found (z .letters) (z .text .now) choice (z .at + 1) (z .follow .now) f (call .result) (d .0 .0) (d .1) (call .ensures) in
+    let opens = read .before .before .before .is-at .ensures .yes-so (read .before .before .if1 .taken) in
+    group-open (first .pre .1 .few) opens w (test .is-at2 .ensures .not-so (c .if2 .left))
 
 read-piece-same-length-3 : (t : ℕ) → read-piece-lts.Need-same-length-3 (read-piece-claims t) (read-piece-at t) read-piece.Post
 read-piece-same-length-3 t c = search needs
@@ -290,33 +318,36 @@ read-piece-same-length-3 t c = search needs
 read-piece-returns-3 : (t : ℕ) → read-piece-lts.Need-returns-3 (read-piece-claims t) (read-piece-at t) read-piece.Post
 read-piece-returns-3 t c =
     let read = c .before .before .before .before in
-    let z = read .before .before .before .before .before .before .args in
-    let p = read .before .before .before .is-at .ensures .yes-so (read .before .before .if1 .taken) in
-    group-none (z .at) p
-    (nothing (z .letters) (z .text .now) choice (z .at + 1) (z .follow .now) (read .read-choice .last .1 .1 .1 .0) (read .read-choice .result)
-    (c .enum-told .given .1) (read .read-choice .ensures))
+    let first = read .before .before .before .before .before .before in
+    let z = first .args in
+    let call = read .read-choice in
+    let v = nothing (z .letters) (z .text .now) choice (z .at + 1) (z .follow .now) (call .last .1 .1 .1 .0) (call .result) (c .enum-told .given .1) (call .ensures) in
+    let opens = read .before .before .before .is-at .ensures .yes-so (read .before .before .if1 .taken) in
+    group-none (z .at) opens v
 
 read-piece-same-length-4 : (t : ℕ) → read-piece-lts.Need-same-length-4 (read-piece-claims t) (read-piece-at t) read-piece.Post
 read-piece-same-length-4 t c =
-    let w =
-    let z = c .before .before .before .before .before .before .before .before .before .before .before .args in
+    let first = c .before .before .before .before .before .before .before .before .before .before .before in
+    let z = first .args in
     let x = c .before .before .before .before .before .before .is-letter .ensures .yes-so (c .before .before .before .before .before .if3 .taken) in
-    let in-buffer : z .at < length (z .follow .now) = omega (arith, letter-within (z .at) x, c .before .before .before .before .before .before .before .before .before .before .before .pre .1 .room) in
-    c .before .before .with-stars2 .ensures (z .letters) (z .at) (z .follow .now)
-    (renamed-shown (c .before .before .before .before .letter-part .ensures) (letter-shown (z .at) (z .follow .now) x in-buffer)) in
+    let inside : z .at < length (z .follow .now) = omega (arith, letter-within (z .at) x, first .pre .1 .room) in
+    let shown = renamed-shown (c .before .before .before .before .letter-part .ensures) (letter-shown (z .at) (z .follow .now) x inside) in
+    let w = c .before .before .with-stars2 .ensures (z .letters) (z .at) (z .follow .now) shown in
     w .shown .long
 
 read-piece-returns-4 : (t : ℕ) → read-piece-lts.Need-returns-4 (read-piece-claims t) (read-piece-at t) read-piece.Post
 read-piece-returns-4 t c =
-    let z = c .before .before .before .before .before .before .before .before .before .before .before .args in
+    let first = c .before .before .before .before .before .before .before .before .before .before .before in
+    let z = first .args in
     let x = c .before .before .before .before .before .before .is-letter .ensures .yes-so (c .before .before .before .before .before .if3 .taken) in
-    let in-buffer : z .at < length (z .follow .now) = omega (arith, letter-within (z .at) x, c .before .before .before .before .before .before .before .before .before .before .before .pre .1 .room) in
-    c .before .before .with-stars2 .ensures (z .letters) (z .at) (z .follow .now)
-    (renamed-shown (c .before .before .before .before .letter-part .ensures) (letter-shown (z .at) (z .follow .now) x in-buffer))
+    let inside : z .at < length (z .follow .now) = omega (arith, letter-within (z .at) x, first .pre .1 .room) in
+    let shown = renamed-shown (c .before .before .before .before .letter-part .ensures) (letter-shown (z .at) (z .follow .now) x inside) in
+    c .before .before .with-stars2 .ensures (z .letters) (z .at) (z .follow .now) shown
 
 read-piece-returns-5 : (t : ℕ) → read-piece-lts.Need-returns-5 (read-piece-claims t) (read-piece-at t) read-piece.Post
 read-piece-returns-5 t c =
-    piece-none (c .before .before .before .before .before .before .args .at) (c .before .before .before .is-at .ensures .not-so (c .before .before .if1 .left)) (c .before .is-letter .ensures .not-so (c .if3 .left))
+    let opens = c .before .before .before .is-at .ensures .not-so (c .before .before .if1 .left) in
+    piece-none (c .before .before .before .before .before .before .args .at) opens (c .before .is-letter .ensures .not-so (c .if3 .left))
 
 read-row-read-piece-requires : (t : ℕ) → read-row-lts.Need-read-piece-requires (read-row-claims t) (read-row-at t) read-row.Post
 read-row-read-piece-requires t c κs = search needs
@@ -331,12 +362,14 @@ read-row-read-row-requires : (t : ℕ) → read-row-lts.Need-read-row-requires (
 read-row-read-row-requires t c κs =
     let test = c .before .before in
     let read = test .before .before .before .before .before .before in
-    let z = read .before .before .before .before .args in
-    let w = found (z .letters) (z .text .now) piece (z .at) (z .follow .now) (read .read-piece .last .1 .1 .1 .0) (read .read-piece .result)
-    (test .before .before .d .given .0 .0) (test .before .before .d .given .1) (read .read-piece .ensures) in
-    let asked = read .before .before .before .before .pre in
-    let more = begins-within (test .before .before .d .given .0 .0 .end) (test .begins .ensures .yes-so (c .before .if1 .taken)) in
-    (omega (arith, more, goes-on w, asked .0), ready-after (asked .1) w)
+    let first = read .before .before .before .before in
+    let z = first .args in
+    let call = read .read-piece in
+    let f = call .last .1 .1 .1 .0 in
+    let d = test .before .before .d .given in
+    let w = found (z .letters) (z .text .now) piece (z .at) (z .follow .now) f (call .result) (d .0 .0) (d .1) (call .ensures) in
+    let here = begins-within (d .0 .0 .end) (test .begins .ensures .yes-so (c .before .if1 .taken)) in
+    (omega (arith, here, goes-on w, first .pre .0), ready-after (first .pre .1) w)
 
 read-row-enum-known-e : (t : ℕ) → read-row-lts.Need-enum-known-e (read-row-claims t) (read-row-at t) read-row.Post
 read-row-enum-known-e t c = search needs
@@ -361,12 +394,16 @@ read-row-returns t c =
     let next = c .before .before .before .before .before .before .before .before .before .before in
     let test = next .before .before .before in
     let read = test .before .before .before .before .before .before in
-    let z = read .before .before .before .before .args in
-    let w = found (z .letters) (z .text .now) piece (z .at) (z .follow .now) (read .read-piece .last .1 .1 .1 .0) (read .read-piece .result)
-    (test .before .before .d .given .0 .0) (test .before .before .d .given .1) (read .read-piece .ensures) in
-    let v = found (z .letters) (z .text .now) row (test .before .before .d .given .0 .0 .end) (read .read-piece .last .1 .1 .1 .0) (next .read-row .last .1 .1 .1 .0) (next .read-row .result) (c .before .before .before .before .before .before .e .given .0 .0)
-    (c .before .before .before .before .before .before .e .given .1) (next .read-row .ensures) in
-    renamed (c .follow-on .ensures) (row-then (read .before .before .before .before .pre .1 .room) w v (c .before .before .before .link .ensures))
+    let first = read .before .before .before .before in
+    let z = first .args in
+    let call = read .read-piece in
+    let f = call .last .1 .1 .1 .0 in
+    let d = test .before .before .d .given in
+    let w = found (z .letters) (z .text .now) piece (z .at) (z .follow .now) f (call .result) (d .0 .0) (d .1) (call .ensures) in
+    let call′ = next .read-row in
+    let e = c .before .before .before .before .before .before .e .given in
+    let v = found (z .letters) (z .text .now) row (d .0 .0 .end) f (call′ .last .1 .1 .1 .0) (call′ .result) (e .0 .0) (e .1) (call′ .ensures) in
+    renamed (c .follow-on .ensures) (row-then (first .pre .1 .room) w v (c .before .before .before .link .ensures))
 
 read-row-same-length-2 : (t : ℕ) → read-row-lts.Need-same-length-2 (read-row-claims t) (read-row-at t) read-row.Post
 read-row-same-length-2 t c = search needs
@@ -376,12 +413,16 @@ read-row-returns-2 t c =
     let next = c .before .before .before .before in
     let test = next .before .before .before in
     let read = test .before .before .before .before .before .before in
-    let z = read .before .before .before .before .args in
-    let w = found (z .letters) (z .text .now) piece (z .at) (z .follow .now) (read .read-piece .last .1 .1 .1 .0) (read .read-piece .result)
-    (test .before .before .d .given .0 .0) (test .before .before .d .given .1) (read .read-piece .ensures) in
-    let v = nothing (z .letters) (z .text .now) row (test .before .before .d .given .0 .0 .end) (read .read-piece .last .1 .1 .1 .0) (next .read-row .last .1 .1 .1 .0) (next .read-row .result)
-    (c .enum-told .given .1) (next .read-row .ensures) in
-    row-none-after (read .before .before .before .before .pre .1 .few) w (test .begins .ensures .yes-so (next .before .before .if1 .taken)) v
+    let first = read .before .before .before .before in
+    let z = first .args in
+    let call = read .read-piece in
+    let f = call .last .1 .1 .1 .0 in
+    let d = test .before .before .d .given in
+    let w = found (z .letters) (z .text .now) piece (z .at) (z .follow .now) f (call .result) (d .0 .0) (d .1) (call .ensures) in
+    let call′ = next .read-row in
+    let e = c .enum-told .given in
+    let v = nothing (z .letters) (z .text .now) row (d .0 .0 .end) f (call′ .last .1 .1 .1 .0) (call′ .result) (e .1) (call′ .ensures) in
+    row-none-after (first .pre .1 .few) w (test .begins .ensures .yes-so (next .before .before .if1 .taken)) v
 
 read-row-same-length-3 : (t : ℕ) → read-row-lts.Need-same-length-3 (read-row-claims t) (read-row-at t) read-row.Post
 read-row-same-length-3 t c = search needs
@@ -390,9 +431,12 @@ read-row-returns-3 : (t : ℕ) → read-row-lts.Need-returns-3 (read-row-claims 
 read-row-returns-3 t c =
     let test = c .before in
     let read = test .before .before .before .before .before .before in
-    let z = read .before .before .before .before .args in
-    let w = found (z .letters) (z .text .now) piece (z .at) (z .follow .now) (read .read-piece .last .1 .1 .1 .0) (read .read-piece .result)
-    (test .before .before .d .given .0 .0) (test .before .before .d .given .1) (read .read-piece .ensures) in
+    let first = read .before .before .before .before in
+    let z = first .args in
+    let call = read .read-piece in
+    let f = call .last .1 .1 .1 .0 in
+    let d = test .before .before .d .given in
+    let w = found (z .letters) (z .text .now) piece (z .at) (z .follow .now) f (call .result) (d .0 .0) (d .1) (call .ensures) in
     row-single w (test .begins .ensures .not-so (c .if1 .left))
 
 read-row-same-length-4 : (t : ℕ) → read-row-lts.Need-same-length-4 (read-row-claims t) (read-row-at t) read-row.Post
@@ -401,10 +445,11 @@ read-row-same-length-4 t c = search needs
 read-row-returns-4 : (t : ℕ) → read-row-lts.Need-returns-4 (read-row-claims t) (read-row-at t) read-row.Post
 read-row-returns-4 t c =
     let read = c .before .before .before .before in
-    let z = read .before .before .before .before .args in
-    row-none (z .at)
-    (nothing (z .letters) (z .text .now) piece (z .at) (z .follow .now) (read .read-piece .last .1 .1 .1 .0) (read .read-piece .result)
-    (c .enum-told2 .given .1) (read .read-piece .ensures))
+    let first = read .before .before .before .before in
+    let z = first .args in
+    let call = read .read-piece in
+    let v = nothing (z .letters) (z .text .now) piece (z .at) (z .follow .now) (call .last .1 .1 .1 .0) (call .result) (c .enum-told2 .given .1) (call .ensures) in
+    row-none (z .at) v
 
 pub +read-choice+read-piece+read-row-spec : {M : Type 1} → statement M
 +read-choice+read-piece+read-row-spec =
