@@ -18,7 +18,7 @@ use Rattle.expressionrule.specs.Numbering.{ReadAs}
 pub record ReadReady (a : ℕ) (t f rule : List ℕ) : Type 0 where
   pub symbols : a ≤ 16
   pub text : length t ≤ 64
-  pub follow : length f ≤ 64
+  pub follow : length f ≡ 64
   pub room : length rule ≡ 256
 
 -- the answer for the expression e, and what is left of the rule buffer

@@ -30,13 +30,27 @@ fn copy_cells(cells: &[u8], rule: &mut [u8])
 }
 
 // Makes the rule of the expression that was read. A refusal leaves the rule buffer.
-fn number_rule(text: &[u8], follow: &[u64], firsts: u64, lasts: u64, symbols: u64, rule: &mut [u8]) -> ExpressionAnswer
+fn number_rule(
+    text: &[u8],
+    follow: &[u64],
+    firsts: u64,
+    lasts: u64,
+    symbols: u64,
+    rule: &mut [u8],
+) -> ExpressionAnswer
     requires { ⌜ ReadReady symbols (now text) (now follow) (now rule) ⌝ }
     ensures { λ r. ⌜ Numbers symbols (now (text .entry)) (now (follow .entry)) firsts lasts (now (rule .entry)) (now (rule .exit)) r ⌝ }
 {
     let mut sets = [0u64; 16];
     let mut cells = [0u8; 256];
-    let states = number_states(text, follow, firsts, symbols as usize, &mut sets, &mut cells);
+    let states = number_states(
+        text,
+        follow,
+        firsts,
+        symbols as usize,
+        &mut sets,
+        &mut cells,
+    );
     if states == 17 {
         return ExpressionAnswer::Refused(21);
     }

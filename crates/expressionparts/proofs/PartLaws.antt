@@ -11,7 +11,7 @@ use lib.Bits.{bitOr, or-zero-r}
 use lib.ListN.{length, getD, set, length-set}
 use lib.Seq.{getD-set-same, getD-set-other}
 use Rattle.laws.specs.Bits.{has}
-use Rattle.laws.proofs.Bits.{has-empty, same-set}
+use Rattle.laws.proofs.Bits.{has-empty, has-or, same-set}
 use Rattle.laws.proofs.Tests.{fails-of}
 use Rattle.expressionparts.specs.declared.part.Part.{Part}
 use Rattle.expression.specs.Expression.{Expr, letter, following, either, star}
@@ -22,7 +22,7 @@ use Rattle.expression.proofs.Linear.{Spread, spread-le, Between, last-between, 
 use Rattle.expression.proofs.MaskLaws.{last-says, follow-says}
 use Rattle.expression.proofs.SetLaws.{in-between}
 use Rattle.expression.proofs.Unique.{spells-spread}
-use Rattle.expressionparts.proofs.ReadingLaws.{char-within}
+use Rattle.expressionparts.proofs.ReadingLaws.{char-within, unlinked}
 
 -- ---- positions
 
@@ -63,8 +63,26 @@ module _ {i j k m q : ℕ} {d e : Expr} (x : ℕ) (s : Spread i j d) (r : Spread
 -- a position that is not among the last ones is as it was
 link-outside
     : (f f′ : List ℕ) (l r q : ℕ) → Linked f f′ l r → q < length f → has l q ≡ false → getD f′ q 0 ≡ getD f q 0
-link-outside f f′ l r q k h e =
-    k .cells q h ∙ ap (λ (b : Bool). bitOr (getD f q 0) (when b r)) e ∙ or-zero-r (getD f q 0)
+link-outside f f′ l r q k h e = k .cells q h ∙ unlinked (getD f q 0) r (has l q) e
+
+-- a set joined twice is a set joined once
+or-twice : (m n : ℕ) → bitOr (bitOr m n) n ≡ bitOr m n
+or-twice m n =
+    same-set (bitOr (bitOr m n) n) (bitOr m n)
+    (λ q. has-or (bitOr m n) n q ∙ ap (λ (b : Bool). b || has n q) (has-or m n q) ∙ twice (has m q) (has n q) ∙ sym (has-or m n q))
+  where
+    twice : (b c : Bool) → ((b || c) || c) ≡ (b || c)
+    twice true c = refl
+    twice false true = refl
+    twice false false = refl
+
+-- linking again changes nothing
+linked-again : (f f′ : List ℕ) (l r : ℕ) → Linked f f′ l r → Linked f′ f′ l r
+linked-again f f′ l r k = record { long = refl; cells = λ q h. again q (k .cells q (omega (arith, h, k .long))) }
+  where
+    again : (q : ℕ) → getD f′ q 0 ≡ bitOr (getD f q 0) (when (has l q) r) → getD f′ q 0 ≡ bitOr (getD f′ q 0) (when (has l q) r)
+    again q e =
+        e ∙ sym (or-twice (getD f q 0) (when (has l q) r)) ∙ ap (λ (x : ℕ). bitOr x (when (has l q) r)) (sym e)
 
 module _ {a : ℕ} {t : List ℕ} where
   -- the part of a letter
@@ -238,26 +256,26 @@ either-fields d e n h = cc h
 
 -- ---- stars
 
--- the stars so far are read
-pub record Starring (t : List ℕ) (d : Part) (f f′ : List ℕ) (j : ℕ) (n : Bool) : Type 0 where
-  pub long : length f′ ≡ length f
-  pub shown : (a i : ℕ) (f₀ : List ℕ) → Shown a t piece i f₀ f d → Shown a t piece i f₀ f′ (upTo d j n)
+-- no star stands after the part
+pub starred-none : (t : List ℕ) (d : Part) (f : List ℕ) → (At t (d .end) 42 → ⊥) → Starred t d f f d
+starred-none t d f p a i f₀ s = record { shown = s; stops = p }
 
--- before the first star, after one more, and after the last
-pub starring-none : (t : List ℕ) (d : Part) (f : List ℕ) → Starring t d f f (d .end) (d .nullable)
-starring-none t d f = record { long = refl; shown = λ a i f₀ s. s }
+-- the stars up to j are read where the part has been linked to itself
+abbrev pub Starring : List ℕ → Part → List ℕ → ℕ → Type 0
+Starring t d f′ j =
+    (f : List ℕ) → length t ≤ length f → Linked f f′ (d .last) (d .first)
+    → (a i : ℕ) (f₀ : List ℕ) → Shown a t piece i f₀ f d → Shown a t piece i f₀ f′ (upTo d j true)
 
-pub starring-more
-    : (t : List ℕ) (d : Part) (f f′ f″ : List ℕ) (j : ℕ) (n : Bool) → length t ≤ length f → Starring t d f f′ j n → At t j 42
-    → Linked f′ f″ (d .last) (d .first) → Starring t d f f″ (j + 1) true
-starring-more t d f f′ f″ j n room h p k =
-    record {
-      long = k .long ∙ h .long;
-      shown = λ a i f₀ s. star-shown i f₀ f′ f″ d j n (omega (arith, room, s .long)) p k (h .shown a i f₀ s);
-    }
+-- after the first star, after one more, and after the last
+pub starring-first : (t : List ℕ) (d : Part) (f′ : List ℕ) → At t (d .end) 42 → Starring t d f′ (d .end + 1)
+starring-first t d f′ p f room k a i f₀ s = star-shown i f₀ f f′ d (d .end) (d .nullable) (omega (arith, room, s .long)) p k s
+
+pub starring-more : (t : List ℕ) (d : Part) (f′ : List ℕ) (j : ℕ) → Starring t d f′ j → At t j 42 → Starring t d f′ (j + 1)
+starring-more t d f′ j h p f room k a i f₀ s =
+    star-shown i f₀ f′ f′ d j true (omega (arith, room, s .long)) p (linked-again f f′ (d .last) (d .first) k) (h f room k a i f₀ s)
 
 pub starring-all
-    : (t : List ℕ) (d r : Part) (f f′ : List ℕ) (j : ℕ) (n : Bool) → Starring t d f f′ j n → (At t j 42 → ⊥) → r ≡ upTo d j n
-    → Starred t d f f′ r
-starring-all t d r f f′ j n h p e a i f₀ s =
-    subst (λ (x : Part). Whole a t piece i f₀ f′ x) (sym e) (record { shown = h .shown a i f₀ s; stops = p })
+    : (t : List ℕ) (d r : Part) (f f′ : List ℕ) (j : ℕ) → Starring t d f′ j → length t ≤ length f → Linked f f′ (d .last) (d .first)
+    → (At t j 42 → ⊥) → r ≡ upTo d j true → Starred t d f f′ r
+starring-all t d r f f′ j h room k p e a i f₀ s =
+    subst (λ (x : Part). Whole a t piece i f₀ f′ x) (sym e) (record { shown = h f room k a i f₀ s; stops = p })

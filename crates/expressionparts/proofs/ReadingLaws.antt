@@ -4,16 +4,18 @@ use mathlib.Core.Path.{_≡_, refl, sym, ap, _∙_}
 use mathlib.Core.Logic.{by-cases, _≢_}
 use mathlib.Core.Bool.{Bool, true, false, true≢false, false≢true}
 use mathlib.Core.List.{List, [], _∷_}
-use Prim.Native.Nat.{ℕ, zero, suc, _+_, _/_, _^_, _≤_, _<_}
+use Prim.Native.Nat.{ℕ, zero, suc, _+_, _-_, _/_, _^_, _≤_, _<_}
 use native.Mathlib.Nat.{le-of-suc-le-suc, not-suc-le-zero, lt-of-not-le}
-use native.Mathlib.Decide.{ℕ-discrete}
+use native.Mathlib.Decide.{decLt, ℕ-discrete}
 use native.Mathlib.Omega.{arith}
 use lib.Dec.{eqb, ltb}
-use lib.Bits.{bitOr, bitAnd, and-mask}
+use lib.Bits.{bitOr, bitAnd, and-mask, or-zero-r}
+use lib.Count.{trailingZeros}
 use lib.ListN.{length, getD, set, length-set}
 use lib.Seq.{getD-set-same, getD-set-other}
 use borrow.Author.Tests.{eqb-true, eqb-false, ltb-true, ltb-false}
 use Rattle.laws.specs.Bits.{has}
+use Rattle.laws.proofs.Walk.{Rest, rest-start, rest-from, rest-low, rest-lt, rest-none, rest-next, rest-done}
 use Rattle.expression.specs.Grammar.{At, IsLetter}
 use Rattle.expression.specs.Masks.{when}
 use Rattle.expression.specs.Stops.{Begins, by-letter, by-group}
@@ -59,46 +61,75 @@ tells-begins a t i b n h = record { yes-so = λ e. by-letter (h .yes-so e); not-
     go e (by-letter x) = h .not-so e x
     go e (by-group x) = n x
 
--- ---- linking
-
 -- the test of a bit in the code
 pub bit-test : (s q : ℕ) → eqb (bitAnd (s / 2 ^ q) 1) 1 ≡ has s q
 unfolding has
 bit-test s q = ap (λ (n : ℕ). eqb n 1) (and-mask (s / 2 ^ q) 1)
 
--- the positions below q are linked, the others are as they were
-pub record Linking (f₀ f : List ℕ) (lasts firsts q : ℕ) : Type 0 where
-  pub long : length f ≡ length f₀
-  pub within : q ≤ length f₀
-  pub done : (k : ℕ) → k < q → getD f k 0 ≡ bitOr (getD f₀ k 0) (when (has lasts k) firsts)
-  pub rest : (k : ℕ) → q ≤ k → getD f k 0 ≡ getD f₀ k 0
+-- ---- linking
 
--- at the start, at each position, and past the last
-pub linking-none : (f : List ℕ) (lasts firsts : ℕ) → Linking f f lasts firsts 0
-linking-none f l r = record { long = refl; within = omega arith; done = λ k h. absurd (not-suc-le-zero h); rest = λ k h. refl }
+-- a position that is not in the set is as it was
+pub unlinked : (n firsts : ℕ) (b : Bool) → b ≡ false → bitOr n (when b firsts) ≡ n
+unlinked n firsts b e = ap (λ (x : Bool). bitOr n (when x firsts)) e ∙ or-zero-r n
+
+-- `rest` is the members of the set from some number on; the positions before it are linked, the others are as they were
+pub record Linking (f₀ f : List ℕ) (lasts firsts rest : ℕ) : Type 0 where
+  pub passed : ℕ
+  pub left : Rest 64 lasts rest passed
+  pub long : length f ≡ length f₀
+  pub done : (k : ℕ) → k < passed → getD f k 0 ≡ bitOr (getD f₀ k 0) (when (has lasts k) firsts)
+  pub others : (k : ℕ) → passed ≤ k → getD f k 0 ≡ getD f₀ k 0
+
+-- at the start, at each member, and after the last
+pub linking-none : (f : List ℕ) (lasts firsts : ℕ) → lasts < 2 ^ 64 → Linking f f lasts firsts lasts
+linking-none f l r h =
+    record { passed = 0; left = rest-start 64 l h; long = refl; done = λ k h. absurd (not-suc-le-zero h); others = λ k h. refl }
 
 pub linking-more
-    : (f₀ f : List ℕ) (lasts firsts q mask : ℕ) → Linking f₀ f lasts firsts q → q < length f
-    → mask ≡ when (eqb (bitAnd (lasts / 2 ^ q) 1) 1) firsts
-    → Linking f₀ (set f q (bitOr (getD f q 0) mask)) lasts firsts (q + 1)
-linking-more f₀ f lasts firsts q mask h l e =
+    : (f₀ f : List ℕ) (lasts firsts rest : ℕ) → Linking f₀ f lasts firsts rest → 0 < rest → length f₀ ≡ 64
+    → Linking f₀ (set f (trailingZeros 64 rest) (bitOr (getD f (trailingZeros 64 rest) 0) firsts)) lasts firsts (bitAnd rest (rest - 1))
+linking-more f₀ f lasts firsts rest h p whole =
     record {
-      long = length-set f q (bitOr (getD f q 0) mask) ∙ h .long;
-      within = omega (arith, h .long, l);
+      passed = q + 1;
+      left = rest-next (h .left) p;
+      long = length-set f q value ∙ h .long;
       done = done;
-      rest = λ k g. getD-set-other f q k (bitOr (getD f q 0) mask) 0 (λ n. omega (arith, n, g)) ∙ h .rest k (omega arith);
+      others = λ k g. getD-set-other f q k value 0 (λ n. omega (arith, n, g)) ∙ h .others k (omega (arith, g, from));
     }
   where
-    here : mask ≡ when (has lasts q) firsts
-    here = e ∙ ap (λ (b : Bool). when b firsts) (bit-test lasts q)
+    q : ℕ
+    q = trailingZeros 64 rest
 
-    done : (k : ℕ) → k < q + 1 → getD (set f q (bitOr (getD f q 0) mask)) k 0 ≡ bitOr (getD f₀ k 0) (when (has lasts k) firsts)
+    value : ℕ
+    value = bitOr (getD f q 0) firsts
+
+    from : h .passed ≤ q
+    from = rest-from (h .left) p
+
+    within : q < length f
+    within = omega (arith, rest-lt (h .left) p, h .long, whole)
+
+    here : value ≡ bitOr (getD f₀ q 0) (when (has lasts q) firsts)
+    here = cc (h .others q from, rest-low (h .left) p)
+
+    done : (k : ℕ) → k < q + 1 → getD (set f q value) k 0 ≡ bitOr (getD f₀ k 0) (when (has lasts k) firsts)
     done k g =
         by-cases (ℕ-discrete k q)
-        (λ (n : k ≡ q).
-        rw n (getD-set-same f q (bitOr (getD f q 0) mask) 0 l ∙ ap (λ (x : ℕ). bitOr x mask) (h .rest q (omega arith))
-        ∙ ap (λ (x : ℕ). bitOr (getD f₀ q 0) x) here))
-        (λ (n : k ≢ q). getD-set-other f q k (bitOr (getD f q 0) mask) 0 n ∙ h .done k (omega (arith, n)))
+        (λ (n : k ≡ q). rw n (getD-set-same f q value 0 within ∙ here))
+        (λ (n : k ≢ q).
+        getD-set-other f q k value 0 n
+        ∙ by-cases (decLt k (h .passed))
+        (λ l. h .done k l)
+        (λ l.
+        h .others k (omega arith)
+        ∙ sym (unlinked (getD f₀ k 0) firsts (has lasts k) (rest-none (h .left) k (omega arith) (omega (arith, n))))))
 
-pub linking-all : (f₀ f : List ℕ) (lasts firsts q : ℕ) → Linking f₀ f lasts firsts q → length f ≤ q → Linked f₀ f lasts firsts
-linking-all f₀ f lasts firsts q h l = record { long = h .long; cells = λ k g. h .done k (omega (arith, h .long)) }
+pub linking-all : (f₀ f : List ℕ) (lasts firsts rest : ℕ) → Linking f₀ f lasts firsts rest → rest ≡ 0 → Linked f₀ f lasts firsts
+linking-all f₀ f lasts firsts rest h e =
+    record {
+      long = h .long;
+      cells = λ k g.
+          by-cases (decLt k (h .passed))
+          (λ l. h .done k l)
+          (λ l. h .others k (omega arith) ∙ sym (unlinked (getD f₀ k 0) firsts (has lasts k) (rest-done (h .left) e k (omega arith))));
+    }

@@ -76,7 +76,7 @@ Starred t d f f′ r = (a i : ℕ) (f₀ : List ℕ) → Shown a t piece i f₀ 
 pub record Ready (a : ℕ) (t f : List ℕ) : Type 0 where
   pub few : a ≤ 16
   pub room : length t ≤ length f
-  pub fits : length f ≤ 64
+  pub fits : length f ≡ 64
 
 -- the reader's answer for a whole text
 abbrev pub TextAnswer : ℕ → List ℕ → List ℕ → List ℕ → Read → Type 0

@@ -244,7 +244,7 @@ expression-by-number t a rule (makes m) x =
     read-back : (s f : ℕ) → f < 2 ^ 16 → expressionSeen (acceptedFrom + s * 2 ^ 16 + f) ≡ Accepted (record { states = s; finals = f })
     read-back s f small =
         let big : ltb (acceptedFrom + s * 2 ^ 16 + f) acceptedFrom ≡ false =
-            le-ltb (acceptedFrom + s * 2 ^ 16 + f) acceptedFrom (omega arith) in
+        le-ltb (acceptedFrom + s * 2 ^ 16 + f) acceptedFrom (omega arith) in
         let states : (acceptedFrom + s * 2 ^ 16 + f - acceptedFrom) / 2 ^ 16 ≡ s = omega (arith, small) in
         let finals : (acceptedFrom + s * 2 ^ 16 + f - acceptedFrom) % 2 ^ 16 ≡ f = omega (arith, small) in
         simp (big, states, finals)

@@ -17,7 +17,7 @@ use Rattle.laws.proofs.Tests.{test-ext}
 use Rattle.expression.specs.Expression.{Expr}
 use Rattle.expression.specs.Masks.{In, first, follow, unionOver, placesOf, startSet, nextSet, aim}
 use Rattle.expressionrule.specs.ExpressionRule.{FirstMet}
-use Rattle.expressionrule.specs.Numbering.{cellAt, Cells, MetBy, Growing, ReadAs, Aimed, Sought, Added, RowReady, RowDone, AllDone, TooMany}
+use Rattle.expressionrule.specs.Numbering.{cellAt, Cells, MetBy, Growing, ReadAs, PlacesAre, Onward, Sought, Added, RowReady, RowDone, AllDone, TooMany}
 use Rattle.expression.proofs.Unique.{spells-spread}
 use Rattle.expression.proofs.Reach.{first-in, follow-in}
 use Rattle.expression.proofs.MaskLaws.{first-says, follow-says}
@@ -35,7 +35,7 @@ unfolding aim startSet nextSet
 aim-inside t e sets zero s p h = first-in (first-says e p .0 (both-to (first e) (placesOf t (length t) s) p h .0))
 aim-inside t e sets (suc q) s p h =
     let r = union-says (length t) (follow e) (getD sets (suc q) 0) p .0
-        (both-to (unionOver (length t) (follow e) (getD sets (suc q) 0)) (placesOf t (length t) s) p h .0) in
+    (both-to (unionOver (length t) (follow e) (getD sets (suc q) 0)) (placesOf t (length t) s) p h .0) in
     follow-in (follow-says e (r .from) p .0 (r .there))
 
 -- what the buffer says of a set of places is what the expression says
@@ -68,19 +68,18 @@ union-same a t e firsts f k h inside =
           there = subst (λ (x : ℕ). has x q ≡ true) (sym (h .follows (r .from) i)) (r .there);
         })
 
--- what `aim_of` returns
-pub aimed-start
-    : (t f : List ℕ) (firsts : ℕ) (sets : List ℕ) (q s y : ℕ) → q ≡ 0 → y ≡ placesOf t (length t) s → Aimed t f firsts sets q s (bitAnd firsts y)
+-- the positions that can come next: the first from the start, those that follow the set's from another state
+pub onward-start : (f : List ℕ) (firsts : ℕ) (sets : List ℕ) (q : ℕ) → q ≡ 0 → Onward f firsts sets q firsts
 unfolding aim startSet
-aimed-start t f firsts sets q s y z e a x h i = rw z (cc (h .start, e))
+onward-start f firsts sets q z a t e h i s = rw z (cc (h .start))
 
-pub aimed-set
-    : (t f : List ℕ) (firsts : ℕ) (sets : List ℕ) (q s x y : ℕ) → (q ≡ 0 → ⊥)
-    → x ≡ unionOver (length f) (λ p. getD f p 0) (getD sets q 0) → y ≡ placesOf t (length t) s → Aimed t f firsts sets q s (bitAnd x y)
+pub onward-set
+    : (f : List ℕ) (firsts : ℕ) (sets : List ℕ) (q x : ℕ) → (q ≡ 0 → ⊥) → x ≡ unionOver (length f) (λ p. getD f p 0) (getD sets q 0)
+    → Onward f firsts sets q x
 unfolding aim nextSet
-aimed-set t f firsts sets zero s x y z u e a r h i = absurd (z refl)
-aimed-set t f firsts sets (suc q) s x y z u e a r h i =
-    cc (u ∙ union-same a t r firsts f (getD sets (suc q) 0) h (λ p m. i p (omega arith) m), e)
+onward-set f firsts sets zero x z u a t e h i s = absurd (z refl)
+onward-set f firsts sets (suc q) x z u a t e h i s =
+    cc (u ∙ union-same a t e firsts f (getD sets (suc q) 0) h (λ p m. i p (omega arith) m))
 
 -- where a number is met first is not changed by a later cell
 met-later : (a k n i : ℕ) (cells : List ℕ) → MetBy a cells n k → MetBy a (set cells n i) (n + 1) k
@@ -288,37 +287,51 @@ module _ (a : ℕ) (t : List ℕ) (e : Expr) where
 
 -- ---- the loops
 
--- row q is done up to symbol s
-pub record Rowing (a : ℕ) (t f : List ℕ) (firsts q count : ℕ) (sets₀ cells₀ sets cells : List ℕ) (n s : ℕ) : Type 0 where
+-- row q is done up to symbol s; its own set is as it was
+pub record Rowing (a : ℕ) (places f : List ℕ) (firsts q count : ℕ) (sets₀ cells₀ sets cells : List ℕ) (n s : ℕ) : Type 0 where
   pub more : count ≤ n
   pub few : n ≤ 16
   pub sets-long : length sets ≡ length sets₀
   pub cells-long : length cells ≡ length cells₀
   pub within : s ≤ a
-  pub grown : (e : Expr) → ReadAs a t e firsts f → Growing a t e sets₀ cells₀ count (q * 16) → Growing a t e sets cells n (q * 16 + s)
+  pub kept : getD sets q 0 ≡ getD sets₀ q 0
+  pub grown
+      : (t : List ℕ) (e : Expr) → PlacesAre t a places → ReadAs a t e firsts f → Growing a t e sets₀ cells₀ count (q * 16)
+      → Growing a t e sets cells n (q * 16 + s)
 
 pub rowing-none
-    : (a : ℕ) (t f : List ℕ) (firsts q count : ℕ) (sets cells : List ℕ) → count ≤ 16 → Rowing a t f firsts q count sets cells sets cells count 0
-rowing-none a t f firsts q count sets cells h =
+    : (a : ℕ) (places f : List ℕ) (firsts q count : ℕ) (sets cells : List ℕ) → count ≤ 16
+    → Rowing a places f firsts q count sets cells sets cells count 0
+rowing-none a places f firsts q count sets cells h =
     record {
       more = omega arith;
       few = h;
       sets-long = refl;
       cells-long = refl;
       within = omega arith;
-      grown = λ e r g. subst (λ (n : ℕ). Growing a t e sets cells count n) (omega arith) g;
+      kept = refl;
+      grown = λ t e l r g. subst (λ (n : ℕ). Growing a t e sets cells count n) (omega arith) g;
     }
 
-module _ (a : ℕ) (t f : List ℕ) (firsts q count : ℕ) (sets₀ cells₀ sets cells : List ℕ) (n s : ℕ) (ready : RowReady a t f q count sets₀ cells₀)
-    (w : Rowing a t f firsts q count sets₀ cells₀ sets cells n s) (x i : ℕ) (inside : s < a) (aimed : Aimed t f firsts sets q s x)
-    (sought : Sought sets n x i) where
-  -- the set is the aim
-  is-aim : (e : Expr) → ReadAs a t e firsts f → Growing a t e sets₀ cells₀ count (q * 16) → x ≡ aim t e sets q s
-  is-aim e r g = aimed a e r (λ p l m. w .grown e r g .linked .inside q p l (omega (arith, ready .row, w .more)) m)
+module _ (a : ℕ) (places f : List ℕ) (firsts q count : ℕ) (sets₀ cells₀ sets cells : List ℕ) (n s : ℕ)
+    (ready : RowReady a places f q count sets₀ cells₀) (w : Rowing a places f firsts q count sets₀ cells₀ sets cells n s) (o i : ℕ)
+    (inside : s < a) (onward : Onward f firsts sets₀ q o) (sought : Sought sets n (bitAnd o (getD places s 0)) i) where
+  -- the set that is sought
+  abbrev x : ℕ
+  x = bitAnd o (getD places s 0)
+
+  -- it is the aim
+  is-aim
+      : (t : List ℕ) (e : Expr) → PlacesAre t a places → ReadAs a t e firsts f → Growing a t e sets₀ cells₀ count (q * 16)
+      → x ≡ aim t e sets q s
+  is-aim t e l r g =
+      ap (λ (y : ℕ). bitAnd o y) (l .are s inside)
+      ∙ onward a t e r (λ p b m. g .linked .inside q p b (ready .row) m) s
+      ∙ aim-same t e sets₀ sets q s (sym (w .kept))
 
   pub rowing-more
       : (sets′ : List ℕ) (r : ℕ) → i ≢ 16 → Added sets sets′ n i x r
-      → Rowing a t f firsts q count sets₀ cells₀ sets′ (set cells (q * 16 + s) i) r (s + 1)
+      → Rowing a places f firsts q count sets₀ cells₀ sets′ (set cells (q * 16 + s) i) r (s + 1)
   rowing-more sets′ r not-many added =
       by-cases (decLt i n)
       (λ (l : i < n).
@@ -329,12 +342,13 @@ module _ (a : ℕ) (t f : List ℕ) (firsts q count : ℕ) (sets₀ cells₀ set
         sets-long = ap length (d .0) ∙ w .sets-long;
         cells-long = length-set cells (q * 16 + s) i ∙ w .cells-long;
         within = omega arith;
-        grown = λ e k g.
+        kept = ap (λ (y : List ℕ). getD y q 0) (d .0) ∙ w .kept;
+        grown = λ t e v k g.
             subst (λ (z : ℕ). Growing a t e sets′ (set cells (q * 16 + s) i) r z) (omega arith)
             (subst (λ (z : ℕ). Growing a t e sets′ (set cells (q * 16 + s) i) z (q * 16 + s + 1)) (sym (d .1))
             (subst (λ (z : List ℕ). Growing a t e z (set cells (q * 16 + s) i) n (q * 16 + s + 1)) (sym (d .0))
-            (growing-old a t e sets cells n q s i (ready .symbols) inside (omega (arith, ready .row, w .more)) (w .grown e k g) (sought .low) l
-            (sought .here l ∙ is-aim e k g))));
+            (growing-old a t e sets cells n q s i (ready .symbols) inside (omega (arith, ready .row, w .more)) (w .grown t e v k g)
+            (sought .low) l (sought .here l ∙ is-aim t e v k g))));
       })
       (λ (l : i < n → ⊥).
       let d = added .new (omega (arith, l)) in
@@ -346,91 +360,98 @@ module _ (a : ℕ) (t f : List ℕ) (firsts q count : ℕ) (sets₀ cells₀ set
         sets-long = ap length (d .0) ∙ length-set sets n x ∙ w .sets-long;
         cells-long = length-set cells (q * 16 + s) i ∙ w .cells-long;
         within = omega arith;
-        grown = λ e k g.
+        kept = ap (λ (z : List ℕ). getD z q 0) (d .0) ∙ getD-set-other sets n q x 0 (λ z. omega (arith, z, ready .row, w .more)) ∙ w .kept;
+        grown = λ t e v k g.
             subst (λ (z : ℕ). Growing a t e sets′ (set cells (q * 16 + s) i) r z) (omega arith)
             (subst (λ (z : ℕ). Growing a t e sets′ (set cells (q * 16 + s) i) z (q * 16 + s + 1)) (sym (d .1))
             (subst (λ (z : List ℕ). Growing a t e z (set cells (q * 16 + s) i) (n + 1) (q * 16 + s + 1)) (sym (d .0))
             (subst (λ (z : ℕ). Growing a t e (set sets n x) (set cells (q * 16 + s) z) (n + 1) (q * 16 + s + 1)) (sym y)
-            (growing-new a t e sets cells n q s x (ready .symbols) inside (omega (arith, ready .row, w .more)) room (w .grown e k g) (is-aim e k g)
-            (sought .none y)))));
+            (growing-new a t e sets cells n q s x (ready .symbols) inside (omega (arith, ready .row, w .more)) room (w .grown t e v k g)
+            (is-aim t e v k g) (sought .none y)))));
       })
 
-  pub row-many
-      : (sets-long : length sets ≡ length sets₀) → i ≡ 16 → RowDone a t f firsts q count sets₀ cells₀ sets cells 17
-  row-many z y =
+  pub row-many : i ≡ 16 → RowDone a places f firsts q count sets₀ cells₀ sets cells 17
+  row-many y =
       record {
         more = omega (arith, ready .few);
         most = omega arith;
         sets-long = w .sets-long;
         cells-long = w .cells-long;
-        grown = λ e k g l. absurd (omega (arith, l));
-        many = λ e k g l.
+        grown = λ t e v k g l. absurd (omega (arith, l));
+        many = λ t e v k g l.
             let full : n ≡ 16 = omega (arith, y, sought .high, w .few) in
             record {
               sets = sets;
               cells = cells;
               row = q;
               column = s;
-              grown = subst (λ (u : ℕ). Growing a t e sets cells u (q * 16 + s)) full (w .grown e k g);
+              grown = subst (λ (u : ℕ). Growing a t e sets cells u (q * 16 + s)) full (w .grown t e v k g);
               row-in = omega (arith, ready .row, ready .few);
               column-in = inside;
-              fresh = λ p lo hi v. sought .none (y ∙ sym full) p lo (omega (arith, hi, full)) (v ∙ sym (is-aim e k g));
+              fresh = λ p lo hi z. sought .none (y ∙ sym full) p lo (omega (arith, hi, full)) (z ∙ sym (is-aim t e v k g));
             };
       }
 
 pub row-done
-    : (a : ℕ) (t f : List ℕ) (firsts q count : ℕ) (sets₀ cells₀ sets cells : List ℕ) (n s : ℕ) → a ≤ 16 → a ≤ s
-    → Rowing a t f firsts q count sets₀ cells₀ sets cells n s → RowDone a t f firsts q count sets₀ cells₀ sets cells n
-row-done a t f firsts q count sets₀ cells₀ sets cells n s few l w =
+    : (a : ℕ) (places f : List ℕ) (firsts q count : ℕ) (sets₀ cells₀ sets cells : List ℕ) (n s : ℕ) → a ≤ 16 → a ≤ s
+    → Rowing a places f firsts q count sets₀ cells₀ sets cells n s → RowDone a places f firsts q count sets₀ cells₀ sets cells n
+row-done a places f firsts q count sets₀ cells₀ sets cells n s few l w =
     record {
       more = w .more;
       most = omega (arith, w .few);
       sets-long = w .sets-long;
       cells-long = w .cells-long;
-      grown = λ e k g h.
+      grown = λ t e v k g h.
           growing-row a t e sets cells n q few
-          (subst (λ (z : ℕ). Growing a t e sets cells n (q * 16 + z)) (omega (arith, l, w .within)) (w .grown e k g));
-      many = λ e k g h. absurd (omega (arith, h, w .few));
+          (subst (λ (z : ℕ). Growing a t e sets cells n (q * 16 + z)) (omega (arith, l, w .within)) (w .grown t e v k g));
+      many = λ t e v k g h. absurd (omega (arith, h, w .few));
     }
 
 -- the rows before q are done
-pub record Rows (a : ℕ) (t f : List ℕ) (firsts : ℕ) (sets₀ cells₀ sets cells : List ℕ) (n q : ℕ) : Type 0 where
+pub record Rows (a : ℕ) (places f : List ℕ) (firsts : ℕ) (sets₀ cells₀ sets cells : List ℕ) (n q : ℕ) : Type 0 where
   pub within : q ≤ n
   pub few : n ≤ 16
   pub sets-long : length sets ≡ length sets₀
   pub cells-long : length cells ≡ length cells₀
-  pub grown : (e : Expr) → ReadAs a t e firsts f → Growing a t e sets₀ cells₀ 1 0 → Growing a t e sets cells n (q * 16)
+  pub grown
+      : (t : List ℕ) (e : Expr) → PlacesAre t a places → ReadAs a t e firsts f → Growing a t e sets₀ cells₀ 1 0
+      → Growing a t e sets cells n (q * 16)
 
-pub rows-none : (a : ℕ) (t f : List ℕ) (firsts : ℕ) (sets cells : List ℕ) → Rows a t f firsts sets cells sets cells 1 0
-rows-none a t f firsts sets cells =
-    record { within = omega arith; few = omega arith; sets-long = refl; cells-long = refl; grown = λ e r g. g }
+pub rows-none : (a : ℕ) (places f : List ℕ) (firsts : ℕ) (sets cells : List ℕ) → Rows a places f firsts sets cells sets cells 1 0
+rows-none a places f firsts sets cells =
+    record { within = omega arith; few = omega arith; sets-long = refl; cells-long = refl; grown = λ t e l r g. g }
 
-module _ (a : ℕ) (t f : List ℕ) (firsts : ℕ) (sets₀ cells₀ sets cells : List ℕ) (n q : ℕ) (w : Rows a t f firsts sets₀ cells₀ sets cells n q)
-    (sets′ cells′ : List ℕ) (r : ℕ) (inside : q < n) (d : RowDone a t f firsts q n sets cells sets′ cells′ r) where
-  pub rows-more : r ≢ 17 → Rows a t f firsts sets₀ cells₀ sets′ cells′ r (q + 1)
+module _ (a : ℕ) (places f : List ℕ) (firsts : ℕ) (sets₀ cells₀ sets cells : List ℕ) (n q : ℕ)
+    (w : Rows a places f firsts sets₀ cells₀ sets cells n q) (sets′ cells′ : List ℕ) (r : ℕ) (inside : q < n)
+    (d : RowDone a places f firsts q n sets cells sets′ cells′ r) where
+  pub rows-more : r ≢ 17 → Rows a places f firsts sets₀ cells₀ sets′ cells′ r (q + 1)
   rows-more h =
       record {
         within = omega (arith, d .more);
         few = omega (arith, d .most, h);
         sets-long = d .sets-long ∙ w .sets-long;
         cells-long = d .cells-long ∙ w .cells-long;
-        grown = λ e k g. d .grown e k (w .grown e k g) (omega (arith, d .most, h));
+        grown = λ t e v k g. d .grown t e v k (w .grown t e v k g) (omega (arith, d .most, h));
       }
 
-  pub all-many : r ≡ 17 → AllDone a t f firsts sets₀ cells₀ sets′ cells′ 17
-  all-many h =
+  pub all-many : (t : List ℕ) → PlacesAre t a places → r ≡ 17 → AllDone a t f firsts sets₀ cells₀ sets′ cells′ 17
+  all-many t l h =
       record {
         most = omega arith;
-        grown = λ e k g l. absurd (omega (arith, l));
-        many = λ e k g l. d .many e k (w .grown e k g) h;
+        sets-long = d .sets-long ∙ w .sets-long;
+        cells-long = d .cells-long ∙ w .cells-long;
+        grown = λ e k g z. absurd (omega (arith, z));
+        many = λ e k g z. d .many t e l k (w .grown t e l k g) h;
       }
 
 pub all-done
-    : (a : ℕ) (t f : List ℕ) (firsts : ℕ) (sets₀ cells₀ sets cells : List ℕ) (n q : ℕ) → n ≤ q → Rows a t f firsts sets₀ cells₀ sets cells n q
-    → AllDone a t f firsts sets₀ cells₀ sets cells n
-all-done a t f firsts sets₀ cells₀ sets cells n q l w =
+    : (a : ℕ) (t places f : List ℕ) (firsts : ℕ) (sets₀ cells₀ sets cells : List ℕ) (n q : ℕ) → PlacesAre t a places → n ≤ q
+    → Rows a places f firsts sets₀ cells₀ sets cells n q → AllDone a t f firsts sets₀ cells₀ sets cells n
+all-done a t places f firsts sets₀ cells₀ sets cells n q p l w =
     record {
       most = omega (arith, w .few);
-      grown = λ e k g h. subst (λ (z : ℕ). Growing a t e sets cells n (z * 16)) (omega (arith, l, w .within)) (w .grown e k g);
+      sets-long = w .sets-long;
+      cells-long = w .cells-long;
+      grown = λ e k g h. subst (λ (z : ℕ). Growing a t e sets cells n (z * 16)) (omega (arith, l, w .within)) (w .grown t e p k g);
       many = λ e k g h. absurd (omega (arith, h, w .few));
     }

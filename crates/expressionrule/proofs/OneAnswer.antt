@@ -71,8 +71,7 @@ just-one =
         : (t : List ℕ) (a : ℕ) (before after other : List ℕ) (r s : ExpressionAnswer) → AnswersExpression t a before after r
         → AnswersExpression t a before other s → (r ≡ s) × (after ≡ other)
     one-answer t a before after other r s p q =
-        let same = both t a (length before) (p .makes) (q .makes) in
-        (
+        let same = both t a (length before) (p .makes) (q .makes) in (
           p .answer ∙ ap expressionAnswer same ∙ sym (q .answer),
           p .buffer ∙ ap (λ (x : Made). madeAfter x before) same ∙ sym (q .buffer),
         )

@@ -11,7 +11,7 @@ use lib.ListN.{length, getD, set}
 use Rattle.laws.specs.Bits.{has}
 use Rattle.expression.specs.Expression.{Expr}
 use Rattle.expression.specs.Grammar.{TextOf}
-use Rattle.expression.specs.Masks.{In, first, follow, aim}
+use Rattle.expression.specs.Masks.{In, first, follow, placesOf, aim}
 use Rattle.expressionrule.specs.ExpressionRule.{FirstMet}
 
 -- a cell of the table in row order
@@ -41,7 +41,6 @@ pub record Growing (a : ℕ) (t : List ℕ) (e : Expr) (sets cells : List ℕ) (
   pub linked : Cells a t e sets cells count n
   pub met : (k : ℕ) → 1 ≤ k → k < count → MetBy a cells n k
 
-
 -- what was read of the text is the expression e
 pub record ReadAs (a : ℕ) (t : List ℕ) (e : Expr) (firsts : ℕ) (f : List ℕ) : Type 0 where
   pub spelt : TextOf a t e
@@ -56,10 +55,16 @@ pub record Sought (sets : List ℕ) (count x r : ℕ) : Type 0 where
   pub here : r < count → getD sets r 0 ≡ x
   pub none : r ≡ count → (p : ℕ) → 1 ≤ p → p < count → getD sets p 0 ≢ x
 
--- the set that an event leads to
-abbrev pub Aimed : List ℕ → List ℕ → ℕ → List ℕ → ℕ → ℕ → ℕ → Type 0
-Aimed t f firsts sets q s r =
-    (a : ℕ) (e : Expr) → ReadAs a t e firsts f → ((p : ℕ) → 1 ≤ q → has (getD sets q 0) p ≡ true → In e p) → r ≡ aim t e sets q s
+-- the positions of each symbol's letter
+pub record PlacesAre (t : List ℕ) (a : ℕ) (places : List ℕ) : Type 0 where
+  pub long : length places ≡ 16
+  pub are : (s : ℕ) → s < a → getD places s 0 ≡ placesOf t (length t) s
+
+-- the positions that can come next in state q: those of a symbol's letter among them are the set that the symbol leads to
+abbrev pub Onward : List ℕ → ℕ → List ℕ → ℕ → ℕ → Type 0
+Onward f firsts sets q r =
+    (a : ℕ) (t : List ℕ) (e : Expr) → ReadAs a t e firsts f → ((p : ℕ) → 1 ≤ q → has (getD sets q 0) p ≡ true → In e p) → (s : ℕ)
+    → bitAnd r (placesOf t (length t) s) ≡ aim t e sets q s
 
 -- the set x is one of n at i, or becomes the last
 pub record Added (sets₀ sets : List ℕ) (n i x r : ℕ) : Type 0 where
@@ -84,26 +89,40 @@ pub record TooMany (a : ℕ) (t : List ℕ) (e : Expr) : Type 0 where
   pub fresh : (p : ℕ) → 1 ≤ p → p < 16 → getD sets p 0 ≢ aim t e sets row column
 
 -- what a row needs
-pub record RowReady (a : ℕ) (t f : List ℕ) (q count : ℕ) (sets cells : List ℕ) : Type 0 where
+pub record RowReady (a : ℕ) (places f : List ℕ) (q count : ℕ) (sets cells : List ℕ) : Type 0 where
   pub symbols : a ≤ 16
-  pub text : length t ≤ 64
-  pub follow : length f ≤ 64
+  pub letters : length places ≡ 16
+  pub follow : length f ≡ 64
   pub row : q < count
   pub few : count ≤ 16
   pub long : length sets ≡ 16
   pub wide : length cells ≡ 256
 
 -- one row done: 17 for a state too many
-pub record RowDone (a : ℕ) (t f : List ℕ) (firsts q count : ℕ) (sets₀ cells₀ sets cells : List ℕ) (r : ℕ) : Type 0 where
+pub record RowDone (a : ℕ) (places f : List ℕ) (firsts q count : ℕ) (sets₀ cells₀ sets cells : List ℕ) (r : ℕ) : Type 0 where
   pub more : count ≤ r
   pub most : r ≤ 17
   pub sets-long : length sets ≡ length sets₀
   pub cells-long : length cells ≡ length cells₀
-  pub grown : (e : Expr) → ReadAs a t e firsts f → Growing a t e sets₀ cells₀ count (q * 16) → r < 17 → Growing a t e sets cells r ((q + 1) * 16)
-  pub many : (e : Expr) → ReadAs a t e firsts f → Growing a t e sets₀ cells₀ count (q * 16) → r ≡ 17 → TooMany a t e
+  pub grown
+      : (t : List ℕ) (e : Expr) → PlacesAre t a places → ReadAs a t e firsts f → Growing a t e sets₀ cells₀ count (q * 16) → r < 17
+      → Growing a t e sets cells r ((q + 1) * 16)
+  pub many
+      : (t : List ℕ) (e : Expr) → PlacesAre t a places → ReadAs a t e firsts f → Growing a t e sets₀ cells₀ count (q * 16) → r ≡ 17
+      → TooMany a t e
+
+-- what all rows need
+pub record RowsReady (a : ℕ) (t f sets cells : List ℕ) : Type 0 where
+  pub symbols : a ≤ 16
+  pub text : length t ≤ 64
+  pub follow : length f ≡ 64
+  pub long : length sets ≡ 16
+  pub wide : length cells ≡ 256
 
 -- all rows done
 pub record AllDone (a : ℕ) (t f : List ℕ) (firsts : ℕ) (sets₀ cells₀ sets cells : List ℕ) (r : ℕ) : Type 0 where
   pub most : r ≤ 17
+  pub sets-long : length sets ≡ length sets₀
+  pub cells-long : length cells ≡ length cells₀
   pub grown : (e : Expr) → ReadAs a t e firsts f → Growing a t e sets₀ cells₀ 1 0 → r < 17 → Growing a t e sets cells r (r * 16)
   pub many : (e : Expr) → ReadAs a t e firsts f → Growing a t e sets₀ cells₀ 1 0 → r ≡ 17 → TooMany a t e

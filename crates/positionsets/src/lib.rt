@@ -3,20 +3,20 @@ ghost use mathlib.Core.Path.{_≡_};
 ghost use Prim.Native.Nat.{_<_, _≤_};
 ghost use lib.ListN.{length, getD};
 ghost use Rattle.expression.specs.Masks.{unionOver, placesOf};
-ghost use Rattle.expressionrule.specs.Numbering.{Sought, Aimed, Added};
+ghost use Rattle.expressionrule.specs.Numbering.{PlacesAre, Onward, Sought, Added};
 use expressionparts::part::set_when;
 
-// The positions that follow a position of the set.
+// The positions that follow a member of the set.
 fn union_of(follow: &[u64], set: u64) -> u64
-    requires { ⌜ length (now follow) ≤ 64 ⌝ }
+    requires { ⌜ length (now follow) ≡ 64 ⌝ }
     ensures { λ r. ⌜ r ≡ unionOver (length (now (follow .entry))) (λ p. getD (now (follow .entry)) p 0) set ⌝ }
 {
     let mut out: u64 = 0;
-    let mut q = 0;
-    while q < follow.len() {
-        let more = set_when((set >> q) & 1 == 1, follow[q]);
-        out = out | more;
-        q += 1;
+    let mut rest = set;
+    while rest != 0 {
+        let q = u64::trailing_zeros(rest) as usize;
+        out = out | follow[q];
+        rest = rest & (rest - 1);
     }
     out
 }
@@ -36,16 +36,27 @@ fn places_of(text: &[u8], symbol: u8) -> u64
     out
 }
 
-// The set that a symbol leads to from state q.
-pub fn aim_of(text: &[u8], follow: &[u64], firsts: u64, sets: &[u64], q: usize, symbol: u8) -> u64
-    requires { ⌜ (length (now text) ≤ 64) × (length (now follow) ≤ 64) × (symbol < 16) × (q < length (now sets)) ⌝ }
-    ensures { λ r. ⌜ Aimed (now (text .entry)) (now (follow .entry)) firsts (now (sets .entry)) q symbol r ⌝ }
+// Fills in the positions of each symbol's letter.
+pub fn fill_places(text: &[u8], symbols: usize, places: &mut [u64])
+    requires { ⌜ (length (now text) ≤ 64) × ((symbols ≤ 16) × (length (now places) ≡ 16)) ⌝ }
+    ensures { λ _. ⌜ PlacesAre (now (text .entry)) symbols (now (places .exit)) ⌝ }
+{
+    let mut s = 0;
+    while s < symbols {
+        places[s] = places_of(text, s as u8);
+        s += 1;
+    }
+}
+
+// The positions that can come next in state q: the first ones in the start.
+pub fn onward_of(follow: &[u64], firsts: u64, sets: &[u64], q: usize) -> u64
+    requires { ⌜ (length (now follow) ≡ 64) × (q < length (now sets)) ⌝ }
+    ensures { λ r. ⌜ Onward (now (follow .entry)) firsts (now (sets .entry)) q r ⌝ }
 {
     if q == 0 {
-        firsts & places_of(text, symbol)
+        firsts
     } else {
-        let onward = union_of(follow, sets[q]);
-        onward & places_of(text, symbol)
+        union_of(follow, sets[q])
     }
 }
 

@@ -20,7 +20,7 @@ use Rattle.promise.proofs.CallsLaws.{value-gives-rule, lent-gives-rule,
 -- in a form, with the numbers that are answered
 given-by
     : (t : List ℕ) (a n : ℕ) (m : Automaton) (x : ExpressionMakes t a n (makes m)) (form : EventForm) (call : RuleNumbers → form .Call) (b : ℕ)
-      (h : form .Held)
+    (h : form .Held)
     → GivesRule form m b (call (numbersOf m)) h → GivesRule form m b (call (numbersMet a (metOf m))) h
 given-by t a n m x form call b h given =
     subst (λ (k : ℕ). GivesRule form m b (call (numbersMet k (metOf m))) h) (made-symbols t a n m x) given

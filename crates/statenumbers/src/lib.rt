@@ -2,15 +2,16 @@
 ghost use mathlib.Core.Path.{_≡_};
 ghost use Prim.Native.Nat.{_≤_};
 ghost use lib.ListN.{length};
-ghost use Rattle.expressionrule.specs.Numbering.{RowReady, RowDone, AllDone, FinalsOf};
+ghost use Rattle.expressionrule.specs.Numbering.{RowReady, RowDone, RowsReady, AllDone, FinalsOf};
 use expressionparts::part::set_when;
 use positionsets::add_set;
-use positionsets::aim_of;
+use positionsets::fill_places;
+use positionsets::onward_of;
 use positionsets::seek;
 
 // Fills row q: the count of states, 17 where it would be more than 16.
 fn number_row(
-    text: &[u8],
+    places: &[u64],
     follow: &[u64],
     firsts: u64,
     symbols: usize,
@@ -19,14 +20,15 @@ fn number_row(
     sets: &mut [u64],
     cells: &mut [u8],
 ) -> usize
-    requires { ⌜ RowReady symbols (now text) (now follow) q count (now sets) (now cells) ⌝ }
-    ensures { λ r. ⌜ RowDone symbols (now (text .entry)) (now (follow .entry)) firsts q count (now (sets .entry)) (now (cells .entry))
+    requires { ⌜ RowReady symbols (now places) (now follow) q count (now sets) (now cells) ⌝ }
+    ensures { λ r. ⌜ RowDone symbols (now (places .entry)) (now (follow .entry)) firsts q count (now (sets .entry)) (now (cells .entry))
         (now (sets .exit)) (now (cells .exit)) r ⌝ }
 {
+    let onward = onward_of(follow, firsts, sets, q);
     let mut n = count;
     let mut s = 0;
     while s < symbols {
-        let set = aim_of(text, follow, firsts, sets, q, s as u8);
+        let set = onward & places[s];
         let i = seek(sets, n, set);
         if i == 16 {
             return 17;
@@ -47,14 +49,16 @@ pub fn number_states(
     sets: &mut [u64],
     cells: &mut [u8],
 ) -> usize
-    requires { ⌜ RowReady symbols (now text) (now follow) 0 1 (now sets) (now cells) ⌝ }
+    requires { ⌜ RowsReady symbols (now text) (now follow) (now sets) (now cells) ⌝ }
     ensures { λ r. ⌜ AllDone symbols (now (text .entry)) (now (follow .entry)) firsts (now (sets .entry)) (now (cells .entry))
         (now (sets .exit)) (now (cells .exit)) r ⌝ }
 {
+    let mut places = [0u64; 16];
+    fill_places(text, symbols, &mut places);
     let mut n = 1;
     let mut q = 0;
     while q < n {
-        n = number_row(text, follow, firsts, symbols, q, n, sets, cells);
+        n = number_row(&places, follow, firsts, symbols, q, n, sets, cells);
         if n == 17 {
             return 17;
         }

@@ -1,10 +1,9 @@
 -- `positionsets::places_of` meets its contract.
 -- Invariant: out has the positions below q where the letter stands. Measure: the positions still to be looked at.
 -- Assumes nothing.
-use mathlib.Core.Path.{ap, _∙_}
+use mathlib.Core.Path.{_≡_, ap, _∙_}
 use native.Mathlib.Omega.{arith}
 use borrow.Author.Needs.{needs}
-use mathlib.Core.Path.{_≡_}
 use Prim.Native.Nat.{ℕ, _-_, _≤_}
 use lib.ListN.{length}
 use Rattle.expression.specs.Masks.{placesOf}

@@ -1,58 +1,52 @@
 -- `positionsets::union_of` meets its contract.
--- Invariant: out is the union over the positions below q. Measure: the positions still to be looked at.
+-- Invariant: `rest` is the members from some position on, and `out` is the union over those before it.
+-- Measure: the set that is left, as a number. Each turn is one step of the walk.
 -- Assumes nothing.
-use mathlib.Core.Path.{ap, _∙_}
 use native.Mathlib.Omega.{arith}
 use borrow.Author.Needs.{needs}
-use mathlib.Core.Path.{_≡_}
-use Prim.Native.Nat.{ℕ, _-_, _≤_}
-use lib.ListN.{length, getD}
-use Rattle.expression.specs.Masks.{unionOver}
-use Rattle.positionsets.proofs.NumberLaws.{union-none, union-more}
+use Rattle.laws.proofs.Walk.{rest-lt, clear-lt}
+use Rattle.positionsets.proofs.NumberLaws.{Joined, joined-none, joined-more, joined-all}
 use Rattle.positionsets.proofs.union_of.Statement.{statement}
 use Rattle.positionsets.proofs.union_of.Tie as tie
 
 abbrev Inv-loop : tie.InvT-loop
-Inv-loop follow set out₀ q₀ out q = (q ≤ length follow) × (out ≡ unionOver q (λ p. getD follow p 0) set)
+Inv-loop follow set out₀ rest₀ out rest = Joined follow set out rest
 
 abbrev μ-loop : tie.MeasureT-loop
-μ-loop follow set out₀ q₀ out q = length follow - q
+μ-loop follow set out₀ rest₀ out rest = rest
 
 loop-holds : tie.Need-loop-holds Inv-loop μ-loop
-loop-holds c = let z = c .before .args in (search needs, union-none (λ p. getD (z .follow .now) p 0) (z .set))
+loop-holds c = joined-none (c .args .follow .now) (c .args .set) (c .fits .set .fits)
 
-shr-set-when : tie.Need-shr-set-when Inv-loop μ-loop
-shr-set-when c = search needs
+cast-q : tie.Need-cast-q Inv-loop μ-loop
+cast-q c = let inv = c .before .loop .inv in record { fits = omega (arith, rest-lt (inv .left) (omega arith)) }
 
-mul-set-when : tie.Need-mul-set-when Inv-loop μ-loop
-mul-set-when c = search needs
+mul-out : tie.Need-mul-out Inv-loop μ-loop
+mul-out c = let inv = c .before .loop .inv in record { fits = omega (arith, rest-lt (inv .left) (omega arith)) }
 
-shared-slice-read-set-when : tie.Need-shared-slice-read-set-when Inv-loop μ-loop
-shared-slice-read-set-when c = search needs
+shared-slice-read-out : tie.Need-shared-slice-read-out Inv-loop μ-loop
+shared-slice-read-out c =
+    let l = c .before .before .loop in
+    omega (arith, rest-lt (l .inv .left) (omega arith), c .before .before .before .pre)
 
-set-when-requires : tie.Need-set-when-requires Inv-loop μ-loop
-set-when-requires c κs = search needs
-
-add-q : tie.Need-add-q Inv-loop μ-loop
-add-q c = search needs
+sub-rest : tie.Need-sub-rest Inv-loop μ-loop
+sub-rest c = search needs
 
 loop-less : tie.Need-loop-less Inv-loop μ-loop
-loop-less c = search needs
+loop-less c = clear-lt (c .before .before .loop .rest) (omega arith)
 
 loop-again : tie.Need-loop-again Inv-loop μ-loop
 loop-again c =
-    let l = c .before .before .before .loop in
-    let z = c .before .before .before .before .before .args in (
-      search needs,
-      union-more (λ p. getD (z .follow .now) p 0) (z .set) (l .q) (l .out) (c .set-when .result) (l .inv .1) (c .set-when .ensures),
-    )
+    let l = c .before .before .loop in
+    let z = c .before .before .before .args in
+    joined-more (z .follow .now) (z .set) (l .out) (l .rest) (omega arith) (l .inv)
 
 returns : tie.Need-returns Inv-loop μ-loop
 returns c =
     let l = c .before .loop in
-    let z = c .before .before .before .args in
-    let all : l .q ≡ length (z .follow .now) = omega (arith, l .inv .0, c .loop-test .left) in
-    l .inv .1 ∙ ap (λ (n : ℕ). unionOver n (λ p. getD (z .follow .now) p 0) (z .set)) all
+    let first = c .before .before in
+    let z = first .args in
+    joined-all (z .follow .now) (z .set) (l .out) (l .rest) (first .pre) (omega arith) (l .inv)
 
 pub union-of-spec : {M : Type 1} → statement M
 union-of-spec =
@@ -61,11 +55,10 @@ union-of-spec =
     Inv-loop
     μ-loop
     loop-holds
-    shr-set-when
-    mul-set-when
-    shared-slice-read-set-when
-    set-when-requires
-    add-q
+    cast-q
+    mul-out
+    shared-slice-read-out
+    sub-rest
     loop-less
     loop-again
     returns)
