@@ -1,6 +1,6 @@
 //! Microseconds to make a rule from an expression: the library's call beside a plain Rust program that makes the same
 //! tests on the same bytes. The texts are what officers write, the longest ones of each kind, and the worst that is found:
-//! texts of 64 characters are changed by a character or two, as long as the library takes longer for them.
+//! the slowest of these is changed by a character or two at a time, to what the library takes longer for.
 //! `cargo bench --offline -p dapohiru-plain --bench expression` runs it.
 use dapohiru::numbers::{self, ACCEPTED};
 use dapohiru_generators::expressions::{self, SEALED};
@@ -67,15 +67,20 @@ fn print(what: &str, text: &[u8], symbols: u64) {
 
 /// The least of some times that the library takes for a text of sixteen symbols.
 fn least(text: &[u8]) -> f64 {
-    let times = (0..3).map(|_| time(text, 16, 4, by_library));
+    let times = (0..7).map(|_| time(text, 16, 4, by_library));
     times.fold(f64::MAX, f64::min)
 }
 
-/// A text for which the library takes long: any text of 64 characters that a change makes slower goes on to be changed.
-fn worst(random: &mut Random) -> Vec<u8> {
-    let mut worst = vec![b'a'; 14];
-    worst.resize(64, b'*');
-    let mut longest = least(&worst);
+/// A text for which the library takes long: from the slowest of these on, any text of 64 characters that a change makes
+/// slower goes on to be changed.
+fn worst(random: &mut Random, of: &[&[u8]]) -> Vec<u8> {
+    let (mut worst, mut longest) = (Vec::new(), 0.0);
+    for text in of {
+        let taken = least(text);
+        if taken > longest {
+            (worst, longest) = (text.to_vec(), taken);
+        }
+    }
     for change in 0..CHANGES {
         // now and then another text altogether
         let mut text = match change % 16 {
@@ -107,6 +112,9 @@ fn main() {
     let deep = [&[b'('; 31][..], b"a", &[b')'; 31], b"*"].concat();
     let every = b"(a|b|c|d|e|f|g|h|i|j|k|l|m|n)*";
     let choice = [&b"("[..], &b"a|".repeat(30), b"a)*"].concat();
+    // every letter can follow every other, and begin and end a word
+    let round = [&[b'('; 9][..], &b"a*b*)*".repeat(9)].concat();
+    let refused = [&[b'a'; 63][..], b"("].concat();
     print("sealed, not reopened, written", SEALED, 3);
     print("the same with sixteen symbols", SEALED, 16);
     print("one letter", b"a", 1);
@@ -116,12 +124,18 @@ fn main() {
     print("fourteen letters in any order", every, 16);
     print("a letter 31 times in a choice", &choice, 16);
     print("64 letters in a row", &[b'a'; 64], 16);
-    print(
-        "64 characters, the last refused",
-        &[&[b'a'; 63][..], b"("].concat(),
-        16,
-    );
-    let worst = worst(&mut random);
+    print("64 characters, the last refused", &refused, 16);
+    print("stars of stars", &round, 16);
+    let known = [
+        &[b'a'; 64][..],
+        &refused,
+        &starred,
+        &deep,
+        &choice,
+        every,
+        &round,
+    ];
+    let worst = worst(&mut random, &known);
     print("the worst text found", &worst, 16);
     println!("  which is {}", worst.escape_ascii());
 }

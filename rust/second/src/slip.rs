@@ -921,9 +921,9 @@ slips! {
 
         // how many there are
         /// 16 states are refused.
-        SixteenStatesRefused,
+        SixteenExpressionStatesRefused,
         /// 17 states are accepted.
-        SeventeenStatesAccepted,
+        SeventeenExpressionStatesAccepted,
         /// More than 15 letters are 21, and no others.
         ManyLettersAs21,
     }

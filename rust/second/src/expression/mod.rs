@@ -179,8 +179,8 @@ impl Making {
     fn many(self, tree: &Tree, states: &States) -> Option<u64> {
         let is_many = match self.slip {
             Some(Slip::ManyLettersAs21) => tree.letters().len() + 1 > MOST_STATES,
-            Some(Slip::SeventeenStatesAccepted) => states.count() > MOST_STATES + 1,
-            Some(Slip::SixteenStatesRefused) => states.count() > MOST_STATES - 1,
+            Some(Slip::SeventeenExpressionStatesAccepted) => states.count() > MOST_STATES + 1,
+            Some(Slip::SixteenExpressionStatesRefused) => states.count() > MOST_STATES - 1,
             Some(Slip::EmptySetNotCounted) => states.count_without_empty() > MOST_STATES,
             _ => states.count() > MOST_STATES,
         };
