@@ -26,7 +26,6 @@ use Rattle.pricelist.proofs.PriceListSays.{own-price-at-most}
 use Rattle.answernumbers.specs.Fits.{OutcomeFits, ListedFits}
 use Rattle.jobfile.specs.File.{Answer, accepted, turned}
 use Rattle.ruleoutcome.specs.declared.rule.RuleAnswer.{RuleAnswer}
-use Rattle.ruleoutcome.specs.declared.rule.RuleAnswer.the-variants.{Rule, Refused as RuleRefused}
 use Rattle.ruleoutcome.specs.RuleCall.{ruleAnswer, ruledOf}
 use Rattle.ruleoutcome.proofs.RuleLaws.{rule-well-formed, finals-few}
 use Rattle.automaton.specs.Made.{Made, makes, refuses}

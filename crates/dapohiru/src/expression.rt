@@ -1,5 +1,4 @@
 // Rules as expressions on bytes: a text with the number of symbols, and a rule buffer of 256 bytes.
-ghost use mathlib.Core.Path.{_≡_};
 ghost use Rattle.expressionrule.specs.ExpressionRule.{NumbersExpression};
 
 // Makes a rule of an expression and returns 2^48 plus states times 2^16 and the final set, or the refusal's number. A refusal leaves the rule buffer.

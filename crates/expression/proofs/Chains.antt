@@ -1,10 +1,7 @@
 -- A word of places is a chain: it begins in a first place, goes on to following places and ends in a last one (Glushkov).
 -- Assumes nothing.
-use mathlib.Core.Path.{_≡_, refl, sym, ap, subst, _∙_}
-use mathlib.Core.Logic.{_⊎_, inl, inr, ⊎-elim, _↔_}
-use Prim.Native.Nat.{ℕ, zero, suc, _≤_, _<_}
-use native.Mathlib.Omega.{arith}
-use mathlib.Core.List.{List, [], _∷_, _++_, append-nil, append-assoc}
+use Prim.Native.Nat.{ℕ}
+use mathlib.Core.List.{List, [], _∷_, _++_, append-nil}
 use Rattle.expression.specs.Expression.{Expr, letter, following, either, star, Word, one, joined, left, right, none, more}
 use Rattle.expression.specs.Positions.{position}
 

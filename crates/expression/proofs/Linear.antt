@@ -1,18 +1,18 @@
 -- Where every place stands once, a chain from a first place to a last one is a word.
 -- Why: a chain cannot come back from a part of the expression that it has left, but by a star.
 -- Assumes nothing.
-use mathlib.Core.Path.{_≡_, refl, sym, ap, subst, _∙_}
-use mathlib.Core.Logic.{_⊎_, inl, inr, ⊎-elim, _↔_}
-use Prim.Native.Nat.{ℕ, zero, suc, _≤_, _<_}
+use mathlib.Core.Path.{_≡_, refl, ap}
+use mathlib.Core.Logic.{_↔_}
+use Prim.Native.Nat.{ℕ, _≤_, _<_}
 use native.Mathlib.Omega.{arith}
-use mathlib.Core.List.{List, [], _∷_, _++_, append-nil, append-assoc}
+use mathlib.Core.List.{List, [], _∷_, _++_}
 use Rattle.expression.specs.Expression.{Expr, letter, following, either, star, Word, one, joined, left, right, none, more}
 use Rattle.expression.specs.Positions.{position}
 use Rattle.expression.proofs.Chains.{Null, null-both, null-left, null-right, null-star}
 use Rattle.expression.proofs.Chains.{First, first-here, first-front, first-back, first-left, first-right, first-star}
 use Rattle.expression.proofs.Chains.{Last, last-here, last-back, last-front, last-left, last-right, last-star}
 use Rattle.expression.proofs.Chains.{Follow, in-front, in-back, across, in-left, in-right, inside, anew}
-use Rattle.expression.proofs.Chains.{Chain, here, step, chain-append, Passes, empty, through, word-passes}
+use Rattle.expression.proofs.Chains.{Chain, here, step, Passes, empty, through, word-passes}
 
 -- the letters of an expression stand from place i to before place j, each once and in order
 pub data Spread : ℕ → ℕ → Expr → Type 0 where

@@ -2,19 +2,18 @@
 -- Why: from every place of an expression a chain goes on to a last place, so every chain from a first place is the beginning of a word.
 -- Assumes nothing.
 use mathlib.Core.Path.{_≡_, refl, sym, ap, subst, _∙_}
-use mathlib.Core.Logic.{_⊎_, inl, inr, ⊎-elim, _↔_}
-use Prim.Native.Nat.{ℕ, zero, suc, _≤_, _<_}
+use mathlib.Core.Logic.{_↔_}
+use Prim.Native.Nat.{ℕ}
 use native.Mathlib.Omega.{arith}
-use mathlib.Core.List.{List, [], _∷_, _++_, map, append-nil, append-assoc}
+use mathlib.Core.List.{List, [], _∷_, _++_, map, append-assoc}
 use Rattle.expression.specs.Expression.{Expr, letter, following, either, star, Word, one, joined, left, right, none, more}
 use Rattle.expression.specs.Masks.{In, is, of-front, of-back, of-left, of-right, of-star}
 use Rattle.expression.specs.Positions.{position, symbolAt, Accepts, StandsFor}
-use Rattle.expression.proofs.Chains.{Null, null-both, null-left, null-right, null-star}
 use Rattle.expression.proofs.Chains.{First, first-here, first-front, first-back, first-left, first-right, first-star}
-use Rattle.expression.proofs.Chains.{Last, last-here, last-back, last-front, last-left, last-right, last-star}
+use Rattle.expression.proofs.Chains.{Last, last-here, last-back, last-left, last-right, last-star}
 use Rattle.expression.proofs.Chains.{Follow, in-front, in-back, across, in-left, in-right, inside, anew}
 use Rattle.expression.proofs.Chains.{Chain, here, step, chain-map, chain-append, Passes, empty, through, word-passes}
-use Rattle.expression.proofs.Linear.{Spread, chain-word, word-says}
+use Rattle.expression.proofs.Linear.{Spread, chain-word}
 
 -- ---- lists
 

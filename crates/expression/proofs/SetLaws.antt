@@ -1,28 +1,27 @@
 -- The set after a list of events is computed event by event, and holds a last place where the list is a word.
 -- Assumes nothing.
-use mathlib.Core.Path.{_≡_, refl, sym, ap, subst, _∙_}
-use mathlib.Core.Logic.{_⊎_, inl, inr, ⊎-elim, _↔_}
-use mathlib.Core.Bool.{Bool, true, false, _&&_, true≢false, and-eq-true-iff}
+use mathlib.Core.Path.{_≡_, sym, subst, _∙_}
+use mathlib.Core.Logic.{_⊎_, ⊎-elim, _↔_}
+use mathlib.Core.Bool.{true, false, true≢false, and-eq-true-iff}
 use mathlib.Core.List.{List, [], _∷_, _++_}
-use Prim.Native.Nat.{ℕ, zero, suc, _+_, _-_, _^_, _≤_, _<_}
+use Prim.Native.Nat.{ℕ, zero, suc, _+_, _-_, _^_, _<_}
 use native.Mathlib.Nat.{le-of-suc-le-suc, eq-or-lt-of-le}
 use native.Mathlib.Omega.{arith}
 use lib.Dec.{eqb}
-use lib.Bits.{bitOr, bitAnd}
+use lib.Bits.{bitAnd}
 use lib.ListN.{length, getD}
 use borrow.Author.Tests.{eq-eqb, eqb-true}
 use Rattle.laws.specs.Bits.{has}
-use Rattle.laws.proofs.Bits.{has-and, has-pow, has-empty}
-use Rattle.expression.specs.Expression.{Expr, letter, following, either, star}
-use Rattle.expression.specs.Grammar.{Level, choice, IsLetter, Spells, letter-at, group, again, single, then, only, or, TextOf}
-use Rattle.expression.specs.Masks.{nullable, when, first, last, follow, unionOver, placesOf, startSet, nextSet}
+use Rattle.laws.proofs.Bits.{has-and, has-empty}
+use Rattle.expression.specs.Expression.{Expr}
+use Rattle.expression.specs.Grammar.{Level, IsLetter, Spells, letter-at, group, again, single, then, only, or, TextOf}
+use Rattle.expression.specs.Masks.{when, first, last, follow, unionOver, placesOf, startSet, nextSet}
 use Rattle.expression.specs.Positions.{symbolAt, Accepts, StandsFor}
 use Rattle.expression.specs.Masks.{IsSet}
-use Rattle.expression.proofs.Chains.{First, Last, Follow}
 use Rattle.expression.proofs.Linear.{Spread, at, parts, sides, under, Between, between-front, between-back, first-between, follow-from, follow-to}
 use Rattle.expression.specs.Masks.{In, is, of-front, of-back, of-left, of-right, of-star}
-use Rattle.expression.proofs.Reach.{first-in, follow-in, chain-in}
-use Rattle.expression.proofs.Reach.{Reaches, Further, stands-says, reaches-one, reaches-more, accepts-says}
+use Rattle.expression.proofs.Reach.{first-in, follow-in}
+use Rattle.expression.proofs.Reach.{stands-says, reaches-one, reaches-more, accepts-says}
 use Rattle.expression.proofs.MaskLaws.{union-cases, union-left, union-right, when-to, when-of, letter-to, letter-of, first-says, last-says, follow-says}
 use Rattle.expression.proofs.Unique.{spells-spread}
 

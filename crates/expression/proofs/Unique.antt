@@ -1,12 +1,11 @@
 -- A text spells one expression at most: what is spelt from a place up to a character that cannot go on is determined.
 -- Assumes nothing.
-use mathlib.Core.Path.{_≡_, refl, sym, ap, subst, _∙_}
-use mathlib.Core.Logic.{_⊎_, inl, inr, ⊎-elim, _↔_}
-use Prim.Native.Nat.{ℕ, zero, suc, _+_, _≤_, _<_}
+use mathlib.Core.Path.{_≡_, refl, sym, subst, _∙_}
+use mathlib.Core.Logic.{_⊎_, inl, inr, ⊎-elim}
+use Prim.Native.Nat.{ℕ, suc, _≤_, _<_}
 use native.Mathlib.Omega.{arith}
 use native.Mathlib.Nat.{le-refl, le-trans, le-step}
 use mathlib.Core.List.{List}
-use lib.ListN.{length, getD}
 use Rattle.expression.specs.Expression.{Expr, letter, following, either, star}
 use Rattle.expression.specs.Grammar.{Level, piece, row, choice, At, IsLetter, Spells, letter-at, group, again, single, then, only, or}
 use Rattle.expression.specs.Stops.{Begins, by-letter, by-group, StopRow, Stop}

@@ -1,16 +1,16 @@
 -- The ways out of the call for an expression, in the shape of its code: what is read is within or outside, and the cells of a finished search are
 -- the rule's bytes.
 -- Assumes nothing.
-use mathlib.Core.Path.{_≡_, refl, sym, ap, _∙_, subst}
-use mathlib.Core.Logic.{_≢_, _⊎_, inl, inr, by-cases}
+use mathlib.Core.Path.{_≡_, refl, sym, _∙_, subst}
+use mathlib.Core.Logic.{inl, inr, by-cases}
 use mathlib.Core.List.{List}
 use Prim.Native.Nat.{ℕ, _+_, _-_, _*_, _≤_, _<_}
 use native.Mathlib.Decide.{decLt}
 use native.Mathlib.Omega.{arith}
 use lib.ListN.{length, getD, replicate, length-replicate, getD-replicate, List·getD-eq-default}
 use lib.Seq.{ext-getD}
-use Rattle.automaton.specs.Automaton.{Automaton, automatonOf, cell}
-use Rattle.automaton.specs.Table.{ruleSize, tableOf, cellByte, ruleBytes}
+use Rattle.automaton.specs.Automaton.{Automaton, cell}
+use Rattle.automaton.specs.Table.{tableOf, cellByte, ruleBytes}
 use Rattle.automaton.specs.Made.{Made, makes, refuses, madeAfter}
 use Rattle.automaton.proofs.TableLaws.{table-cell}
 use Rattle.automaton.proofs.RuleBytesLaws.{cell-byte-at, cell-byte-past, bytes-are-rule}
@@ -23,7 +23,7 @@ use Rattle.expressionparts.specs.Reading.{Shown}
 use Rattle.expressionrule.specs.declared.answer.ExpressionAnswer.{ExpressionAnswer}
 use Rattle.expressionrule.specs.declared.answer.ExpressionAnswer.the-variants.{Accepted, Refused}
 use Rattle.expressionrule.specs.declared.answer.ExpressionRule.{ExpressionRule}
-use Rattle.expressionrule.specs.ExpressionRule.{Outside, no-symbol, many-symbols, too-long, Within, ExpressionMakes, other-length, outside, many, made, expressionAnswer, expressionValue, AnswersExpression, ValuesExpression}
+use Rattle.expressionrule.specs.ExpressionRule.{Outside, Within, ExpressionMakes, other-length, outside, many, made, expressionAnswer, expressionValue, AnswersExpression, ValuesExpression}
 use Rattle.expressionrule.specs.Numbering.{Growing, ReadAs, AllDone, FinalsOf}
 use Rattle.expressionrule.proofs.GrowLaws.{growing-none}
 use Rattle.expressionrule.proofs.DoneLaws.{ruleOfCells, cells-same, done-rule, many-states}

@@ -4,12 +4,12 @@ use mathlib.Core.Path.{_≡_, refl, sym, ap, _∙_}
 use mathlib.Core.Logic.{by-cases, _≢_}
 use mathlib.Core.Bool.{Bool, true, false, true≢false, false≢true}
 use mathlib.Core.List.{List, [], _∷_}
-use Prim.Native.Nat.{ℕ, zero, suc, _+_, _-_, _/_, _^_, _≤_, _<_}
+use Prim.Native.Nat.{ℕ, zero, suc, _+_, _-_, _^_, _≤_, _<_}
 use native.Mathlib.Nat.{le-of-suc-le-suc, not-suc-le-zero, lt-of-not-le}
 use native.Mathlib.Decide.{decLt, ℕ-discrete}
 use native.Mathlib.Omega.{arith}
 use lib.Dec.{eqb, ltb}
-use lib.Bits.{bitOr, bitAnd, and-mask, or-zero-r}
+use lib.Bits.{bitOr, bitAnd, or-zero-r}
 use lib.Count.{trailingZeros}
 use lib.ListN.{length, getD, set, length-set}
 use lib.Seq.{getD-set-same, getD-set-other}
@@ -60,11 +60,6 @@ tells-begins a t i b n h = record { yes-so = λ e. by-letter (h .yes-so e); not-
     go : b ≡ false → Begins a t i → ⊥
     go e (by-letter x) = h .not-so e x
     go e (by-group x) = n x
-
--- the test of a bit in the code
-pub bit-test : (s q : ℕ) → eqb (bitAnd (s / 2 ^ q) 1) 1 ≡ has s q
-unfolding has
-bit-test s q = ap (λ (n : ℕ). eqb n 1) (and-mask (s / 2 ^ q) 1)
 
 -- ---- linking
 

@@ -1,25 +1,22 @@
 -- The table that the search leaves is the rule of the expression, and a seventeenth state shows seventeen lists of events of different states.
 -- Assumes nothing.
 use mathlib.Core.Path.{_≡_, refl, sym, ap, subst, _∙_}
-use mathlib.Core.Logic.{_⊎_, inl, inr, ⊎-elim, _↔_, by-cases, _≢_}
-use mathlib.Core.Bool.{Bool, true, false}
+use mathlib.Core.Logic.{by-cases, _≢_}
 use mathlib.Core.List.{List, [], _∷_, _++_}
 use Prim.Native.Nat.{ℕ, zero, suc, _+_, _*_, _≤_, _<_}
-use native.Mathlib.Nat.{add-comm}
-use native.Mathlib.Decide.{ℕ-discrete, decLt}
+use native.Mathlib.Decide.{ℕ-discrete}
 use native.Mathlib.Omega.{arith}
-use lib.Bits.{bitAnd}
 use lib.ListN.{length, getD}
 use Rattle.laws.specs.Bits.{has}
 use Rattle.laws.specs.Bounded.{tab}
 use Rattle.laws.proofs.Bounded.{getD-tab, length-tab}
-use Rattle.automaton.specs.Automaton.{Automaton, automatonOf, cell, next, final}
+use Rattle.automaton.specs.Automaton.{Automaton, automatonOf, cell}
 use Rattle.expression.specs.Expression.{Expr}
 use Rattle.expression.specs.Grammar.{TextOf}
 use Rattle.expression.specs.Masks.{last, startSet, nextSet, aim, IsSet}
-use Rattle.expression.specs.Positions.{StandsFor, Events, no-event, event, SameState}
+use Rattle.expression.specs.Positions.{Events, no-event, event, SameState}
 use Rattle.expressionrule.specs.ExpressionRule.{FirstMet, RuleOf, ManyStates}
-use Rattle.expressionrule.specs.Numbering.{cellAt, Cells, MetBy, Growing, FinalsOf, TooMany}
+use Rattle.expressionrule.specs.Numbering.{cellAt, Growing, FinalsOf, TooMany}
 use Rattle.expressionrule.proofs.RuleLaws.{Numbered, numbered-rule}
 use Rattle.expression.proofs.SetLaws.{start-set, next-set}
 use Rattle.expression.proofs.Reach.{snoc-not-nil}

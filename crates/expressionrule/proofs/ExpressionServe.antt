@@ -3,20 +3,19 @@
 -- Assumes nothing.
 use mathlib.Core.Path.{_≡_, refl, sym, ap, _∙_, subst}
 use mathlib.Core.Logic.{_≢_, _↔_, ⊎-elim}
-use mathlib.Core.Bool.{Bool, true, false, true≢false}
+use mathlib.Core.Bool.{true, false}
 use mathlib.Core.List.{List, [], _∷_, _++_}
 use Prim.Native.Nat.{ℕ, _+_, _-_, _*_, _/_, _%_, _^_, _≤_, _<_}
 use native.Mathlib.Omega.{arith}
 use lib.ListN.{length}
 use lib.Dec.{ltb}
 use borrow.Author.Tests.{lt-ltb, le-ltb}
-use Rattle.laws.specs.Bits.{has}
 use Rattle.laws.proofs.Bits.{members-below}
 use Rattle.laws.proofs.Tests.{passes-or-fails}
 use Rattle.callnumber.specs.CallNumber.{acceptedFrom}
 use Rattle.automaton.specs.Automaton.{Automaton, next, final, wellFormed, WellFormed, SameRule}
 use Rattle.automaton.specs.Table.{ruleSize, ruleBytes, RuleWritten}
-use Rattle.automaton.specs.Made.{Made, makes, refuses, madeAfter, madeTable}
+use Rattle.automaton.specs.Made.{Made, makes, refuses, madeAfter}
 use Rattle.automaton.proofs.AutomatonLaws.{well-formed-says, well-formed-same}
 use Rattle.automaton.proofs.RuleBytesLaws.{rule-bytes-same}
 use Rattle.automaton.proofs.MadeLaws.{made-says}
@@ -26,17 +25,15 @@ use Rattle.events.specs.declared.Taken.{Taken}
 use Rattle.events.specs.declared.Report.{Report}
 use Rattle.events.specs.declared.Report.the-variants.{Quiet, Alarm}
 use Rattle.events.proofs.MonitorLaws.{taken-moved, moved-alarm, moved-quiet}
-use Rattle.lines.specs.Lines.{linesOf}
-use Rattle.jobfile.specs.File.{ruleLine, accepted}
-use Rattle.jobfile.specs.Alike.{Alike}
-use Rattle.jobfile.specs.RuleLines.{trimmed, ruleText, withRuleText}
+use Rattle.jobfile.specs.File.{accepted}
+use Rattle.jobfile.specs.RuleLines.{trimmed}
 use Rattle.jobfile.proofs.RuleLinesLaws.{trimmed-exact, rule-lines-say}
 use Rattle.expression.specs.Expression.{Expr}
 use Rattle.expression.specs.Positions.{Accepts, Events, no-event, event}
 use Rattle.expressionrule.specs.declared.answer.ExpressionAnswer.{ExpressionAnswer}
 use Rattle.expressionrule.specs.declared.answer.ExpressionAnswer.the-variants.{Accepted}
-use Rattle.expressionrule.specs.ExpressionRule.{run, RuleOf, Within, ExpressionMakes, other-length, outside, many, made, expressionAnswer, expressionNumber}
-use Rattle.expressionrule.specs.ExpressionSay.{takenAll, RuleSays, ExpressionRuleSays, ExpressionLeft, written, unchanged, ExpressionBytesSay, ruleLeft, ExpressionValueSays, expressionSeen, ExpressionByNumber, ExpressionRuleServes}
+use Rattle.expressionrule.specs.ExpressionRule.{run, RuleOf, Within, ExpressionMakes, other-length, outside, many, made, expressionAnswer}
+use Rattle.expressionrule.specs.ExpressionSay.{takenAll, ExpressionRuleSays, ExpressionLeft, written, unchanged, ExpressionBytesSay, ruleLeft, ExpressionValueSays, expressionSeen, ExpressionByNumber, ExpressionRuleServes}
 use Rattle.expression.proofs.Reach.{snoc-not-nil}
 use Rattle.expressionrule.proofs.DoneLaws.{events-snoc}
 use Rattle.expressionrule.proofs.OneRule.{run-snoc, run-below, led-to}

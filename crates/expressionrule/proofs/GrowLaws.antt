@@ -2,14 +2,14 @@
 -- Invariant: the sets found are different; each cell done leads to the set that it should; each number is first met in order; other cells are zero.
 -- Assumes nothing.
 use mathlib.Core.Path.{_≡_, refl, sym, ap, subst, _∙_}
-use mathlib.Core.Logic.{_⊎_, inl, inr, ⊎-elim, _↔_, by-cases, _≢_}
-use mathlib.Core.List.{List, [], _∷_}
+use mathlib.Core.Logic.{by-cases, _≢_}
+use mathlib.Core.List.{List}
 use Prim.Native.Nat.{ℕ, zero, suc, _+_, _*_, _≤_, _<_}
 use native.Mathlib.Decide.{ℕ-discrete, decLt}
 use native.Mathlib.Omega.{arith}
 use lib.ListN.{length, getD, set, length-set}
 use lib.Seq.{getD-set-same, getD-set-other}
-use mathlib.Core.Bool.{Bool, true, false}
+use mathlib.Core.Bool.{true}
 use lib.Bits.{bitAnd}
 use Rattle.laws.specs.Bits.{has}
 use Rattle.laws.proofs.Bits.{same-set}
@@ -17,7 +17,7 @@ use Rattle.laws.proofs.Tests.{test-ext}
 use Rattle.expression.specs.Expression.{Expr}
 use Rattle.expression.specs.Masks.{In, first, follow, unionOver, placesOf, startSet, nextSet, aim}
 use Rattle.expressionrule.specs.ExpressionRule.{FirstMet}
-use Rattle.expressionrule.specs.Numbering.{cellAt, Cells, MetBy, Growing, ReadAs, PlacesAre, Onward, Sought, Added, RowReady, RowDone, AllDone, TooMany}
+use Rattle.expressionrule.specs.Numbering.{cellAt, Cells, MetBy, Growing, ReadAs, PlacesAre, Onward, Sought, Added, RowReady, RowDone, AllDone}
 use Rattle.expression.proofs.Unique.{spells-spread}
 use Rattle.expression.proofs.Reach.{first-in, follow-in}
 use Rattle.expression.proofs.MaskLaws.{first-says, follow-says}

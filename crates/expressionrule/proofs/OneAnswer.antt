@@ -2,19 +2,17 @@
 -- Why: what 20 turns back and what it does not exclude each other, a text spells one expression, and that has one rule or more than 16 states.
 -- Assumes nothing.
 use mathlib.Core.Path.{_≡_, refl, sym, ap, _∙_, subst}
-use mathlib.Core.Logic.{_↔_}
 use mathlib.Core.List.{List}
 use Prim.Native.Nat.{ℕ}
 use native.Mathlib.Omega.{arith}
 use lib.ListN.{length}
 use Rattle.automaton.specs.Automaton.{Automaton}
 use Rattle.automaton.specs.Table.{ruleSize}
-use Rattle.automaton.specs.Made.{Made, makes, refuses, madeAfter}
+use Rattle.automaton.specs.Made.{Made, makes, madeAfter}
 use Rattle.expression.specs.Expression.{Expr}
 use Rattle.expression.proofs.GrammarLaws.{grammar-says}
 use Rattle.expressionrule.specs.declared.answer.ExpressionAnswer.{ExpressionAnswer}
-use Rattle.expressionrule.specs.declared.answer.ExpressionRule.{ExpressionRule}
-use Rattle.expressionrule.specs.ExpressionRule.{RuleOf, ManyStates, Outside, no-symbol, many-symbols, too-long, not-spelt, letter-past, Within, ExpressionMakes, other-length, outside, many, made, expressionAnswer, expressionNumber, expressionValue, AnswersExpression, NumbersExpression, ValuesExpression}
+use Rattle.expressionrule.specs.ExpressionRule.{RuleOf, ManyStates, Outside, no-symbol, many-symbols, too-long, not-spelt, letter-past, Within, ExpressionMakes, other-length, outside, many, made, expressionAnswer, expressionNumber, expressionValue, AnswersExpression}
 use Rattle.expressionrule.specs.ExpressionSay.{JustOne, ManySays}
 use Rattle.expressionrule.proofs.OneRule.{one-rule, many-no-rule}
 use Rattle.expressionrule.proofs.MadeBy.{madeBy, made-by}

@@ -2,9 +2,9 @@
 -- Why: lists of events that lead to one state of the one rule lead to one of the other; by induction on the numbers, as each is first met in the
 -- same cell, that state has the same number.
 -- Assumes nothing.
-use mathlib.Core.Path.{_≡_, refl, sym, ap, subst, _∙_}
-use mathlib.Core.Logic.{_≢_, _↔_, by-cases}
-use mathlib.Core.Bool.{Bool, true, true≢false}
+use mathlib.Core.Path.{_≡_, refl, sym, ap, _∙_}
+use mathlib.Core.Logic.{_≢_, by-cases}
+use mathlib.Core.Bool.{true, true≢false}
 use mathlib.Core.List.{List, [], _∷_, _++_}
 use Prim.Native.Nat.{ℕ, zero, suc, _+_, _*_, _≤_, _<_}
 use native.Mathlib.Decide.{decLt}
@@ -16,7 +16,7 @@ use Rattle.automaton.specs.Automaton.{Automaton, next, final, SameRule}
 use Rattle.jobfile.specs.RuleLines.{trimmed}
 use Rattle.jobfile.proofs.RuleLinesLaws.{trimmed-exact}
 use Rattle.expression.specs.Expression.{Expr}
-use Rattle.expression.specs.Positions.{Events, no-event, event, SameState}
+use Rattle.expression.specs.Positions.{Events, no-event, event}
 use Rattle.expressionrule.specs.ExpressionRule.{run, FirstMet, RuleOf, ManyStates}
 use Rattle.expressionrule.proofs.DoneLaws.{events-snoc}
 use Rattle.expressionrule.proofs.Pigeonhole.{pigeonhole}

@@ -2,20 +2,19 @@
 -- Why: the set of the state after a list of events is the set of that list, and different states have different sets.
 -- Assumes nothing.
 use mathlib.Core.Path.{_≡_, refl, sym, ap, subst, _∙_}
-use mathlib.Core.Logic.{_⊎_, inl, inr, ⊎-elim, _↔_, by-cases, _≢_}
-use mathlib.Core.Bool.{Bool, true, false, true≢false}
+use mathlib.Core.Logic.{_↔_, _≢_}
+use mathlib.Core.Bool.{true, false, true≢false}
 use mathlib.Core.List.{List, [], _∷_, _++_, append-assoc, append-nil}
-use Prim.Native.Nat.{ℕ, zero, suc, _+_, _^_, _≤_, _<_, max}
+use Prim.Native.Nat.{ℕ, zero, suc, _+_, _^_, _≤_, _<_}
 use native.Mathlib.Nat.{pow-suc}
 use lib.Count.{trailingZeros}
 use Rattle.laws.proofs.Walk.{trailing-member}
-use native.Mathlib.Decide.{ℕ-discrete}
 use native.Mathlib.Omega.{arith}
 use lib.Bits.{bitAnd}
 use lib.ListN.{length, getD}
 use Rattle.laws.specs.Bits.{has}
 use Rattle.laws.proofs.Bits.{same-set, has-empty}
-use Rattle.laws.proofs.Tests.{test-ext, fails-of}
+use Rattle.laws.proofs.Tests.{test-ext}
 use Rattle.automaton.specs.Automaton.{Automaton, next, final}
 use Rattle.expression.specs.Expression.{Expr}
 use Rattle.expression.specs.Grammar.{TextOf}

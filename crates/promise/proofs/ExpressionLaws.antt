@@ -1,6 +1,6 @@
 -- The rule of an expression is a rule as the promise is about: well formed, with its bytes and the numbers that are answered.
 -- Assumes nothing.
-use mathlib.Core.Path.{_≡_, ap, subst}
+use mathlib.Core.Path.{subst}
 use mathlib.Core.List.{List}
 use Prim.Native.Nat.{ℕ}
 use lib.ListN.{length}

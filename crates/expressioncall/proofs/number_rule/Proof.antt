@@ -1,6 +1,5 @@
 -- `expressioncall::number_rule` meets its contract: 21 where a seventeenth state is met, or the cells as the rule's bytes with the final states.
 -- Assumes nothing.
-use mathlib.Core.Path.{_≡_}
 use Rattle.expressioncall.proofs.CallLaws.{numbers-many, numbers-rule}
 use borrow.Author.Needs.{needs}
 use Rattle.expressioncall.proofs.number_rule.Statement.{statement}

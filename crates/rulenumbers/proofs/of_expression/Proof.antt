@@ -1,6 +1,6 @@
 -- `rulenumbers::of_expression` meets its contract: numbers of 16 bits are put in their fields without loss.
 -- Assumes nothing.
-use mathlib.Core.Path.{_≡_, sym, ap, subst}
+use mathlib.Core.Path.{sym, ap, subst}
 use native.Mathlib.Omega.{arith}
 use borrow.Author.Needs.{needs}
 use Rattle.expressionrule.specs.ExpressionRule.{expressionNumber}

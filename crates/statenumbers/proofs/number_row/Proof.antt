@@ -2,7 +2,6 @@
 -- Invariant: the cells of the row before symbol s are done, and the set of its state is as it was. Measure: the symbols still to be done.
 -- Assumes nothing.
 use Prim.Native.Nat.{_-_}
-use native.Mathlib.Omega.{arith}
 use borrow.Author.Needs.{needs}
 use Rattle.expressionrule.proofs.GrowLaws.{Rowing, rowing-none, rowing-more, row-many, row-done}
 use Rattle.statenumbers.proofs.number_row.Statement.{statement}
