@@ -1,4 +1,4 @@
--- A word of places is a chain: it begins in a first place, goes on to following places and ends in a last one (Glushkov).
+-- A word of positions is a chain: it begins in a first position, goes on to following positions and ends in a last one (Glushkov).
 -- Assumes nothing.
 use Prim.Native.Nat.{ℕ}
 use mathlib.Core.List.{List, [], _∷_, _++_, append-nil}
@@ -12,7 +12,7 @@ pub data Null : Expr → Type 0 where
   null-right : {d e : Expr} → Null e → Null (either d e)
   null-star : {e : Expr} → Null (star e)
 
--- a word begins with the place
+-- a word begins with the position
 pub data First : Expr → ℕ → Type 0 where
   first-here : {p : ℕ} → First (letter p) p
   first-front : {d e : Expr} {p : ℕ} → First d p → First (following d e) p
@@ -21,7 +21,7 @@ pub data First : Expr → ℕ → Type 0 where
   first-right : {d e : Expr} {p : ℕ} → First e p → First (either d e) p
   first-star : {e : Expr} {p : ℕ} → First e p → First (star e) p
 
--- a word ends with the place
+-- a word ends with the position
 pub data Last : Expr → ℕ → Type 0 where
   last-here : {p : ℕ} → Last (letter p) p
   last-back : {d e : Expr} {p : ℕ} → Last e p → Last (following d e) p
@@ -30,7 +30,7 @@ pub data Last : Expr → ℕ → Type 0 where
   last-right : {d e : Expr} {p : ℕ} → Last e p → Last (either d e) p
   last-star : {e : Expr} {p : ℕ} → Last e p → Last (star e) p
 
--- in a word the second place can come right after the first
+-- in a word the second position can come right after the first
 pub data Follow : Expr → ℕ → ℕ → Type 0 where
   in-front : {d e : Expr} {p q : ℕ} → Follow d p q → Follow (following d e) p q
   in-back : {d e : Expr} {p q : ℕ} → Follow e p q → Follow (following d e) p q
@@ -40,12 +40,12 @@ pub data Follow : Expr → ℕ → ℕ → Type 0 where
   inside : {e : Expr} {p q : ℕ} → Follow e p q → Follow (star e) p q
   anew : {e : Expr} {p q : ℕ} → Last e p → First e q → Follow (star e) p q
 
--- from a place on by a list of places to its last
+-- from a position on by a list of positions to its last
 pub data Chain (F : ℕ → ℕ → Type 0) : ℕ → List ℕ → ℕ → Type 0 where
   here : {p : ℕ} → Chain F p [] p
   step : {p q r : ℕ} {u : List ℕ} → F p q → Chain F q u r → Chain F p (q ∷ u) r
 
--- a list of places that begins, goes on and ends as the words do
+-- a list of positions that begins, goes on and ends as the words do
 pub data Passes (e : Expr) : List ℕ → Type 0 where
   empty : Null e → Passes e []
   through : {p q : ℕ} {u : List ℕ} → First e p → Chain (Follow e) p u q → Last e q → Passes e (p ∷ u)
@@ -71,9 +71,6 @@ following-passes (through f c l) (through f′ c′ l′) =
 
 first-star-inv : {e : Expr} {p : ℕ} → First (star e) p → First e p
 first-star-inv (first-star f) = f
-
-last-star-inv : {e : Expr} {p : ℕ} → Last (star e) p → Last e p
-last-star-inv (last-star l) = l
 
 star-passes : {e : Expr} {u v : List ℕ} → Passes e u → Passes (star e) v → Passes (star e) (u ++ v)
 star-passes (empty n) s = s

@@ -7,4 +7,5 @@ pub mod Reach
 pub mod MaskLaws
 pub mod SetLaws
 pub mod GrammarLaws
+pub mod NoneLaws
 pub mod Reader

@@ -1,4 +1,4 @@
--- Where every place stands once, a chain from a first place to a last one is a word.
+-- Where every position stands once, a chain from a first position to a last one is a word.
 -- Why: a chain cannot come back from a part of the expression that it has left, but by a star.
 -- Assumes nothing.
 use mathlib.Core.Path.{_≡_, refl, ap}
@@ -14,14 +14,14 @@ use Rattle.expression.proofs.Chains.{Last, last-here, last-back, last-f
 use Rattle.expression.proofs.Chains.{Follow, in-front, in-back, across, in-left, in-right, inside, anew}
 use Rattle.expression.proofs.Chains.{Chain, here, step, Passes, empty, through, word-passes}
 
--- the letters of an expression stand from place i to before place j, each once and in order
+-- the letters of an expression stand from position i to before position j, each once and in order
 pub data Spread : ℕ → ℕ → Expr → Type 0 where
   at : {i j p : ℕ} → i ≤ p → p < j → Spread i j (letter p)
   parts : {i j k : ℕ} {d e : Expr} → Spread i j d → Spread j k e → Spread i k (following d e)
   sides : {i j k : ℕ} {d e : Expr} → Spread i j d → Spread j k e → Spread i k (either d e)
   under : {i j : ℕ} {e : Expr} → Spread i j e → Spread i j (star e)
 
--- a place between two
+-- a position between two
 pub record Between (i j p : ℕ) : Type 0 where
   pub from : i ≤ p
   pub to : p < j
@@ -32,7 +32,7 @@ spread-le (parts s t) = omega (arith, spread-le s, spread-le t)
 spread-le (sides s t) = omega (arith, spread-le s, spread-le t)
 spread-le (under s) = spread-le s
 
--- a place of the front or of the back part is one of the whole
+-- a position of the front or of the back part is one of the whole
 pub between-front : {i j k : ℕ} {e : Expr} {p : ℕ} → Spread j k e → Between i j p → Between i k p
 between-front s b = record { from = b .from; to = omega (arith, spread-le s, b .to) }
 
@@ -73,7 +73,7 @@ follow-to (sides s t) (in-right f) = between-back s (follow-to t f)
 follow-to (under s) (inside f) = follow-to s f
 follow-to (under s) (anew l f) = first-between s f
 
--- no place is both before j and from j on
+-- no position is both before j and from j on
 apart : {A : Type 0} {i j k p : ℕ} → Between i j p → Between j k p → A
 apart b c = absurd (omega (arith, b .to, c .from))
 
@@ -85,7 +85,7 @@ null-word (null-left n) = left (null-word n)
 null-word (null-right n) = right (null-word n)
 null-word null-star = none
 
--- a chain of d from p to a last place of d, and then a word of what comes after
+-- a chain of d from p to a last position of d, and then a word of what comes after
 record Split (d : Expr) (W : List ℕ → Type 0) (p : ℕ) (u : List ℕ) : Type 0 where
   front : List ℕ
   back : List ℕ
@@ -163,7 +163,7 @@ split-star s h (step {q = q} (anew g f) c) l =
     let r = split-star s h c l in
     split-here g (rw (r .whole) (more (h _ _ _ f (r .chain) (r .ends)) (r .word)))
 
--- a chain from a first place to a last one is a word
+-- a chain from a first position to a last one is a word
 pub chain-word
     : {i j : ℕ} {e : Expr} {p q : ℕ} {u : List ℕ} → Spread i j e → First e p → Chain (Follow e) p u q → Last e q → Word position e (p ∷ u)
 chain-word (at l h) first-here here last-here = one
@@ -180,7 +180,7 @@ chain-word (under s) (first-star f) c l =
     let r = split-star s (λ x y v. chain-word s) c l in
     rw (r .whole) (more (chain-word s f (r .chain) (r .ends)) (r .word))
 
--- the words of places are what passes
+-- the words of positions are what passes
 pub word-says : {i j : ℕ} {e : Expr} → Spread i j e → (u : List ℕ) → Word position e u ↔ Passes e u
 word-says {e = e} s u = (word-passes, back)
   where

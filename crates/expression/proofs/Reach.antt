@@ -1,11 +1,11 @@
 -- The positions that the last event can stand for are those that a chain over the events reaches, and so each event is one step.
--- Why: from every place of an expression a chain goes on to a last place, so every chain from a first place is the beginning of a word.
+-- Why: from every position of an expression a chain goes on to a last position, so every chain from a first position is the beginning of a word.
 -- Assumes nothing.
 use mathlib.Core.Path.{_≡_, refl, sym, ap, subst, _∙_}
 use mathlib.Core.Logic.{_↔_}
 use Prim.Native.Nat.{ℕ}
 use native.Mathlib.Omega.{arith}
-use mathlib.Core.List.{List, [], _∷_, _++_, map, append-assoc}
+use mathlib.Core.List.{List, [], _∷_, _++_, map, append-assoc, map-append}
 use Rattle.expression.specs.Expression.{Expr, letter, following, either, star, Word, one, joined, left, right, none, more}
 use Rattle.expression.specs.Masks.{In, is, of-front, of-back, of-left, of-right, of-star}
 use Rattle.expression.specs.Positions.{position, symbolAt, Accepts, StandsFor}
@@ -16,20 +16,6 @@ use Rattle.expression.proofs.Chains.{Chain, here, step, chain-map, chai
 use Rattle.expression.proofs.Linear.{Spread, chain-word}
 
 -- ---- lists
-
-map-join : (f : ℕ → ℕ) (u v : List ℕ) → map f (u ++ v) ≡ map f u ++ map f v
-map-join f [] v = refl
-map-join f (x ∷ u) v = ap (λ (l : List ℕ). f x ∷ l) (map-join f u v)
-
--- the list without its first
-tail : List ℕ → List ℕ
-tail [] = []
-tail (x ∷ u) = u
-
--- the last of a list that is written from one on
-final-of : ℕ → List ℕ → ℕ
-final-of x [] = x
-final-of x (y ∷ u) = final-of y u
 
 -- what ends in one is no empty list
 pub snoc-not-nil : (u : List ℕ) (x : ℕ) → u ++ (x ∷ []) ≡ [] → ⊥
@@ -45,16 +31,16 @@ snoc-inj (a ∷ u) (b ∷ v) x y e = let r = snoc-inj u v x y (cc) in (cc (r .0)
 
 -- ---- names of letters
 
--- a word of places is a word under any names
+-- a word of positions is a word under any names
 pub word-name : {name : ℕ → ℕ} {e : Expr} {u : List ℕ} → Word position e u → Word name e (map name u)
 word-name one = one
-word-name {name} (joined {u = u} {v = v} w x) = rw (map-join name u v) (joined (word-name w) (word-name x))
+word-name {name} (joined {u = u} {v = v} w x) = rw (map-append name u v) (joined (word-name w) (word-name x))
 word-name (left w) = left (word-name w)
 word-name (right w) = right (word-name w)
 word-name none = none
-word-name {name} (more {u = u} {v = v} w x) = rw (map-join name u v) (more (word-name w) (word-name x))
+word-name {name} (more {u = u} {v = v} w x) = rw (map-append name u v) (more (word-name w) (word-name x))
 
--- a word under names, and the places of its letters
+-- a word under names, and the positions of its letters
 pub record Placed (name : ℕ → ℕ) (e : Expr) (w : List ℕ) : Type 0 where
   pub places : List ℕ
   pub word : Word position e places
@@ -67,7 +53,7 @@ placed-join {name} d e f {u} {v} j a b =
     record {
       places = a .places ++ b .places;
       word = j (a .places) (b .places) (a .word) (b .word);
-      names = map-join name (a .places) (b .places) ∙ cc (a .names, b .names);
+      names = map-append name (a .places) (b .places) ∙ cc (a .names, b .names);
     }
 
 placed-map : {name : ℕ → ℕ} {d e : Expr} {u : List ℕ} → ((x : List ℕ) → Word position d x → Word position e x) → Placed name d u → Placed name e u
@@ -110,7 +96,7 @@ some-first (following d e) = let r = some-first d in (r .0, first-front (r .1))
 some-first (either d e) = let r = some-first d in (r .0, first-left (r .1))
 some-first (star e) = let r = some-first e in (r .0, first-star (r .1))
 
--- a chain from a place to a last one
+-- a chain from a position to a last one
 record Onward (e : Expr) (p : ℕ) : Type 0 where
   path : List ℕ
   stop : ℕ
@@ -141,7 +127,7 @@ onward (star e) p (of-star i) = onward-map e (star e) p (λ x y. inside) (λ x. 
 
 -- ---- the positions after a list of events
 
--- a chain over the events w from a first place reaches p
+-- a chain over the events w from a first position reaches p
 pub record Reaches (t : List ℕ) (e : Expr) (w : List ℕ) (p : ℕ) : Type 0 where
   pub start : ℕ
   pub path : List ℕ
@@ -149,7 +135,7 @@ pub record Reaches (t : List ℕ) (e : Expr) (w : List ℕ) (p : ℕ) : Type 0 w
   pub chain : Chain (Follow e) start path p
   pub events : map (symbolAt t) (start ∷ path) ≡ w
 
--- a chain up to a place on it
+-- a chain up to a position on it
 chain-up-to : {F : ℕ → ℕ → Type 0} (x : ℕ) (u : List ℕ) (p : ℕ) (v : List ℕ) (q : ℕ) → Chain F x (u ++ (p ∷ v)) q → Chain F x (u ++ (p ∷ [])) p
 chain-up-to x [] p v q (step f c) = step f here
 chain-up-to x (y ∷ u) p v q (step f c) = step f (chain-up-to y u p v q c)
@@ -159,7 +145,7 @@ chain-join : {F : ℕ → ℕ → Type 0} {p q r : ℕ} {u v : List ℕ} → Cha
 chain-join here d = d
 chain-join (step f c) d = step f (chain-join c d)
 
--- the places of a chain end in its last place
+-- the positions of a chain end in its last position
 record Ended (x : ℕ) (u : List ℕ) (p : ℕ) : Type 0 where
   before : List ℕ
   all : x ∷ u ≡ before ++ (p ∷ [])
@@ -199,7 +185,7 @@ stands-says t i j e w p h = (stands-reaches t e w p, reaches-stands t i j e w p 
 
 -- ---- one event
 
--- after one event: the first places with its symbol
+-- after one event: the first positions with its symbol
 pub reaches-one : (t : List ℕ) (e : Expr) (s p : ℕ) → Reaches t e (s ∷ []) p ↔ (First e p × (symbolAt t p ≡ s))
 reaches-one t e s p = (there, λ h. record { start = p; path = []; begins = h .0; chain = here; events = cc (h .1) })
   where
@@ -210,7 +196,7 @@ reaches-one t e s p = (there, λ h. record { start = p; path = []; begins = h .0
     there : Reaches t e (s ∷ []) p → First e p × (symbolAt t p ≡ s)
     there r = go (r .start) (r .path) (r .begins) (r .chain) (r .events)
 
--- after one event more: what follows a place reached before, with its symbol
+-- after one event more: what follows a position reached before, with its symbol
 pub record Further (t : List ℕ) (e : Expr) (w : List ℕ) (s q : ℕ) : Type 0 where
   pub from : ℕ
   pub reached : Reaches t e w from
@@ -244,7 +230,7 @@ reaches-more t e x w s q = (there, back)
     go y u f (step g c) k =
         let r = last-step g c in
         let m : map (symbolAt t) (y ∷ r .path) ++ (symbolAt t q ∷ []) ≡ (x ∷ w) ++ (s ∷ []) =
-        sym (map-join (symbolAt t) (y ∷ r .path) (q ∷ [])) ∙ ap (λ (l : List ℕ). map (symbolAt t) (y ∷ l)) (sym (r .whole)) ∙ k in
+        sym (map-append (symbolAt t) (y ∷ r .path) (q ∷ [])) ∙ ap (λ (l : List ℕ). map (symbolAt t) (y ∷ l)) (sym (r .whole)) ∙ k in
         let n = snoc-inj (map (symbolAt t) (y ∷ r .path)) (x ∷ w) (symbolAt t q) s m in
         record {
           from = r .from;
@@ -263,12 +249,12 @@ reaches-more t e x w s q = (there, back)
           path = h .reached .path ++ (q ∷ []);
           begins = h .reached .begins;
           chain = chain-append (h .reached .chain) (h .follows) here;
-          events = map-join (symbolAt t) (h .reached .start ∷ h .reached .path) (q ∷ []) ∙ cc (h .reached .events, h .symbol);
+          events = map-append (symbolAt t) (h .reached .start ∷ h .reached .path) (q ∷ []) ∙ cc (h .reached .events, h .symbol);
         }
 
 -- ---- words of events
 
--- a list of events is a word where its last event can stand for a last place
+-- a list of events is a word where its last event can stand for a last position
 pub accepts-says
     : (t : List ℕ) (i j : ℕ) (e : Expr) (x : ℕ) (w : List ℕ) → Spread i j e
     → Accepts t e (x ∷ w) ↔ ((p : ℕ) × Reaches t e (x ∷ w) p × Last e p)

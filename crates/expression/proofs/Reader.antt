@@ -16,8 +16,9 @@ use Rattle.expression.specs.Expression.{Expr, letter, following, either,
 use Rattle.expression.specs.Grammar.{Level, piece, row, choice, At, IsLetter, Spells, letter-at, group, again, single, then, only, or, TextOf}
 use Rattle.expression.specs.Stops.{Begins, by-letter, by-group, StopAt}
 use Rattle.expression.proofs.Linear.{spread-le}
-use Rattle.expression.proofs.Unique.{choice-unique, row-unique, piece-unique, begins, begins-not, stop-bar, stop-close, spells-spread}
-use Rattle.expression.proofs.GrammarLaws.{char-within, stop-end}
+use Rattle.expression.proofs.Unique.{choice-unique, spells-spread}
+use Rattle.expression.proofs.NoneLaws.{at-within, begins-within, piece-none, group-none, group-open, row-none, row-none-after, choice-none, choice-none-after}
+use Rattle.expression.proofs.GrammarLaws.{stop-end}
 
 -- ---- the reader
 
@@ -160,14 +161,6 @@ begins-says a t i = (there, back)
 fails : {P : Type 0} (b : Bool) → (b ≡ true) ↔ P → b ≡ false → P → ⊥
 fails b s h x = true≢false (sym (s .1 x) ∙ h)
 
--- where a character stands the text goes on
-at-within : (t : List ℕ) (j c : ℕ) → 0 < c → At t j c → j < length t
-at-within t j c h p = char-within t j (omega (arith, h, p))
-
-begins-within : (a : ℕ) (t : List ℕ) (j : ℕ) → Begins a t j → j < length t
-begins-within a t j (by-letter x) = char-within t j (omega (arith, x .low))
-begins-within a t j (by-group p) = at-within t j 40 (omega arith) p
-
 -- how far a level is from the characters
 abbrev rank : Level → ℕ
 rank piece = 0
@@ -190,33 +183,15 @@ module _ (a : ℕ) (t : List ℕ) (few : a ≤ 16) where
       go true h more = more h
       go false h more = (s, eqb-false (getD t j 0) 42 h)
 
-  -- a piece that begins with a parenthesis holds a choice
-  record Opened (i : ℕ) : Type 0 where
-    stop : ℕ
-    expr : Expr
-    inner : Spells a t choice (suc i) stop expr
-    closed : At t stop 41
-
-  -- below its stars
-  opened : {i j : ℕ} {e : Expr} → At t i 40 → Spells a t piece i j e → Opened i
-  opened p (letter-at x) = absurd (omega (arith, x .low, p))
-  opened p (group {j = j} {e = e} q s r) = record { stop = j; expr = e; inner = s; closed = r }
-  opened p (again s q) = opened p s
-
   -- a group, from the choice in it
   close-answer : (i : ℕ) → At t i 40 → (r : Reading) → Answer a t choice (suc i) r → Answer a t piece i (closeAfter t r)
   unfolding closeAfter closeIf
-  close-answer i p nothing h =
-      λ j e s x. let o = opened p s in h (o .stop) (o .expr) (o .inner) (stop-close a t (o .stop) (o .closed))
+  close-answer i p nothing h = group-none i p h
   close-answer i p (found j e) h = go (eqb (getD t j 0) 41) refl
     where
       go : (b : Bool) → eqb (getD t j 0) 41 ≡ b → Answer a t piece i (closeIf t b j e)
       go true q = stars-answer (length t) i (suc j) e (omega arith) (group p (h .0) (eqb-true (getD t j 0) 41 q))
-      go false q =
-          λ k f s x.
-          let o = opened p s in
-          let z = choice-unique few (h .0) (o .inner) (h .1) (stop-close a t (o .stop) (o .closed)) in
-          eqb-false (getD t j 0) 41 q (subst (λ (y : ℕ). At t y 41) (sym (z .end)) (o .closed))
+      go false q = group-open few p (h .0) (h .1) (eqb-false (getD t j 0) 41 q)
 
   -- a piece, from the choice after its parenthesis
   piece-answer
@@ -229,38 +204,16 @@ module _ (a : ℕ) (t : List ℕ) (few : a ≤ 16) where
           : (b c : Bool) → eqb (getD t i 0) 40 ≡ b → letterAt a t i ≡ c → Answer a t piece i (pieceIf t more i b c)
       go true c x y = let p = eqb-true (getD t i 0) 40 x in close-answer i p (more (suc i)) (h p)
       go false true x y = stars-answer (length t) i (suc i) (letter i) (omega arith) (letter-at (letter-says a t i .0 y))
-      go false false x y = λ j e s z. none (begins s)
-        where
-          none : Begins a t i → ⊥
-          none (by-letter w) = fails (letterAt a t i) (letter-says a t i) y w
-          none (by-group w) = eqb-false (getD t i 0) 40 x w
+      go false false x y = piece-none i (eqb-false (getD t i 0) 40 x) (fails (letterAt a t i) (letter-says a t i) y)
 
   -- ---- rows
-
-  -- no star stands where a row begins
-  row-no-star : {l : Level} {i j : ℕ} {e : Expr} → Spells a t l i j e → At t i 42 → ⊥
-  row-no-star {i = i} s p = begins-not a t i 42 (omega arith) (omega arith) (begins s) p
-
-  -- with no piece there is no row, nor with one that another follows and no row from there
-  row-none : (i : ℕ) → Answer a t piece i nothing → Answer a t row i nothing
-  row-none i h j e (single s) x = h j e s (x .no-star)
-  row-none i h j e (then {j = m} {d = d} s r) x = h m d s (row-no-star r)
-
-  row-none-after
-      : (i m : ℕ) (d : Expr) → Answer a t piece i (found m d) → Begins a t m → Answer a t row m nothing → Answer a t row i nothing
-  row-none-after i m d w b h j e (single s) x =
-      let z = piece-unique few (w .0) s (w .1) (x .no-star) in
-      x .no-piece (subst (λ (n : ℕ). Begins a t n) (z .end) b)
-  row-none-after i m d w b h j e (then {e = f} s r) x =
-      let z = piece-unique few (w .0) s (w .1) (row-no-star r) in
-      h j f (subst (λ (n : ℕ). Spells a t row n j f) (sym (z .end)) r) x
 
   -- a piece and the row after it
   then-answer
       : (i j : ℕ) (d : Expr) → Answer a t piece i (found j d) → Begins a t j → (r : Reading) → Answer a t row j r
       → Answer a t row i (thenAfter d r)
   unfolding thenAfter
-  then-answer i j d w b nothing h = row-none-after i j d w b h
+  then-answer i j d w b nothing h = row-none-after few (w .0) (w .1) b h
   then-answer i j d w b (found k e) h = (then (w .0) (h .0), h .1)
 
   -- a row, from its first piece and the row after that
@@ -278,26 +231,12 @@ module _ (a : ℕ) (t : List ℕ) (few : a ≤ 16) where
 
   -- ---- choices
 
-  -- with no row there is no choice, nor with a row and a bar and no choice after it
-  choice-none : (i : ℕ) → Answer a t row i nothing → Answer a t choice i nothing
-  choice-none i h j e (only s) x = h j e s (x .row-ends)
-  choice-none i h j e (or {j = m} {d = d} s p r) x = h m d s (stop-bar a few t m p)
-
-  choice-none-after
-      : (i m : ℕ) (d : Expr) → Answer a t row i (found m d) → At t m 124 → Answer a t choice (suc m) nothing → Answer a t choice i nothing
-  choice-none-after i m d w b h j e (only s) x =
-      let z = row-unique few (w .0) s (w .1) (x .row-ends) in
-      x .no-bar (subst (λ (n : ℕ). At t n 124) (z .end) b)
-  choice-none-after i m d w b h j e (or {j = k} {e = f} s p r) x =
-      let z = row-unique few (w .0) s (w .1) (stop-bar a few t k p) in
-      h j f (subst (λ (n : ℕ). Spells a t choice (suc n) j f) (sym (z .end)) r) x
-
   -- a row and the choice after the bar
   or-answer
       : (i j : ℕ) (d : Expr) → Answer a t row i (found j d) → At t j 124 → (r : Reading) → Answer a t choice (suc j) r
       → Answer a t choice i (orAfter d r)
   unfolding orAfter
-  or-answer i j d w b nothing h = choice-none-after i j d w b h
+  or-answer i j d w b nothing h = choice-none-after few (w .0) (w .1) b h
   or-answer i j d w b (found k e) h = (or (w .0) b (h .0), h .1)
 
   -- a choice, from its first row and the choice after that
@@ -305,7 +244,7 @@ module _ (a : ℕ) (t : List ℕ) (few : a ≤ 16) where
       : (i : ℕ) (more : ℕ → Reading) (r : Reading) → Answer a t row i r
       → ((j : ℕ) → i < j → At t j 124 → Answer a t choice (suc j) (more (suc j))) → Answer a t choice i (choiceAfter t more r)
   unfolding choiceAfter choiceIf
-  choice-answer i more nothing w h = choice-none i w
+  choice-answer i more nothing w h = choice-none i few w
   choice-answer i more (found j d) w h = go (eqb (getD t j 0) 124) refl
     where
       go : (b : Bool) → eqb (getD t j 0) 124 ≡ b → Answer a t choice i (choiceIf more b j d)
@@ -325,7 +264,7 @@ module _ (a : ℕ) (t : List ℕ) (few : a ≤ 16) where
       (λ p. let g = at-within t i 40 (omega arith) p in read-answer n choice (suc i) (omega (arith, g)) (omega (arith, h, g)))
   read-answer (suc n) row i w h =
       row-answer i (λ j. readAt n a t row j) (readAt n a t piece i) (read-answer n piece i w (omega (arith, h)))
-      (λ j l b. let g = begins-within a t j b in read-answer n row j (omega (arith, g)) (omega (arith, h, l)))
+      (λ j l b. let g = begins-within j b in read-answer n row j (omega (arith, g)) (omega (arith, h, l)))
   read-answer (suc n) choice i w h =
       choice-answer i (λ j. readAt n a t choice j) (readAt n a t row i) (read-answer n row i w (omega (arith, h)))
       (λ j l p. let g = at-within t j 124 (omega arith) p in read-answer n choice (suc j) (omega (arith, g)) (omega (arith, h, l)))

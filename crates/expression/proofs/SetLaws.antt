@@ -1,4 +1,4 @@
--- The set after a list of events is computed event by event, and holds a last place where the list is a word.
+-- The set after a list of events is computed event by event, and holds a last position where the list is a word.
 -- Assumes nothing.
 use mathlib.Core.Path.{_≡_, sym, subst, _∙_}
 use mathlib.Core.Logic.{_⊎_, ⊎-elim, _↔_}
@@ -100,7 +100,7 @@ in-between (sides s t) (of-left h) = between-front t (in-between s h)
 in-between (sides s t) (of-right h) = between-back s (in-between t h)
 in-between (under s) (of-star h) = in-between s h
 
--- at every place of the expression a letter stands
+-- at every position of the expression a letter stands
 spells-letter : {a : ℕ} {t : List ℕ} {l : Level} {i j : ℕ} {e : Expr} {p : ℕ} → Spells a t l i j e → In e p → IsLetter a t p
 spells-letter (letter-at x) is = x
 spells-letter (group c s d) h = spells-letter s h
@@ -169,7 +169,7 @@ module _ (a : ℕ) (t : List ℕ) (e : Expr) (spelt : TextOf a t e) where
           (places-of t (length t) s p (follow-to (spells-spread spelt) (r .follows) .to)
           (symbol-to a t p s (spells-letter spelt (follow-in (r .follows))) (r .symbol)))
 
-  -- the events form a word where the set has a last place
+  -- the events form a word where the set has a last position
   pub final-set : (x : ℕ) (w : List ℕ) (k : ℕ) → IsSet t e (x ∷ w) k → Accepts t e (x ∷ w) ↔ ((p : ℕ) × (has (bitAnd k (last e)) p ≡ true))
   final-set x w k set = (there, back)
     where

@@ -1,6 +1,6 @@
--- A text spells one expression at most: what is spelt from a place up to a character that cannot go on is determined.
+-- A text spells one expression at most: what is spelt from a position up to a character that cannot go on is determined.
 -- Assumes nothing.
-use mathlib.Core.Path.{_≡_, refl, sym, subst, _∙_}
+use mathlib.Core.Path.{_≡_, refl, sym, subst}
 use mathlib.Core.Logic.{_⊎_, inl, inr, ⊎-elim}
 use Prim.Native.Nat.{ℕ, suc, _≤_, _<_}
 use native.Mathlib.Omega.{arith}
@@ -21,16 +21,13 @@ data Stars (t : List ℕ) : ℕ → Expr → ℕ → Expr → Type 0 where
   done : {j : ℕ} {d : Expr} → Stars t j d j d
   next : {j k : ℕ} {d e : Expr} → Stars t j d k e → At t k 42 → Stars t j d (suc k) (star e)
 
--- one of two pieces from one place goes on from the other by stars; rows and choices that cannot go on are one
+-- one of two pieces from one position goes on from the other by stars; rows and choices that cannot go on are one
 abbrev Agree : ℕ → List ℕ → Level → ℕ → Expr → ℕ → Expr → Type 0
 Agree a t piece j d k e = Stars t j d k e ⊎ Stars t k e j d
 Agree a t row j d k e = StopRow a t j → StopRow a t k → Same j d k e
 Agree a t choice j d k e = Stop a t j → Stop a t k → Same j d k e
 
 -- ---- characters
-
-two-chars : {A : Type 0} (t : List ℕ) (i c d : ℕ) → At t i c → At t i d → (c ≡ d → ⊥) → A
-two-chars t i c d p q h = absurd (h (sym p ∙ q))
 
 pub begins-not : (a : ℕ) (t : List ℕ) (i c : ℕ) → 41 ≤ c → c < 97 → Begins a t i → At t i c → ⊥
 begins-not a t i c l h (by-letter x) p = omega (arith, x .low, p)
@@ -62,7 +59,7 @@ begins (or s p r) = begins s
 
 -- ---- stars
 
--- stars are none, or one at the place and then others
+-- stars are none, or one at the position and then others
 stars-first : {t : List ℕ} {j k : ℕ} {d e : Expr} → Stars t j d k e → Same j d k e ⊎ (At t j 42 × Stars t (suc j) (star d) k e)
 stars-first done = inl (record { end = refl; expr = refl })
 stars-first {t} (next {j = j} {k = k} {d = d} {e = e} s p) = go (stars-first s)
@@ -171,7 +168,7 @@ agree b (then r r′) s = then-agrees r′ (λ m f z. agree b r z) (λ m f z. ag
 agree b (only r) s = only-agrees b (λ m f z. agree b r z) s
 agree b (or r p r′) s = or-agrees b p (λ m f z. agree b r z) (λ m f z. agree b r′ z) s
 
--- two choices from one place that cannot go on are one
+-- two choices from one position that cannot go on are one
 pub choice-unique
     : {a : ℕ} {t : List ℕ} {i j k : ℕ} {d e : Expr} → a ≤ 16 → Spells a t choice i j d → Spells a t choice i k e
     → Stop a t j → Stop a t k → Same j d k e
@@ -187,7 +184,7 @@ pub piece-unique
     → (At t j 42 → ⊥) → (At t k 42 → ⊥) → Same j d k e
 piece-unique b r s p q = pieces-same (agree b r s) p q
 
--- ---- places
+-- ---- positions
 
 spread-more : {i j k l : ℕ} {e : Expr} → k ≤ i → j ≤ l → Spread i j e → Spread k l e
 spread-more p q (at x y) = at (le-trans p x) (le-trans y q)

@@ -19,6 +19,6 @@ pub data Word (name : ℕ → ℕ) : Expr → List ℕ → Type 0 where
   -- the bar: a word of the one or of the other
   left : {d e : Expr} {u : List ℕ} → Word name d u → Word name (either d e) u
   right : {d e : Expr} {u : List ℕ} → Word name e u → Word name (either d e) u
-  -- the star: no word, or a word and then some more
+  -- the star: the empty word, or a word and then a word of the star
   none : {e : Expr} → Word name (star e) []
   more : {e : Expr} {u v : List ℕ} → Word name e u → Word name (star e) v → Word name (star e) (u ++ v)

@@ -7,13 +7,14 @@ use mathlib.Core.List.{List}
 use Prim.Native.Nat.{ℕ, _+_, _-_, _*_, _≤_, _<_}
 use native.Mathlib.Decide.{decLt}
 use native.Mathlib.Omega.{arith}
-use lib.ListN.{length, getD, replicate, length-replicate, getD-replicate, List·getD-eq-default}
+use lib.ListN.{length, getD, replicate, length-replicate}
 use lib.Seq.{ext-getD}
 use Rattle.automaton.specs.Automaton.{Automaton, cell}
 use Rattle.automaton.specs.Table.{tableOf, cellByte, ruleBytes}
 use Rattle.automaton.specs.Made.{Made, makes, refuses, madeAfter}
 use Rattle.automaton.proofs.TableLaws.{table-cell}
 use Rattle.automaton.proofs.RuleBytesLaws.{cell-byte-at, cell-byte-past, bytes-are-rule}
+use Rattle.lines.proofs.LinesLaws.{zeros-at}
 use Rattle.expression.specs.Expression.{Expr}
 use Rattle.expression.specs.Grammar.{choice, Spells, TextOf}
 use Rattle.expression.specs.Masks.{last}
@@ -27,7 +28,7 @@ use Rattle.expressionrule.specs.ExpressionRule.{Outside, Within, ExpressionMake
 use Rattle.expressionrule.specs.Numbering.{Growing, ReadAs, AllDone, FinalsOf}
 use Rattle.expressionrule.proofs.GrowLaws.{growing-none}
 use Rattle.expressionrule.proofs.DoneLaws.{ruleOfCells, cells-same, done-rule, many-states}
-use Rattle.expressionrule.proofs.MadeBy.{madeBy, made-by}
+use Rattle.expressionrule.proofs.MadeBy.{within, madeBy, made-by}
 use Rattle.expressioncall.specs.Inner.{NumbersAs, too-many, numbered, Numbers}
 
 -- ---- the rule buffer
@@ -60,19 +61,13 @@ cells-are-bytes a t e sets cells count finals few g = bytes-are-rule cells m (g 
 
 -- ---- the search
 
--- zeros are zero everywhere
-zeros : (n k : ℕ) → _≡_ {A = ℕ} (getD (replicate n 0) k 0) 0
-zeros n k =
-    by-cases (decLt k n) (λ (h : k < n). getD-replicate n k 0 0 h)
-    (λ (h : k < n → ⊥). List·getD-eq-default (replicate n 0) 0 (omega (arith, h, length-replicate {A = ℕ} n 0)))
-
 module _ (a : ℕ) (t f : List ℕ) (firsts lasts : ℕ) (before sets cells : List ℕ) (n : ℕ) (few : a ≤ 16)
     (d : AllDone a t f firsts (replicate 16 0) (replicate 256 0) sets cells n) where
   -- it begins with no set and no cell
   begun : (e : Expr) → Growing a t e (replicate 16 0) (replicate 256 0) 1 0
   begun e =
       growing-none a t e (replicate 16 0) (replicate 256 0) (length-replicate {A = ℕ} 16 0) (length-replicate {A = ℕ} 256 0)
-      (zeros 256)
+      (zeros-at 256)
 
   -- a seventeenth state
   pub numbers-many : n ≡ 17 → Numbers a t f firsts lasts before before (Refused 21)
@@ -101,17 +96,6 @@ module _ (t : List ℕ) (a : ℕ) (before : List ℕ) where
     takes-outside o = record { made = refuses 20; makes = outside same o; answer = refl; buffer = refl }
 
     module _ (some : 1 ≤ a) (few : a ≤ 16) (short : length t ≤ 64) where
-      -- a text that spells an expression with the first a letters is within
-      within : (e : Expr) → TextOf a t e → Within t a e
-      within e spelt =
-          record {
-            some-symbol = some;
-            few-symbols = few;
-            short = short;
-            spelt = grammar-says .fewer a t e few spelt;
-            letters = λ i l. let x = grammar-says .letters a t e i few spelt l in omega (arith, x .low, x .high);
-          }
-
       -- one that spells none is outside
       pub takes-nothing : ((e : Expr) → TextOf a t e → ⊥) → AnswersExpression t a before before (Refused 20)
       takes-nothing none = takes-outside (go (madeBy t a 256) (made-by t a 256))
@@ -146,9 +130,9 @@ module _ (t : List ℕ) (a : ℕ) (before : List ℕ) where
         where
           go : {x : ExpressionAnswer} → NumbersAs a t (s .expr) before after x → AnswersExpression t a before after x
           go (too-many y b) =
-              record { made = refuses 21; makes = many same (within (s .expr) (read-as f₀ f d room s ends .spelt)) y; answer = refl; buffer = b }
+              record { made = refuses 21; makes = many same (within t a (s .expr) some few short (read-as f₀ f d room s ends .spelt)) y; answer = refl; buffer = b }
           go (numbered {m = m} y b) =
-              record { made = makes m; makes = made same (within (s .expr) (read-as f₀ f d room s ends .spelt)) y; answer = refl; buffer = b }
+              record { made = makes m; makes = made same (within t a (s .expr) some few short (read-as f₀ f d room s ends .spelt)) y; answer = refl; buffer = b }
 
 -- ---- by value
 

@@ -22,7 +22,8 @@ use Rattle.expression.proofs.Linear.{Spread, spread-le, Between, last-between, 
 use Rattle.expression.proofs.MaskLaws.{last-says, follow-says}
 use Rattle.expression.proofs.SetLaws.{in-between}
 use Rattle.expression.proofs.Unique.{spells-spread}
-use Rattle.expressionparts.proofs.ReadingLaws.{char-within, unlinked}
+use Rattle.expression.proofs.GrammarLaws.{char-within}
+use Rattle.expressionparts.proofs.ReadingLaws.{unlinked}
 
 -- ---- positions
 

@@ -3,9 +3,9 @@
 use mathlib.Core.Path.{_≡_, refl, sym, ap, _∙_}
 use mathlib.Core.Logic.{by-cases, _≢_}
 use mathlib.Core.Bool.{Bool, true, false, true≢false, false≢true}
-use mathlib.Core.List.{List, [], _∷_}
-use Prim.Native.Nat.{ℕ, zero, suc, _+_, _-_, _^_, _≤_, _<_}
-use native.Mathlib.Nat.{le-of-suc-le-suc, not-suc-le-zero, lt-of-not-le}
+use mathlib.Core.List.{List}
+use Prim.Native.Nat.{ℕ, _+_, _-_, _^_, _≤_, _<_}
+use native.Mathlib.Nat.{not-suc-le-zero}
 use native.Mathlib.Decide.{decLt, ℕ-discrete}
 use native.Mathlib.Omega.{arith}
 use lib.Dec.{eqb, ltb}
@@ -20,18 +20,6 @@ use Rattle.expression.specs.Grammar.{At, IsLetter}
 use Rattle.expression.specs.Masks.{when}
 use Rattle.expression.specs.Stops.{Begins, by-letter, by-group}
 use Rattle.expressionparts.specs.Reading.{Tells, Linked}
-
--- ---- characters
-
--- past the end stands 0
-pub getD-past : (l : List ℕ) (i : ℕ) → length l ≤ i → getD l i 0 ≡ 0
-getD-past [] i h = refl
-getD-past (x ∷ l) zero h = absurd (not-suc-le-zero h)
-getD-past (x ∷ l) (suc i) h = getD-past l i (le-of-suc-le-suc h)
-
--- where a character stands the text has not ended
-pub char-within : (l : List ℕ) (i : ℕ) → 0 < getD l i 0 → i < length l
-char-within l i h = lt-of-not-le (λ (g : length l ≤ i). omega (arith, getD-past l i g))
 
 -- ---- tests
 

@@ -26,12 +26,14 @@ pub fn set_when(b: bool, s: u64) -> u64
     if b { s } else { 0 }
 }
 
+// Whether both hold.
 fn both(a: bool, b: bool) -> bool
     ensures { λ r. ⌜ r ≡ (a && b) ⌝ }
 {
     if a { b } else { false }
 }
 
+// Whether one of the two holds.
 fn one_of(a: bool, b: bool) -> bool
     ensures { λ r. ⌜ r ≡ (a || b) ⌝ }
 {

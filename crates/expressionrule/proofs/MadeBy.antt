@@ -135,7 +135,7 @@ or-eq-false true b h = absurd (true≢false h)
 or-eq-false false b h = (refl, h)
 
 -- what is read with the first a letters is within the limits
-within : (t : List ℕ) (a : ℕ) (e : Expr) → 1 ≤ a → a ≤ 16 → length t ≤ maxText → TextOf a t e → Within t a e
+pub within : (t : List ℕ) (a : ℕ) (e : Expr) → 1 ≤ a → a ≤ 16 → length t ≤ maxText → TextOf a t e → Within t a e
 within t a e some few short spelt =
     record {
       some-symbol = some;

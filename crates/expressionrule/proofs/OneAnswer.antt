@@ -57,6 +57,13 @@ just-one =
     record {
       some = λ t a rule. (madeBy t a rule, made-by t a rule);
       only = λ t a rule x y p q. both t a rule p q;
+      some-answer = some-answer;
+      some-number = λ t a before.
+          let (after, r, x) = some-answer t a before in
+          (after, expressionNumber r, record { answer = r; answers = x; number = refl });
+      some-value = λ t a.
+          let x = madeBy t a ruleSize in
+          (expressionValue x, record { made = x; makes = made-by t a ruleSize; value = refl });
       one-answer = one-answer;
       one-number = λ t a before after other k n p q.
           let (answers, buffers) = one-answer t a before after other (p .answer) (q .answer) (p .answers) (q .answers) in
@@ -65,6 +72,12 @@ just-one =
           p .value ∙ ap expressionValue (both t a ruleSize (p .makes) (q .makes)) ∙ sym (q .value);
     }
   where
+    some-answer
+        : (t : List ℕ) (a : ℕ) (before : List ℕ) → (after : List ℕ) × (r : ExpressionAnswer) × AnswersExpression t a before after r
+    some-answer t a before =
+        let x = madeBy t a (length before) in
+        (madeAfter x before, expressionAnswer x, record { made = x; makes = made-by t a (length before); answer = refl; buffer = refl })
+
     one-answer
         : (t : List ℕ) (a : ℕ) (before after other : List ℕ) (r s : ExpressionAnswer) → AnswersExpression t a before after r
         → AnswersExpression t a before other s → (r ≡ s) × (after ≡ other)

@@ -16,6 +16,7 @@ use lib.Seq.{getD-set-other}
 use borrow.Author.Tests.{eqb-true, eqb-false, ltb-true, ltb-false}
 use Rattle.laws.specs.Bits.{has}
 use Rattle.laws.specs.Bounded.{tabFrom, tab}
+use Rattle.lines.proofs.LinesLaws.{zeros-at}
 use Rattle.expression.specs.Expression.{Expr, letter, following, either, star}
 use Rattle.expression.specs.Masks.{nullable, when, first, last, follow, unionOver, placesOf, startSet, nextSet, aim}
 use Rattle.expressionrule.specs.Numbering.{Growing, Sought, TooMany}
@@ -256,12 +257,6 @@ seek-sought (suc k) sets n x p l o h =
         }
     go false z rest = rest z
 
--- no cell is there at the start
-zeros : (n k : ℕ) → _≡_ {A = ℕ} (getD (replicate n 0) k 0) 0
-zeros zero k = refl
-zeros (suc n) zero = refl
-zeros (suc n) (suc k) = zeros n k
-
 module _ (a : ℕ) (t : List ℕ) (e : Expr) (few : a ≤ 16) where
   -- a cell, from what is answered after it
   cell-answer
@@ -363,4 +358,4 @@ module _ (a : ℕ) (t : List ℕ) (e : Expr) (few : a ≤ 16) where
   unfolding searchOf searchBy
   search-answer =
       rows-answer 16 0 (replicate 16 0) (replicate 256 0) 1 (omega arith) (omega arith)
-      (growing-none a t e (replicate 16 0) (replicate 256 0) (length-replicate {A = ℕ} 16 0) (length-replicate {A = ℕ} 256 0) (zeros 256))
+      (growing-none a t e (replicate 16 0) (replicate 256 0) (length-replicate {A = ℕ} 16 0) (length-replicate {A = ℕ} 256 0) (zeros-at 256))

@@ -27,7 +27,7 @@ run m q [] = q
 run m q (s ∷ w) = run m (next m q s) w
 
 -- "numbered as first met breadth first with symbols ascending": rows are gone through in the order of their states, each symbol by symbol, and
--- the cells before the one where state k is met hold lower numbers
+-- the cells before the one where state k is met hold lower numbers; q * 16 + s is that order, since A is at most 16
 pub record FirstMet (next : ℕ → ℕ → ℕ) (a k : ℕ) : Type 0 where
   pub row : ℕ
   pub column : ℕ

@@ -30,10 +30,15 @@ use Rattle.expressionrule.specs.ExpressionRule.{run, RuleOf, ManyStates,
 
 -- ---- just one
 
--- the statement: for every text, A and rule buffer just one is made; so there is one answer, one number, one content of the buffer and one value
+-- the statement: for every text, A and rule buffer just one is made; so there is an answer, a number, a content of the buffer and a value, and no
+-- second one of each
 pub record JustOne : Type 0 where
   pub some : (t : List ℕ) (a rule : ℕ) → (x : Made) × ExpressionMakes t a rule x
   pub only : (t : List ℕ) (a rule : ℕ) (x y : Made) → ExpressionMakes t a rule x → ExpressionMakes t a rule y → x ≡ y
+  pub some-answer
+      : (t : List ℕ) (a : ℕ) (before : List ℕ) → (after : List ℕ) × (r : ExpressionAnswer) × AnswersExpression t a before after r
+  pub some-number : (t : List ℕ) (a : ℕ) (before : List ℕ) → (after : List ℕ) × (n : ℕ) × NumbersExpression t a before after n
+  pub some-value : (t : List ℕ) (a : ℕ) → (r : ExpressionRule) × ValuesExpression t a r
   pub one-answer
       : (t : List ℕ) (a : ℕ) (before after other : List ℕ) (r s : ExpressionAnswer) → AnswersExpression t a before after r
       → AnswersExpression t a before other s → (r ≡ s) × (after ≡ other)

@@ -13,6 +13,7 @@ abbrev pub RuleFits : RuleAnswer → Type 0
 RuleFits (Rule n) = (n .states < 2 ^ 16) × (n .symbols < 2 ^ 16) × (n .finals < 2 ^ 16)
 RuleFits (Refused k) = Unit {0}
 
+-- the same of the call for an expression
 abbrev pub ExpressionFits : ExpressionAnswer → Type 0
 ExpressionFits (Accepted x) = (x .states < 2 ^ 16) × (x .finals < 2 ^ 16)
 ExpressionFits (ExpressionRefused k) = Unit {0}

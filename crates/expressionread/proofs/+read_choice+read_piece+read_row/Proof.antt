@@ -4,9 +4,9 @@
 -- Assumes nothing.
 use Rattle.expression.specs.Grammar.{piece, row, choice}
 use Rattle.expressionparts.proofs.PartLaws.{letter-shown, group-shown}
-use Rattle.expressionread.proofs.AnswerLaws.{found, nothing, renamed, renamed-shown, at-within, letter-within, begins-within, ready-after, goes-on}
-use Rattle.expressionread.proofs.AnswerLaws.{row-single, row-then, row-none, row-none-after, choice-only, choice-or, choice-none, choice-none-after}
-use Rattle.expressionread.proofs.AnswerLaws.{piece-none, group-none, group-open}
+use Rattle.expression.proofs.NoneLaws.{at-within, letter-within, begins-within, piece-none, row-none, choice-none}
+use Rattle.expressionread.proofs.AnswerLaws.{found, nothing, renamed, renamed-shown, ready-after, goes-on}
+use Rattle.expressionread.proofs.AnswerLaws.{row-single, row-then, row-none-past, choice-only, choice-or, choice-none-past, group-none-past, group-open-past}
 use Prim.Native.Nat.{ℕ, _<_, _+_, _-_, _*_}
 use native.Mathlib.Omega.{arith}
 use lib.ListN.{length}
@@ -182,7 +182,7 @@ read-choice-returns-2 t c =
     let call′ = next .read-choice in
     let e = c .enum-told .given in
     let v = nothing (z .letters) (z .text .now) choice (d .0 .0 .end + 1) f (call′ .last .1 .1 .1 .0) (call′ .result) (e .1) (call′ .ensures) in
-    choice-none-after (first .pre .1 .few) w (test .is-at .ensures .yes-so (next .before .before .if1 .taken)) v
+    choice-none-past (first .pre .1 .few) w (test .is-at .ensures .yes-so (next .before .before .if1 .taken)) v
 
 read-choice-same-length-3 : (t : ℕ) → read-choice-lts.Need-same-length-3 (read-choice-claims t) (read-choice-at t) read-choice.Post
 read-choice-same-length-3 t c = search needs
@@ -310,7 +310,7 @@ read-piece-returns-2 t c =
     let d = test .before .before .d .given in
     let w = found (z .letters) (z .text .now) choice (z .at + 1) (z .follow .now) f (call .result) (d .0 .0) (d .1) (call .ensures) in
     let opens = read .before .before .before .is-at .ensures .yes-so (read .before .before .if1 .taken) in
-    group-open (first .pre .1 .few) opens w (test .is-at2 .ensures .not-so (c .if2 .left))
+    group-open-past (first .pre .1 .few) opens w (test .is-at2 .ensures .not-so (c .if2 .left))
 
 read-piece-same-length-3 : (t : ℕ) → read-piece-lts.Need-same-length-3 (read-piece-claims t) (read-piece-at t) read-piece.Post
 read-piece-same-length-3 t c = search needs
@@ -323,7 +323,7 @@ read-piece-returns-3 t c =
     let call = read .read-choice in
     let v = nothing (z .letters) (z .text .now) choice (z .at + 1) (z .follow .now) (call .last .1 .1 .1 .0) (call .result) (c .enum-told .given .1) (call .ensures) in
     let opens = read .before .before .before .is-at .ensures .yes-so (read .before .before .if1 .taken) in
-    group-none (z .at) opens v
+    group-none-past (z .at) opens v
 
 read-piece-same-length-4 : (t : ℕ) → read-piece-lts.Need-same-length-4 (read-piece-claims t) (read-piece-at t) read-piece.Post
 read-piece-same-length-4 t c =
@@ -422,7 +422,7 @@ read-row-returns-2 t c =
     let call′ = next .read-row in
     let e = c .enum-told .given in
     let v = nothing (z .letters) (z .text .now) row (d .0 .0 .end) f (call′ .last .1 .1 .1 .0) (call′ .result) (e .1) (call′ .ensures) in
-    row-none-after (first .pre .1 .few) w (test .begins .ensures .yes-so (next .before .before .if1 .taken)) v
+    row-none-past (first .pre .1 .few) w (test .begins .ensures .yes-so (next .before .before .if1 .taken)) v
 
 read-row-same-length-3 : (t : ℕ) → read-row-lts.Need-same-length-3 (read-row-claims t) (read-row-at t) read-row.Post
 read-row-same-length-3 t c = search needs

@@ -1,7 +1,7 @@
 -- `expressionparts::chars::char_at` meets its contract: past the end the text has 0.
 -- Assumes nothing.
 use mathlib.Core.Path.{sym}
-use Rattle.expressionparts.proofs.ReadingLaws.{getD-past}
+use Rattle.expression.proofs.GrammarLaws.{getD-past}
 use borrow.Author.Needs.{needs}
 use Rattle.expressionparts.proofs.chars.char_at.Statement.{statement}
 use Rattle.expressionparts.proofs.chars.char_at.Tie as tie

@@ -7,7 +7,7 @@ use borrow.Author.Tests.{not-true, not-false}
 use Prim.Native.Nat.{_-_}
 use lib.ListN.{length}
 use native.Mathlib.Omega.{arith}
-use Rattle.expressionparts.proofs.ReadingLaws.{char-within}
+use Rattle.expression.proofs.GrammarLaws.{char-within}
 use Rattle.expressionparts.proofs.PartLaws.{starred-none, Starring, starring-first, starring-more, starring-all}
 use Rattle.expressionparts.proofs.links.with_stars.Statement.{statement}
 use Rattle.expressionparts.proofs.links.with_stars.Tie as tie
