@@ -151,8 +151,14 @@ fn option(
         Some(value) => Some(OsStr::from_bytes(value).to_os_string()),
         None => next().filter(|next| !command.has_option(next)),
     };
-    match given {
-        Some(given) if !given.is_empty() => Ok((name, given)),
-        _ => Err(command.wrong(format!("{name} is not followed by {value}"))),
-    }
+    let wrong = match given {
+        Some(given) if !given.is_empty() => return Ok((name, given)),
+        // an empty name is told from an empty file
+        Some(_) if ["FILE", "OUTDIR"].contains(&value) => {
+            format!("{name}: the name for {value} is empty")
+        }
+        Some(_) => format!("{name}: {value} is empty"),
+        None => format!("{name} is not followed by {value}"),
+    };
+    Err(command.wrong(wrong))
 }

@@ -85,20 +85,22 @@ fn wrong_words_are_told_with_the_usage() {
             "--symbols is not followed by A",
         ),
         (
-            &["rule", &rows, "--finals", ""],
+            &["rule", &rows, "--finals", "--dot"],
             "--finals is not followed by Q,Q",
         ),
-        (
-            &["rule", &rows, "--finals="],
-            "--finals is not followed by Q,Q",
-        ),
+        (&["rule", &rows, "--finals", ""], "--finals: Q,Q is empty"),
+        (&["rule", &rows, "--finals="], "--finals: Q,Q is empty"),
         (
             &["rule", &rows, "--finals=1", "--finals=2"],
             "--finals is given twice",
         ),
         (
             &["rule", "--symbols=3", "--expression", ""],
-            "--expression is not followed by TEXT",
+            "--expression: TEXT is empty",
+        ),
+        (
+            &["rule", "--expression=", "--symbols=3"],
+            "--expression: TEXT is empty",
         ),
         (
             &["rule", "--expression", "--symbols=3"],
@@ -109,10 +111,14 @@ fn wrong_words_are_told_with_the_usage() {
             "--expression is given twice",
         ),
         (&["plan", &job, "-o"], "-o is not followed by FILE"),
-        (&["plan", &job, "-o", ""], "-o is not followed by FILE"),
+        (&["plan", &job, "-o", ""], "-o: the name for FILE is empty"),
+        (
+            &["release", &job, "-o", ""],
+            "-o: the name for OUTDIR is empty",
+        ),
         (&["release", &job, "-o"], "-o is not followed by OUTDIR"),
         (&["watch", &job, "--state"], "--state is not followed by Q"),
-        (&["watch", &job, "--state="], "--state is not followed by Q"),
+        (&["watch", &job, "--state="], "--state: Q is empty"),
         (&["watch", &job, "--entry"], "--entry is not followed by N"),
         (
             &["watch", &job, "--entry", "--state=0"],
@@ -155,7 +161,7 @@ fn wrong_words_are_told_with_the_usage() {
         ),
         (
             &["price", &job, "b", "c", "--prices="],
-            "--prices is not followed by FILE",
+            "--prices: the name for FILE is empty",
         ),
         // the next word is an option
         (
