@@ -87,6 +87,11 @@ impl<'a> Letters<'a> {
         self.places.push(place);
     }
 
+    /// How many characters there are; one of several bytes is one.
+    pub fn count(&self) -> usize {
+        self.places.chunk_by(|one, other| one == other).count()
+    }
+
     /// Where a character stands, or the end of the text, in columns of what was typed.
     pub fn place(&self, at: usize) -> Place {
         let end = self.typed.len();

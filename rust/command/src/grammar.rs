@@ -18,13 +18,13 @@ pub fn first_fault(letters: &Letters, symbols: &Size, refusal: Refusal) -> Optio
 
 /// How long an expression is, where it is too long.
 fn length(letters: &Letters) -> Option<String> {
-    let len = letters.text.len();
+    let count = letters.count();
     let counted = if letters.with_names {
         ", with a letter for each name"
     } else {
         ""
     };
-    (len > EXPRESSION_LEN).then(|| format!("{len} characters{counted}"))
+    (count > EXPRESSION_LEN).then(|| format!("{count} characters{counted}"))
 }
 
 /// A fault, and that the expression is too long besides, where it is.
@@ -128,7 +128,11 @@ impl<'a> Reader<'a> {
                     1 => "there is 1 symbol".to_string(),
                     symbols => format!("there are {symbols} symbols"),
                 };
-                format!("{}: {count}", self.letter())
+                let names = match self.is_word(at) {
+                    true => ", and names of symbols want --names",
+                    false => "",
+                };
+                format!("{due}: {count}{names}")
             }
             (Some(b'q'..=b'z'), ..) => format!("{due}: names of symbols want --names"),
             (Some(b'A'..=b'Z'), ..) => format!("{due}: letters are small"),
@@ -150,6 +154,14 @@ impl<'a> Reader<'a> {
             }
             _ => due,
         }
+    }
+
+    /// Whether the letters from the first fault on look like a word: several of them are past the symbols.
+    fn is_word(&self, at: usize) -> bool {
+        let run = self.letters.text[at..].iter();
+        let run = run.take_while(|byte| byte.is_ascii_lowercase());
+        let past = run.filter(|&letter| usize::from(letter - b'a') >= self.symbols);
+        past.count() > 1
     }
 
     /// What may come here.

@@ -101,16 +101,37 @@ fn what_was_expected_in_an_expression_is_told_with_its_column() {
             "column 7: found the end of the text",
             format!("{inside}: the parenthesis of column 4 is not closed"),
         ),
-        // letters past A
+        // letters past A, and what may stand in their place
         (
             "abcd",
             "column 4: found `d`",
-            format!("{letter}: there are 3 symbols"),
+            format!("{more}: there are 3 symbols"),
         ),
         (
             "(p)",
             "column 2: found `p`",
-            format!("{letter}: there are 3 symbols"),
+            format!("{due}: there are 3 symbols"),
+        ),
+        (
+            "(ad)",
+            "column 3: found `d`",
+            format!("{inside}: there are 3 symbols"),
+        ),
+        (
+            "d|e",
+            "column 1: found `d`",
+            format!("{due}: there are 3 symbols"),
+        ),
+        // several in a row look like a word
+        (
+            "deal",
+            "column 1: found `d`",
+            format!("{due}: there are 3 symbols, and names of symbols want --names"),
+        ),
+        (
+            "a*bank",
+            "column 5: found `n`",
+            format!("{more}: there are 3 symbols, and names of symbols want --names"),
         ),
         // other characters
         (
@@ -137,7 +158,7 @@ fn what_was_expected_in_an_expression_is_told_with_its_column() {
         is_told(text, place, &expected);
     }
     let done = expressed("b", "1", &[]);
-    let expected = "the letter a: there is 1 symbol";
+    let expected = "the letter a, or `(`: there is 1 symbol";
     assert_eq!(
         done,
         told(
@@ -170,6 +191,14 @@ fn length_is_told() {
         "column 67: found the end of the text",
         "a letter, a to c, or `(`: the parenthesis of column 66 is not closed; \
          besides, the text has 66 characters, and at most 64 are accepted",
+    );
+    // a character of two bytes is one
+    let due = "a letter, a to c, or `(`";
+    is_told(&"\u{fc}".repeat(64), "column 1: found `\u{fc}`", due);
+    is_told(
+        &"\u{fc}".repeat(65),
+        "column 1: found `\u{fc}`",
+        &format!("{due}; besides, the text has 65 characters, and at most 64 are accepted"),
     );
     // 64 characters are no fault
     let done = expressed(&format!("a{}", "*".repeat(63)), "3", &[]);
