@@ -57,6 +57,8 @@ pub struct Origin {
     below: &'static str,
     /// What is noted where it stands in no table or document.
     note: String,
+    /// What is noted beside every form.
+    beside: &'static str,
 }
 
 impl Origin {
@@ -74,7 +76,7 @@ impl Origin {
             fields: vec![("expression", Json::name(OsStr::from_bytes(typed)))],
             above: format!("expression: {}\n", shown::bytes(typed)),
             below: "State 0 is where walks begin: no event has come yet.\n",
-            note: String::new(),
+            ..Origin::default()
         }
     }
 
@@ -86,6 +88,15 @@ impl Origin {
             self.note = format!("note: the expression in letters is {shown}\n");
         }
         self.fields.push(("letters", Json::text(shown)));
+        self
+    }
+
+    /// The same with names that states have, which is noted: those of another rule would mislead.
+    pub fn with_states_of(mut self, names: &Names) -> Self {
+        if names.has_states() {
+            self.beside = "note: the names of states in the file of --names are put, by their numbers, on the states of \
+                           the expression's rule\n";
+        }
         self
     }
 
@@ -129,6 +140,7 @@ impl Origin {
             Form::Picture(picture) => picture.of(diagram::drawn(&automaton, names))?,
         };
         output::deliver(to, &bytes)?;
+        note += self.beside;
         if !automaton.alarms() {
             note += "note: no state is final (--finals), so the rule raises no alarm\n";
         }

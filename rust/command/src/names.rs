@@ -182,8 +182,7 @@ impl Names {
     }
 
     fn side(&self, kinds: &[Kind]) -> Side {
-        let is_named = |&kind: &Kind| self.named[kind as usize].iter().any(Option::is_some);
-        match kinds.iter().any(is_named) {
+        match kinds.iter().any(|&kind| self.has(kind)) {
             true => Side::Name(LEAST),
             false => Side::Right,
         }
@@ -192,6 +191,16 @@ impl Names {
     /// The name of a symbol, if it has one.
     pub fn name_of_symbol(&self, symbol: usize) -> Option<&str> {
         self.name(Kind::Symbol, symbol)
+    }
+
+    /// Whether some state has a name.
+    pub fn has_states(&self) -> bool {
+        self.has(Kind::State)
+    }
+
+    /// Whether something of a kind has a name.
+    fn has(&self, kind: Kind) -> bool {
+        self.named[kind as usize].iter().any(Option::is_some)
     }
 
     /// The names as they stand in the file: for symbols, nodes and states a list.

@@ -58,6 +58,20 @@ fn is_apart(byte: u8) -> bool {
     byte == b' ' || SIGNS.contains(&byte)
 }
 
+/// How many bytes a name takes of a text that begins with it; a run of blanks is one blank.
+fn len_in(text: &[u8], name: &str) -> Option<usize> {
+    let mut rest = text;
+    let words = name.split(' ').filter(|word| !word.is_empty());
+    for (place, word) in words.enumerate() {
+        let blanks = rest.iter().take_while(|&&byte| byte == b' ').count();
+        if (place > 0) != (blanks > 0) {
+            return None;
+        }
+        rest = rest[blanks..].strip_prefix(word.as_bytes())?;
+    }
+    Some(text.len() - rest.len())
+}
+
 impl Named<'_> {
     /// The letters of the symbols, with their numbers.
     fn alphabet(&self) -> impl Iterator<Item = (u8, usize)> {
@@ -93,12 +107,13 @@ impl Named<'_> {
                 );
                 readings.push(Reading { letter, len: 1, is });
             }
-            let Some(name) = self.names.name_of_symbol(symbol) else {
+            let name = self.names.name_of_symbol(symbol);
+            let Some((name, len)) = name.and_then(|name| Some((name, len_in(rest, name)?))) else {
                 continue;
             };
-            let (len, end) = (name.len(), at + name.len());
-            let ends = || end == typed.len() || is_apart(typed[end]) || is_apart(typed[end - 1]);
-            if rest.starts_with(name.as_bytes()) && ends() && !(is_letter && len == 1) {
+            let end = at + len;
+            let ends = end == typed.len() || is_apart(typed[end]) || is_apart(typed[end - 1]);
+            if ends && !(is_letter && len == 1) {
                 let name = shown::text(name);
                 let is = format!("`{name}`, the name of symbol {symbol} ({shown})");
                 readings.push(Reading { letter, len, is });
@@ -119,9 +134,12 @@ impl Named<'_> {
             _ => {
                 let ways: Vec<_> = readings.iter().map(|reading| reading.is.as_str()).collect();
                 let ways = ways.join(", and ");
-                let expected = format!(
-                    "what can be read in one way alone; this is {ways}: take the letter instead of the name or the name instead of the letter, or give another name"
-                );
+                let advice = match SIGNS.contains(&self.typed[at]) {
+                    true => "give another name; where the symbol is meant, its letter will do",
+                    false => "take the letter instead of the name or the name instead of the letter, or give another name",
+                };
+                let expected =
+                    format!("what can be read in one way alone; this is {ways}: {advice}");
                 ("a word of the expression can be read in two ways", expected)
             }
         };

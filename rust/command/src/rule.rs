@@ -41,12 +41,13 @@ The rows name every pair of a state, 0 to S - 1, and a symbol, 0 to A - 1, just 
 names all pairs of its states and its symbols. `Q     0     2     0     0     1` says that from each of the
 states 0 to 2 symbol 0 leads to state 1.
 An expression says after which events there is an alarm: after all that are a word of it, from the first
-event on. `ab` is a and then b, `a|b` one of them, and `a*` any number of a, none among them; a star binds
-first, then following on, then the bar, and parentheses group. `a(a|c)*c` is a, then any of a and c, then
-c. The states are found and numbered by the call: walks begin in state 0, which no event leads back to.
+event on. `ab` is a and then b, `a|b` one of them, and `a*` any number of a, also none; a star binds first,
+then following on, then the bar, and parentheses group. `a(a|c)*c` is a, then any of a and c, then c. The
+states are found and numbered by the call: walks begin in state 0, which no event leads back to.
 With --names the names of symbols may stand in place of letters, as in `seal (seal | write)* write`, with
 blanks anywhere between them; letters stand apart then. A word that can be read in two ways is refused,
-and a note, the table's first lines or the document show the letters that were passed on.
+and a note, the table's first lines or the document show the letters that were passed on. Names of states
+are put on those of the rule that comes out, and a note says so.
 An R line is the state, 1 where it is final, else 0, and the next state on each symbol. The R lines follow
 the J line of a job file, which has the same S and A.
 In the picture a final state has a double circle, and one arrow stands for all symbols that lead from one
@@ -166,6 +167,7 @@ fn of_expression(given: &Given, form: &Form, asked: &OsStr) -> Result<u8, String
     match dapohiru::expression(&letters.text, passed) {
         Ok(rule) => {
             let names = Names::of_rule(&file, rule.states as usize, rule.symbols as usize)?;
+            let origin = origin.with_states_of(&names);
             origin.deliver(given, form, &rule, &names)
         }
         Err(refusal) => {

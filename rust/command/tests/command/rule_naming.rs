@@ -8,6 +8,9 @@ use std::path::Path;
 const UNKNOWN: &str = "refused before the call: a word of the expression is no symbol";
 const TWO_WAYS: &str = "refused before the call: a word of the expression can be read in two ways";
 
+/// What is noted of names of states.
+const STATES: &str = "note: the names of states in the file of --names are put, by their numbers, on the states of the expression's rule\n";
+
 /// Makes the rule of an expression with PAIR's names, with more words.
 fn named(text: &str, words: &[&str]) -> Done {
     let names = format!("--names={}", example("pair.names"));
@@ -22,7 +25,11 @@ fn named_by(folder: &Path, names: &str, text: &str) -> Done {
 
 /// What is expected of a word that can be read in these ways.
 fn one_way(ways: &str) -> String {
-    format!("what can be read in one way alone; this is {ways}: take the letter instead of the name or the name instead of the letter, or give another name")
+    let advice = match ways.starts_with("the sign") {
+        true => "give another name; where the symbol is meant, its letter will do",
+        false => "take the letter instead of the name or the name instead of the letter, or give another name",
+    };
+    format!("what can be read in one way alone; this is {ways}: {advice}")
 }
 
 #[test]
@@ -178,6 +185,19 @@ fn what_can_be_read_in_two_ways_is_refused() {
             "columns 1 to 11: found `close again`",
             "`close`, the name of symbol 0 (a), and `close again`, the name of symbol 2 (c)",
         ),
+        // however many blanks there are, in the text and in the name
+        (
+            "0 seal\n1 seal it\n2 it\n",
+            "seal   it",
+            "columns 1 to 9: found `seal   it`",
+            "`seal`, the name of symbol 0 (a), and `seal it`, the name of symbol 1 (b)",
+        ),
+        (
+            "0 seal  it\n1 seal it\n",
+            "c seal it",
+            "columns 3 to 9: found `seal it`",
+            "`seal  it`, the name of symbol 0 (a), and `seal it`, the name of symbol 1 (b)",
+        ),
         (
             "0 seal\n1 seal*\n",
             "seal* d",
@@ -229,12 +249,16 @@ fn names_of_several_words_and_of_letters_are_read_where_that_is_one_way() {
             "ac|c*",
         ),
         ("0 seal(ed)\n", "seal(ed)(b)", "a(b)"),
+        ("0 seal  again\n", "seal again|seal    again", "a|a"),
+        // a name begins another, and goes on without a blank or a sign, or stands alone
+        ("0 seal\n1 sealed\n", "seal sealed", "ab"),
+        ("0 seal\n1 seal it\n", "seal (seal|c)", "a(a|c)"),
         // its own letter
         ("0 a\n1 z\n", "a z", "ab"),
         // letters within names
         ("0 x c\n1 ab\n", "ab x c ab", "bab"),
         // symbols without a name
-        ("state 0 start\nnode 3 a\n", "a ( b|d )", "a(b|d)"),
+        ("node 3 a\n", "a ( b|d )", "a(b|d)"),
     ] {
         let (status, _, wrong) = named_by(&folder, names, text);
         let note = format!("note: the expression in letters is {letters}\n");
@@ -254,8 +278,8 @@ fn names_of_states_are_those_of_the_rule_that_is_made() {
         "--table",
         "--names",
     ];
-    let (status, printed, _) = run(&[&words[..], &[&names]].concat(), "");
-    assert_eq!(status, 0);
+    let (status, printed, wrong) = run(&[&words[..], &[&names]].concat(), "");
+    assert_eq!((status, wrong.as_str()), (0, STATES));
     assert!(
         printed.contains("\n4 touched      yes    3              2 never again  4 touched\n"),
         "{printed}"
@@ -273,4 +297,36 @@ fn names_of_states_are_those_of_the_rule_that_is_made() {
         "dapohiru: {names}: line 1: the symbols of the rule are 0 to 2, and the line names 3\n"
     );
     assert_eq!(done, (2, String::new(), wrong));
+}
+
+#[test]
+fn names_of_states_are_noted_beside_every_form() {
+    let full = format!("--names={}", example("pair-full.names"));
+    let text = "seal (seal | write)* write";
+    let letters = "note: the expression in letters is a(a|c)*c\n";
+    for (form, note) in [
+        (&[][..], letters),
+        (&["--table"], ""),
+        (&["--json"], ""),
+        (&["--dot"], letters),
+    ] {
+        let (status, printed, wrong) = expressed(text, "3", &[&[full.as_str()], form].concat());
+        assert_eq!((status, wrong), (0, format!("{note}{STATES}")), "{form:?}");
+        // on standard output there is no note
+        assert!(!printed.contains("note"), "{printed}");
+        // without names of states nothing is noted of them
+        let (_, lines, wrong) = named(text, form);
+        assert_eq!(wrong, note);
+        assert_eq!(printed == lines, form.is_empty());
+    }
+    let rows = [
+        "rule",
+        &example("pair.rows"),
+        "--states=3",
+        "--symbols=3",
+        "--finals=2",
+        "--table",
+        &full,
+    ];
+    assert_eq!(run(&rows, "").2, "");
 }
