@@ -7,4 +7,5 @@ mod lengths;
 mod refusals;
 mod short;
 mod slips;
+mod stack;
 mod trials;
