@@ -9,3 +9,4 @@ mod short;
 mod slips;
 mod stack;
 mod trials;
+mod wide;
