@@ -18,5 +18,6 @@ pub mod rulecall;
 pub mod ruling;
 pub mod seen;
 pub mod serving;
+pub mod stack;
 pub mod step;
 pub mod wrapper;

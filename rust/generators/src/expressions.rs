@@ -49,13 +49,53 @@ fn stars(random: &mut Random, text: &mut Vec<u8>) {
     text.extend(vec![b'*'; count]);
 }
 
+/// A piece that comes many times, all of them in a row or in a choice, and another at the end: starred letters and
+/// groups, and choices of the same letter up to thirteen times, so that many letters make few states.
+fn wide(random: &mut Random, symbols: u64) -> Vec<u8> {
+    let [same, other] = [(); 2].map(|()| letter(random, symbols));
+    let piece = match random.below(6) {
+        0 => vec![same, b'*'],
+        1 => vec![b'(', same, b'|', other, b')', b'*'],
+        2 => vec![same, b'|'],
+        _ => {
+            let count = random.pick(&[2, 3, 7, 13]);
+            [&vec![same; count][..], b"|"].concat()
+        }
+    };
+    let last = match random.below(4) {
+        0 => vec![other],
+        1 => vec![other, b'*'],
+        2 => vec![same, other],
+        _ => vec![same; 13],
+    };
+    let room = (LONGEST - 3 - last.len()) / piece.len();
+    let any = 1 + random.place(room);
+    let count = random.pick(&[any, room]);
+    let mut text = piece.repeat(count);
+    if piece[0] == same && random.once_in(2) {
+        // a letter of its own in each piece
+        for place in (0..text.len()).step_by(piece.len()) {
+            text[place] = letter(random, symbols);
+        }
+    }
+    text.extend(last);
+    match random.once_in(3) {
+        true => [b"(", &text[..], b")*"].concat(),
+        false => text,
+    }
+}
+
 /// A sound text of at most 64 characters for so many symbols. Most have few states.
 pub fn sound(random: &mut Random, symbols: u64) -> Vec<u8> {
     let most = random.pick(&[2, 4, 6, 9, 14, 30]);
     loop {
-        let letters = random.between(1, most) as usize;
         let mut text = Vec::new();
-        spell(random, symbols, letters, &mut text);
+        if random.once_in(6) {
+            text = wide(random, symbols);
+        } else {
+            let letters = random.between(1, most) as usize;
+            spell(random, symbols, letters, &mut text);
+        }
         stars(random, &mut text);
         if random.once_in(8) {
             deepen(random, &mut text);
@@ -100,8 +140,9 @@ pub fn many_states(random: &mut Random, symbols: u64) -> Vec<u8> {
 
 /// An A outside its limits; among them numbers that are taken for right ones where high bits are lost.
 pub fn wrong_symbols(random: &mut Random, symbols: u64) -> u64 {
+    let any = symbols + (1 << random.between(4, 63));
     let high = symbols + (1 << random.pick(&[8, 16, 32, 63]));
-    random.pick(&[0, 17, 17, 255, high, high, high, u64::MAX])
+    random.pick(&[0, 17, 17, 255, any, any, high, high, u64::MAX])
 }
 
 /// A text like this one that is outside the grammar, too long, or has a letter past A.
@@ -211,7 +252,7 @@ pub fn misread(random: &mut Random, sound: &[u8]) -> Vec<u8> {
         0 => text[place] ^= 0x80,
         1 => text[place] ^= 0x20,
         2 => text.insert(after, random.pick(b" .\t\0\n")),
-        3 => text.push(random.pick(b"\n\0 ")),
+        3 => text.push(random.pick(b"\n\r\0 ")),
         4 if text[last] == b')' => drop(text.pop()),
         _ => {
             let bars: Vec<_> = (0..text.len()).filter(|&p| text[p] == b'|').collect();

@@ -1,6 +1,7 @@
 //! Microseconds to make a rule from an expression: the library's call beside a plain Rust program that makes the same
-//! tests on the same bytes. The texts are what officers write, the longest ones of each kind, and the worst that is found:
-//! the slowest of these is changed by a character or two at a time, to what the library takes longer for.
+//! tests on the same bytes. The texts are what officers write, the longest ones of each kind, and one that is searched for:
+//! the slowest of these is changed by a character or two at a time, to what the library takes longer for. The last line is
+//! the worst of all.
 //! `cargo bench --offline -p dapohiru-plain --bench expression` runs it.
 use dapohiru::numbers::{self, ACCEPTED};
 use dapohiru_generators::expressions::{self, SEALED};
@@ -42,27 +43,53 @@ fn median(mut times: Vec<f64>) -> f64 {
     times[times.len() / 2]
 }
 
-/// Times both programs on a text in turn, and prints the medians and their ratio.
-fn print(what: &str, text: &[u8], symbols: u64) {
-    let (mut ours, mut theirs) = ([7; 256], [7; 256]);
-    let answer = by_library(text, symbols, &mut ours);
-    assert_eq!(expression(text, symbols, &mut theirs), answer);
-    assert_eq!(ours, theirs, "the two rules differ");
-    let (mut library, mut plain) = (Vec::new(), Vec::new());
-    for _ in 0..REPETITIONS {
-        library.push(time(text, symbols, CALLS, by_library));
-        plain.push(time(text, symbols, CALLS, expression));
+/// A text with its A, and the microseconds that the two programs take for it.
+struct Line {
+    what: &'static str,
+    text: Vec<u8>,
+    symbols: u64,
+    answer: Result<(u64, u64), u64>,
+    library: f64,
+    plain: f64,
+}
+
+impl Line {
+    /// Times both programs on a text in turn, takes the medians, and prints them with their ratio.
+    fn timed(what: &'static str, text: &[u8], symbols: u64) -> Self {
+        let (mut ours, mut theirs) = ([7; 256], [7; 256]);
+        let answer = by_library(text, symbols, &mut ours);
+        assert_eq!(expression(text, symbols, &mut theirs), answer);
+        assert_eq!(ours, theirs, "the two rules differ");
+        let (mut library, mut plain) = (Vec::new(), Vec::new());
+        for _ in 0..REPETITIONS {
+            library.push(time(text, symbols, CALLS, by_library));
+            plain.push(time(text, symbols, CALLS, expression));
+        }
+        let line = Line {
+            what,
+            text: text.to_vec(),
+            symbols,
+            answer,
+            library: median(library),
+            plain: median(plain),
+        };
+        line.print(what);
+        line
     }
-    let (library, plain) = (median(library), median(plain));
-    let answer = match answer {
-        Ok((states, _)) => format!("{states} states"),
-        Err(number) => format!("refused {number}"),
-    };
-    println!(
-        "  {:<46} {library:>7.2}   {plain:>10.2}   {:>5.2}",
-        format!("{what}, {answer}"),
-        library / plain
-    );
+
+    fn print(&self, what: &str) {
+        let answer = match self.answer {
+            Ok((states, _)) => format!("{states} states"),
+            Err(number) => format!("refused {number}"),
+        };
+        println!(
+            "  {:<46} {:>7.2}   {:>10.2}   {:>5.2}",
+            format!("{what}, {answer}"),
+            self.library,
+            self.plain,
+            self.library / self.plain
+        );
+    }
 }
 
 /// The least of some times that the library takes for a text of sixteen symbols.
@@ -71,16 +98,10 @@ fn least(text: &[u8]) -> f64 {
     times.fold(f64::MAX, f64::min)
 }
 
-/// A text for which the library takes long: from the slowest of these on, any text of 64 characters that a change makes
-/// slower goes on to be changed.
-fn worst(random: &mut Random, of: &[&[u8]]) -> Vec<u8> {
-    let (mut worst, mut longest) = (Vec::new(), 0.0);
-    for text in of {
-        let taken = least(text);
-        if taken > longest {
-            (worst, longest) = (text.to_vec(), taken);
-        }
-    }
+/// A text for which the library takes long: from this one on, any text of 64 characters that a change makes slower goes
+/// on to be changed.
+fn searched(random: &mut Random, from: &[u8]) -> Vec<u8> {
+    let (mut worst, mut longest) = (from.to_vec(), least(from));
     for change in 0..CHANGES {
         // now and then another text altogether
         let mut text = match change % 16 {
@@ -89,7 +110,7 @@ fn worst(random: &mut Random, of: &[&[u8]]) -> Vec<u8> {
         };
         for _ in 0..1 + random.place(2) {
             let place = random.place(text.len());
-            text[place] = random.pick(b"aaabcdp***||()");
+            text[place] = random.pick(b"abcdefghijklmnop*******||()");
         }
         text.resize(64, b'*');
         let taken = least(&text);
@@ -104,6 +125,12 @@ fn worst(random: &mut Random, of: &[&[u8]]) -> Vec<u8> {
     worst
 }
 
+/// The line that the library takes longest for.
+fn worst(lines: &[Line]) -> &Line {
+    let longest = |one: &&Line, other: &&Line| one.library.total_cmp(&other.library);
+    lines.iter().max_by(longest).expect("there are lines")
+}
+
 fn main() {
     let mut random = Random::of_this_run();
     println!("microseconds for one text, median of {REPETITIONS} repetitions of {CALLS} calls");
@@ -114,28 +141,34 @@ fn main() {
     let choice = [&b"("[..], &b"a|".repeat(30), b"a)*"].concat();
     // every letter can follow every other, and begin and end a word
     let round = [&[b'('; 9][..], &b"a*b*)*".repeat(9)].concat();
+    let any_order = [&b"(a*b*c*d*e*f*g*h*i*j*k*l*m*n*)*".repeat(2)[..], b"a*"].concat();
     let refused = [&[b'a'; 63][..], b"("].concat();
-    print("sealed, not reopened, written", SEALED, 3);
-    print("the same with sixteen symbols", SEALED, 16);
-    print("one letter", b"a", 1);
-    print("a letter with 63 stars", &starred, 16);
-    print("a letter in 31 parentheses", &deep, 16);
-    print("fourteen letters in a row", &[b'a'; 14], 16);
-    print("fourteen letters in any order", every, 16);
-    print("a letter 31 times in a choice", &choice, 16);
-    print("64 letters in a row", &[b'a'; 64], 16);
-    print("64 characters, the last refused", &refused, 16);
-    print("stars of stars", &round, 16);
-    let known = [
-        &[b'a'; 64][..],
-        &refused,
-        &starred,
-        &deep,
-        &choice,
-        every,
-        &round,
+    let known: [(_, &[u8], _); 12] = [
+        ("sealed, not reopened, written", SEALED, 3),
+        ("the same with sixteen symbols", SEALED, 16),
+        ("one letter", b"a", 1),
+        ("a letter with 63 stars", &starred, 16),
+        ("a letter in 31 parentheses", &deep, 16),
+        ("fourteen letters in a row", &[b'a'; 14], 16),
+        ("fourteen letters in any order", every, 16),
+        ("the same twice, of starred letters", &any_order, 16),
+        ("a letter 31 times in a choice", &choice, 16),
+        ("64 letters in a row", &[b'a'; 64], 16),
+        ("64 characters, the last refused", &refused, 16),
+        ("stars of stars", &round, 16),
     ];
-    let worst = worst(&mut random, &known);
-    print("the worst text found", &worst, 16);
-    println!("  which is {}", worst.escape_ascii());
+    let mut lines: Vec<_> = known
+        .into_iter()
+        .map(|(what, text, symbols)| Line::timed(what, text, symbols))
+        .collect();
+    let found = searched(&mut random, &worst(&lines).text);
+    lines.push(Line::timed("a text that is searched for", &found, 16));
+    let worst = worst(&lines);
+    worst.print("the worst text");
+    println!(
+        "  which is {} for {} symbols ({})",
+        worst.text.escape_ascii(),
+        worst.symbols,
+        worst.what
+    );
 }

@@ -7,4 +7,6 @@ mod lengths;
 mod refusals;
 mod short;
 mod slips;
+mod stack;
 mod trials;
+mod wide;
