@@ -1,4 +1,5 @@
 // The running monitor: its record, and what an event call reports and leaves.
+#![tactic(auto)]
 
 // What an event call reports.
 #[derive(Drop)]

@@ -1,4 +1,6 @@
 // Reading a field: six columns with a decimal number, right-justified: spaces, then zeros, then its digits.
+#![tactic(auto)]
+
 ghost use Rattle.std.specs.Prelude.{◌≡◌, ◌+◌, ◌%◌, ◌<◌, ◌≤◌, length, take, drop};
 ghost use Rattle.std.proofs.Math.Seq.{slice};
 ghost use Rattle.lines.specs.Line.{digits_of, field_of};

@@ -1,5 +1,7 @@
 // Numbers in lent bytes, lowest byte first. A number is put together from its halves and there is no loop, so that the compiler makes
 // one load of all its bytes.
+#![tactic(auto)]
+
 ghost use Rattle.std.specs.Prelude.{◌≡◌, ◌+◌, ◌<◌, ◌≤◌, length};
 ghost use Rattle.laws.specs.Bytes.{number_at};
 

@@ -1,4 +1,6 @@
 // The alarm total after one more, and a refusal that leaves the record.
+#![tactic(auto)]
+
 ghost use Rattle.std.specs.Prelude.{◌≡◌};
 ghost use Rattle.events.specs.Monitor.{raised, refused_with};
 

@@ -1,4 +1,6 @@
 // Sets of numbers below 16 as numbers of 16 bits, built, joined and tested by shifts and masks: bit i stands for i.
+#![tactic(auto)]
+
 ghost use Rattle.std.specs.Prelude.{◌≡◌, ◌-◌, ◌<◌};
 ghost use Rattle.std.specs.Int.Bits.{bit_and};
 ghost use Rattle.std.specs.Int.Count.{count_trailing_zeros};

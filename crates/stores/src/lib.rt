@@ -1,5 +1,7 @@
 // Numbers written to lent bytes, lowest byte first. A number is written in halves and there is no loop, so that the compiler makes one
 // store of all its bytes.
+#![tactic(auto)]
+
 ghost use Rattle.std.specs.Prelude.{◌≡◌, ◌+◌, ◌≤◌, length};
 ghost use Rattle.laws.specs.Bytes.{put_number};
 

@@ -6,15 +6,8 @@ use lib.Dec.{eqb}
 use lib.Bits.{and_mask}
 use Rattle.laws.specs.Bits.{has}
 use borrow.Author.Rules.{rules}
-use Rattle.automaton.proofs.rule.is_final.Statement.{statement}
-use Rattle.automaton.proofs.rule.is_final.Tie as tie
+use Rattle.automaton.proofs.rule.is_final.Goals as goal
 
-shr_result : tie.Need-overflow-shr-result
-shr_result c = search rules
-
-returns : tie.Need-returns
+pub returns : goal.returns
 unfolding has
 returns c = ap (λ (n : ℕ). eqb n 1) (and_mask (c.args.finals / 2 ^ c.args.state) 1)
-
-pub is_final_spec : {M : Type 1} → statement M
-is_final_spec = tie.close (tie.spec shr_result returns)
