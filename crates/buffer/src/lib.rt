@@ -1,4 +1,5 @@
 // The work buffer: the bytes that a call may use, and where each of its parts begins, as the part before it and that part's size.
+#![tactic(auto)]
 
 // The nodes: eight bytes each.
 pub const NODES: usize = 0;

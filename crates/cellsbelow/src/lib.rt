@@ -1,4 +1,6 @@
 // Whether the cells of a table that a rule uses are states of it.
+#![tactic(auto)]
+
 ghost use Rattle.std.specs.Prelude.{◌≡◌, ◌≤◌};
 ghost use Rattle.automaton.specs.Automaton.{cells_below};
 

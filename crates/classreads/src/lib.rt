@@ -1,4 +1,6 @@
 // The classes past a point, as the class rows hold them: the lowest states, and their count.
+#![tactic(auto)]
+
 ghost use Rattle.std.specs.Prelude.{◌≡◌, cond, ◌<◌, ◌≤◌};
 ghost use Rattle.laws.specs.Bounded.{sum_below};
 ghost use Rattle.buffer.specs.Layout.{Lent};

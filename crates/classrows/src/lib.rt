@@ -1,4 +1,6 @@
 // The class rows of the work buffer: the states told apart past each node.
+#![tactic(auto)]
+
 ghost use Rattle.std.specs.Prelude.{◌≡◌, ◌<◌};
 ghost use Rattle.laws.specs.Bounded.{tab};
 ghost use Rattle.buffer.specs.Layout.{Lent};

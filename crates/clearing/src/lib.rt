@@ -1,4 +1,6 @@
 // Clearing the work buffer, and the parts of it that the searches use.
+#![tactic(auto)]
+
 ghost use Rattle.std.specs.Prelude.{◌≡◌, ◌≤◌, length};
 ghost use Rattle.buffer.specs.Layout.{pair_part, class_part, found_part, marks_part, marks_end, Lent};
 ghost use Rattle.buffer.specs.Buffer.{cleared};

@@ -1,4 +1,6 @@
 // The line that is due, read into lent numbers.
+#![tactic(auto)]
+
 ghost use Rattle.std.specs.Prelude.{◌+◌, ◌*◌, ◌≤◌, length, drop};
 ghost use Rattle.lines.specs.Inner.{DueRead};
 ghost use Rattle.lines.specs.Line.{found_in, fields_of, line_of};

@@ -56,6 +56,7 @@ last_between (sides s t) (last_right f) = between_back s (last_between t f)
 last_between (under s) (last_star f) = last_between s f
 
 pub follow_from : {i j : ℕ} {e : Expr} {p q : ℕ} → Spread i j e → Follow e p q → Between i j p
+follow_from {q = q} (at {i = i} {j = j} {p = p} _ _) x = elim x [ ]
 follow_from (parts s t) (in_front f) = between_front t (follow_from s f)
 follow_from (parts s t) (in_back f) = between_back s (follow_from t f)
 follow_from (parts s t) (across l f) = between_front t (last_between s l)
@@ -65,6 +66,7 @@ follow_from (under s) (inside f) = follow_from s f
 follow_from (under s) (anew l f) = last_between s l
 
 pub follow_to : {i j : ℕ} {e : Expr} {p q : ℕ} → Spread i j e → Follow e p q → Between i j q
+follow_to {q = q} (at {i = i} {j = j} {p = p} _ _) x = elim x [ ]
 follow_to (parts s t) (in_front f) = between_front t (follow_to s f)
 follow_to (parts s t) (in_back f) = between_back s (follow_to t f)
 follow_to (parts s t) (across l f) = between_back s (first_between t f)
@@ -166,7 +168,8 @@ split_star s h (step {q = q} (anew g f) c) l =
 -- a chain from a first position to a last one is a word
 pub chain_word
     : {i j : ℕ} {e : Expr} {p q : ℕ} {u : List ℕ} → Spread i j e → First e p → Chain (Follow e) p u q → Last e q → Word position e (p ∷ u)
-chain_word (at l h) first_here here last_here = one
+chain_word (at l h) first_here here m = one
+chain_word (at l h) first_here (step f c) m = elim f [ ]
 chain_word (parts s t) (first_front f) c l =
     let r = split_front s t (λ x y v. chain_word t) (first_between s f) c l in
     rw r.whole (joined (chain_word s f r.chain r.ends) r.word)

@@ -1,4 +1,6 @@
 // A line's frame: its letter, its length and its end.
+#![tactic(auto)]
+
 ghost use Rattle.std.specs.Prelude.{◌+◌, ◌≤◌, length, drop};
 ghost use Rattle.lines.specs.Inner.{Framed};
 

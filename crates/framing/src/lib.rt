@@ -1,4 +1,6 @@
 // Where a line stands: its letter, its length and its end byte.
+#![tactic(auto)]
+
 ghost use Rattle.std.specs.Prelude.{◌≡◌, ◌+◌, ◌≤◌, length, take, drop};
 ghost use Rattle.framing.specs.Framing.{collected};
 

@@ -1,4 +1,6 @@
 // States and sets of states under the rule: unlike states, next states, images and preimages.
+#![tactic(auto)]
+
 ghost use Rattle.std.specs.Prelude.{◌≡◌, ◌<◌, ◌≤◌};
 ghost use Rattle.automaton.specs.Automaton.{cell};
 ghost use Rattle.tables.specs.Rows.{CellsBelow, unlike_states, image_of, preimage_of};

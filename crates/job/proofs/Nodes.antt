@@ -48,13 +48,13 @@ past_map f (past_event {p = p} {q = q} e h) = past_event e (f p q h)
 
 -- what holds of some pairs holds of those that words lead to from them
 pub spelt_map
-    : {m : Automaton} {set p q : ℕ} {P Q : ℕ → ℕ → Type 0} → ((k l : ℕ) → P k l → Q k l) → Spelt m set P p q → Spelt m set Q p q
+    : {m : Automaton} {set : ℕ} {P Q : ℕ → ℕ → Type 0} {p q : ℕ} → ((k l : ℕ) → P k l → Q k l) → Spelt m set P p q → Spelt m set Q p q
 spelt_map f (no_word {p = p} {q = q} h) = no_word (f p q h)
 spelt_map f (one_more a m h) = one_more a m (spelt_map f h)
 
 -- what tells apart after a word for one reason does so for another
 pub word_map
-    : {m : Automaton} {set p q : ℕ} {More Other : ℕ → ℕ → Type 0} → ((k l : ℕ) → More k l → Other k l)
+    : {m : Automaton} {set : ℕ} {More Other : ℕ → ℕ → Type 0} {p q : ℕ} → ((k l : ℕ) → More k l → Other k l)
     → WordApart m set More p q → WordApart m set Other p q
 word_map f (apart_here a m d) = apart_here a m d
 word_map f (apart_later a m h) = apart_later a m (word_map f h)
@@ -292,7 +292,7 @@ module _ {j : Job} {v w : Enabling} where
 
   -- what tells them apart in the word after an exit, or where it ends
   pub word_apart
-      : {n p q : ℕ} {More : ℕ → ℕ → Type 0} → ((k l : ℕ) → More k l → ApartAt j v w (ended n) k l) → (node_at j n).exit ≡ true
+      : {n : ℕ} {More : ℕ → ℕ → Type 0} {p q : ℕ} → ((k l : ℕ) → More k l → ApartAt j v w (ended n) k l) → (node_at j n).exit ≡ true
       → WordApart j.rule (node_at j n).after More p q → ApartAt j v w (ended n) p q
   word_apart more e (apart_here a m d) = apart_now (told_splits (after_word e m) d)
   word_apart more e (apart_later a m h) = apart_told (after_word e m) (word_apart more e h)

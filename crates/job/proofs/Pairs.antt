@@ -151,7 +151,7 @@ differ_says xs ys l = (
 pub length_alarms : (m : Automaton) (w : Enabling) (q : ℕ) (es : List Event) → length (alarms m w q es) ≡ length es
 unfolding alarms
 length_alarms m w q [] = refl
-length_alarms m w q (e ∷ es) = ap suc (length_alarms m w _ es)
+length_alarms m w q (e ∷ es) = ap suc (length_alarms m w (state_at m w q e) es)
 
 -- ---- pairs that are told apart
 

@@ -105,7 +105,7 @@ module _ (j : Job) (spell : Spellable j) where
         head_lines = head_good j.rule.states j.rule.symbols (length j.nodes) (length j.edges) head_fits;
         rule_lines_lem = rules_fine;
         rule_count = rules_count j.rule.finals 0 j.rule.table ∙ spell.rows;
-        node_lines = nodes_fine;
+        node_lines_lem = nodes_fine;
         node_count = nodes_count 0 j.nodes;
         edge_lines = edges_fine;
         edge_count = length-map j.edges edge_numbers;

@@ -1,1 +1,2 @@
 // Definitions and laws that every layer cites. There is no code here.
+#![tactic(auto)]

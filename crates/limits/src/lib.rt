@@ -1,4 +1,6 @@
 // The limits of a rule's numbers, for rules that are made: S, A and the final set.
+#![tactic(auto)]
+
 ghost use Rattle.std.specs.Prelude.{◌≡◌};
 ghost use Rattle.automaton.specs.Automaton.{numbers_fit};
 

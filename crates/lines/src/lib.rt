@@ -1,3 +1,5 @@
 // Lines of a file: one letter, then fields of six columns, then byte 10.
+#![tactic(auto)]
+
 pub mod field;
 pub mod line;

@@ -1,4 +1,6 @@
 // The marks of the rows of pairs that may have grown.
+#![tactic(auto)]
+
 ghost use Rattle.std.specs.Prelude.{◌<◌, ◌≤◌};
 ghost use Rattle.buffer.specs.Layout.{Lent};
 ghost use Rattle.tables.specs.Tables.{NextMarked, MarksTaken};

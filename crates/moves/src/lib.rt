@@ -1,4 +1,6 @@
 // The moves of one row of pairs, on values: a state of the full monitor and a set of states of the residual one.
+#![tactic(auto)]
+
 ghost use Rattle.std.specs.Prelude.{◌≡◌, ◌<◌};
 ghost use Rattle.tables.specs.Rows.{CellsBelow};
 ghost use Rattle.moves.specs.Past.{past_row};

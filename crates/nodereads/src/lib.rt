@@ -1,4 +1,6 @@
 // Nodes as the work buffer holds them: what each reports, its words and its sets.
+#![tactic(auto)]
+
 ghost use Rattle.std.specs.Prelude.{◌≡◌, cond, ℕ, ◌+◌, ◌*◌, ◌%◌, ◌≤◌, ◌<◌, get_or};
 ghost use Rattle.laws.specs.Bounded.{any_below};
 ghost use Rattle.job.specs.Job.{point, point_of, call_set, is_event, is_reentrant, is_entry};

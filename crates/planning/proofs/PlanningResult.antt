@@ -35,7 +35,7 @@ tried_unique (disabled w) (needed v g) = refl
 tried_unique (disabled w) (disabled v) = refl
 
 -- a pass leaves one plan
-pub passed_unique : {j : Job} {n : ℕ} {plan r s : List ℕ} → Passed j plan n r → Passed j plan n s → r ≡ s
+pub passed_unique : {j : Job} {plan : List ℕ} {n : ℕ} {r s : List ℕ} → Passed j plan n r → Passed j plan n s → r ≡ s
 passed_unique none none = refl
 passed_unique (next_node p t) (next_node q u) = tried_unique t (rw (← passed_unique p q) at u)
 

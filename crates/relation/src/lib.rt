@@ -1,4 +1,6 @@
 // A relation on states by value: sixteen rows, a set of states for each state. Sets and other relations are joined into it.
+#![tactic(auto)]
+
 ghost use Rattle.std.specs.Prelude.{◌<◌};
 ghost use Rattle.tables.specs.Sixteen.{InRows, Sixteen, RowJoined};
 ghost use Rattle.relation.specs.Union.{Union};

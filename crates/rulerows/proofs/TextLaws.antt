@@ -24,7 +24,7 @@ pub data RowFault (s a : ℕ) (text : List ℕ) : Type 0 where
   none_there
       : (i : ℕ) → i * line_length 5 < length text → ((ns : List ℕ) → LineAt 81 5 (drop (i * line_length 5) text) ns → ⊥)
       → RowFault s a text
-  not_Within
+  not_within
       : (i : ℕ) (ns : List ℕ) → LineAt 81 5 (drop (i * line_length 5) text) ns → (RowWithin s a (row_of ns) → ⊥) → RowFault s a text
 
 -- the rows in what is read, and whether there are any
@@ -92,7 +92,7 @@ module _ (s a : ℕ) (text : List ℕ) where
     no_fault : RowFault s a text → ⊥
     no_fault (none_there i l none) =
         none (get_or t.lines i []) (stand_at (row_line s a) t.lines text [] i t.stand.stand (omega (arith, text_length, lines_count)))
-    no_fault (not_Within i ns l bad) =
+    no_fault (not_within i ns l bad) =
         let room = line_long l in
         let here : i < length rs = omega (arith, room, length-drop (i * 32) text, text_length) in
         let there = stand_at (row_line s a) t.lines text [] i t.stand.stand (omega (arith, here, lines_count)) in
@@ -115,7 +115,7 @@ module _ (s a : ℕ) (text : List ℕ) where
   bad_row i place r before (b ∷ due) is long few (malformed some none) =
       none_there i (omega arith) (λ ns l. none ns (subst (λ (x : List ℕ). LineAt 81 5 x ns) is l))
   bad_row i place r before due is long few (outside {ns} l bad) =
-      not_Within i ns (subst (λ (x : List ℕ). LineAt 81 5 x ns) (sym is) l)
+      not_within i ns (subst (λ (x : List ℕ). LineAt 81 5 x ns) (sym is) l)
       (λ w. true≢false (sym ((row_within s a place before ns).1 w) ∙ bad))
 
   -- past the last line

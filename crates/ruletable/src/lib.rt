@@ -1,4 +1,6 @@
 // The rule's table from bytes in row order.
+#![tactic(auto)]
+
 ghost use Rattle.std.specs.Prelude.{◌≡◌, ◌+◌, ◌≤◌, length};
 ghost use Rattle.automaton.specs.Table.{row_of, table_of};
 

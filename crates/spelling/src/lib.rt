@@ -1,4 +1,6 @@
 // Words over a set, forwards: the pairs of states that they lead to, on sixteen rows by value.
+#![tactic(auto)]
+
 ghost use Rattle.std.specs.Prelude.{◌<◌};
 ghost use Rattle.tables.specs.Rows.{CellsBelow};
 ghost use Rattle.tables.specs.Sixteen.{Sixteen};

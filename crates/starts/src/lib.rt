@@ -1,4 +1,6 @@
 // The starts of a search in the rows of pairs.
+#![tactic(auto)]
+
 ghost use Rattle.std.specs.Prelude.{◌≤◌, ◌<◌};
 ghost use Rattle.buffer.specs.Layout.{Lent};
 ghost use Rattle.starts.specs.Started.{StartedNode, Started};

@@ -1,4 +1,6 @@
 // Sixteen rows of pairs joined at a node, and at the successors of a node.
+#![tactic(auto)]
+
 ghost use Rattle.std.specs.Prelude.{◌<◌};
 ghost use Rattle.buffer.specs.Layout.{Lent};
 ghost use Rattle.tables.specs.Held.{EdgesWithin};

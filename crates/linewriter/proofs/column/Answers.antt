@@ -1,0 +1,11 @@
+-- `linewriter::column` meets its contract: the test is that of `column_of`.
+-- Assumes nothing.
+use borrow.Author.Rules.{rules}
+use borrow.Author.Tests.{eq-eqb, ne_eqb}
+use Rattle.linewriter.proofs.column.Goals as goal
+
+pub returns-then-n-eq0 : goal.returns-then-n-eq0
+returns-then-n-eq0 c = rw (eq-eqb c.args.n 0 c.if-n-eq0.true)
+
+pub returns : goal.returns
+returns c = rw (ne_eqb c.args.n 0 c.if-n-eq0.false) c.digit.ensures

@@ -1,0 +1,15 @@
+-- `linewriter::write_fields` meets its contract.
+-- Invariant: the first k fields are stored, and storing the others leaves what storing all leaves. Measure: the fields that are due.
+-- Assumes nothing.
+use Prim.Native.Nat.{◌-◌}
+use native.Mathlib.Omega.{arith}
+use lib.ListN.{length}
+use borrow.Author.Rules.{rules}
+use Rattle.linewriter.proofs.WriteLaws.{Stored, each_fits, stored_start, stored_more, stored_end}
+use Rattle.linewriter.proofs.write_fields.Given as goal
+
+abbrev pub invariant-loop-k : goal.invariant-loop-k
+invariant-loop-k l = Stored l.initial.out l.out l.at l.numbers l.k
+
+abbrev pub decreases-loop-k : goal.decreases-loop-k
+decreases-loop-k l = length l.numbers - l.k

@@ -1,0 +1,20 @@
+-- `ruletable::table_of` meets its contract.
+-- Invariant: the rows before q are those of the bytes. Measure: the rows still to be filled.
+-- Assumes nothing.
+use Prim.Native.Nat.{ℕ, ◌*◌, ◌-◌, ◌≤◌, ◌<◌}
+use mathlib.Core.Path.{◌≡◌, refl, ◌∙◌}
+use mathlib.Core.List.{[]}
+use native.Mathlib.Nat.{not-suc-le-zero}
+use native.Mathlib.Omega.{arith}
+use borrow.Author.Rules.{rules}
+use lib.ListN.{length, get_or, length-set}
+use Rattle.laws.proofs.Bounded.{fill_more, fill_done}
+use Rattle.automaton.specs.Table.{row_of, table_of}
+use Rattle.ruletable.proofs.table_of.Given as goal
+
+abbrev pub invariant-loop-q : goal.invariant-loop-q
+invariant-loop-q l =
+    (length l.table ≡ 16) × (l.q ≤ 16) × ((k : ℕ) → k < l.q → get_or l.table k [] ≡ row_of l.bytes (k * 16))
+
+abbrev pub decreases-loop-q : goal.decreases-loop-q
+decreases-loop-q l = 16 - l.q
