@@ -1,4 +1,6 @@
 // The states told apart by words over a set: on sixteen rows by value, and by the after words of the exits in the class rows.
+#![tactic(auto)]
+
 ghost use Rattle.std.specs.Prelude.{◌≡◌, ◌<◌, ◌≤◌, length};
 ghost use Rattle.buffer.specs.Layout.{Lent};
 ghost use Rattle.tables.specs.Rows.{CellsBelow};

@@ -1,4 +1,6 @@
 // One F line.
+#![tactic(auto)]
+
 ghost use Rattle.std.specs.Prelude.{◌≡◌, ◌≤◌, length, drop};
 ghost use Rattle.jobfile.specs.File.{good_edge};
 ghost use Rattle.jobhead.specs.ReadLines.{before_of, EdgeRead};

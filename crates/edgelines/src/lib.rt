@@ -1,4 +1,6 @@
 // The F lines, and the edges by source in the work buffer.
+#![tactic(auto)]
+
 ghost use Rattle.std.specs.Prelude.{◌≤◌, length, drop};
 ghost use Rattle.buffer.specs.Layout.{Lent};
 ghost use Rattle.jobhead.specs.Stored.{StartsFilled};

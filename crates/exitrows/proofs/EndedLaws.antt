@@ -170,7 +170,7 @@ past_end inv all = record {
 
 -- a word starts at some pair
 pub spelt_start
-    : {rule : Automaton} {set p q : ℕ} {P : ℕ → ℕ → Type 0} → Spelt rule set P p q
+    : {rule : Automaton} {set : ℕ} {P : ℕ → ℕ → Type 0} {p q : ℕ} → Spelt rule set P p q
     → (x : ℕ) × (y : ℕ) × P x y × Spelt rule set (λ k l. (k ≡ x) × (l ≡ y)) p q
 spelt_start (no_word {p = p} {q = q} h) = (p, q, h, no_word (refl, refl))
 spelt_start (one_more a m w) = let f = spelt_start w in (f.0, f.1, f.2, one_more a m f.3)

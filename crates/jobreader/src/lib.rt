@@ -1,4 +1,6 @@
 // Reading a whole job file into the work buffer.
+#![tactic(auto)]
+
 ghost use Rattle.buffer.specs.Layout.{Lent};
 ghost use Rattle.jobhead.specs.Reading.{FileRead};
 

@@ -1,4 +1,6 @@
 // Looking at one row of pairs in the work buffer: what its call word leads to is joined, and a difference is told.
+#![tactic(auto)]
+
 ghost use Rattle.std.specs.Prelude.{◌<◌};
 ghost use Rattle.buffer.specs.Layout.{Lent};
 ghost use Rattle.tables.specs.Rows.{CellsBelow};

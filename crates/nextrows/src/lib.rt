@@ -1,4 +1,6 @@
 // The states told apart before a node, and before the successors of one.
+#![tactic(auto)]
+
 ghost use Rattle.std.specs.Prelude.{◌≡◌, ◌<◌, ◌≤◌};
 ghost use Rattle.laws.specs.Bounded.{tab};
 ghost use Rattle.buffer.specs.Layout.{Lent};

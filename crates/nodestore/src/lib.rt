@@ -1,4 +1,6 @@
 // A node of the job in its place of the work buffer.
+#![tactic(auto)]
+
 ghost use Rattle.std.specs.Prelude.{◌<◌};
 ghost use Rattle.jobfile.specs.File.{node_of};
 ghost use Rattle.buffer.specs.Layout.{Lent};

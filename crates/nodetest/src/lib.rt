@@ -1,4 +1,6 @@
 // The numbers of a P line: whether they are those of a node.
+#![tactic(auto)]
+
 ghost use Rattle.std.specs.Prelude.{◌≡◌, [], ◌≤◌};
 ghost use Rattle.jobfile.specs.File.{good_value, good_node};
 

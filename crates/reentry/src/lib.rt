@@ -1,4 +1,6 @@
 // The calls that may come back in and the entries, in the rows of pairs: sixteen rows joined at them, and the rows of the calls gathered.
+#![tactic(auto)]
+
 ghost use Rattle.std.specs.Prelude.{ℕ, ◌≤◌, ◌<◌};
 ghost use Rattle.job.specs.Job.{is_reentrant, is_entry};
 ghost use Rattle.buffer.specs.Layout.{Lent};

@@ -1,4 +1,6 @@
 // The lines past the J line, read into the work buffer.
+#![tactic(auto)]
+
 ghost use Rattle.std.specs.Prelude.{◌≡◌, [], ◌∷◌, ◌≤◌, length, drop};
 ghost use Rattle.lines.specs.Line.{line_length};
 ghost use Rattle.jobfile.specs.File.{read_rest};

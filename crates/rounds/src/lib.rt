@@ -1,4 +1,6 @@
 // A round over the marked rows of all nodes.
+#![tactic(auto)]
+
 ghost use Rattle.tables.specs.Held.{Usable};
 ghost use Rattle.rounds.specs.Rounds.{RoundedAt};
 

@@ -1,4 +1,6 @@
 // The rule's rows in the work buffer, and what an R line's next states may be.
+#![tactic(auto)]
+
 ghost use Rattle.std.specs.Prelude.{◌≡◌, ℕ, ◌+◌, ◌<◌, ◌≤◌, ltb, get_or};
 ghost use Rattle.laws.specs.Bounded.{all_below};
 ghost use Rattle.buffer.specs.Layout.{Lent};

@@ -1,4 +1,6 @@
 // Whether a rule is one: the test of refusal 13.
+#![tactic(auto)]
+
 ghost use Rattle.std.specs.Prelude.{◌≡◌};
 ghost use Rattle.automaton.specs.Automaton.{automaton_of, well_formed};
 

@@ -29,7 +29,7 @@ loop-n-preserved c =
     let l = c.loop-n in (
       search rules,
       starting_more (omega (arith, p)) l.invariant.1
-          (λ i lt. omega (arith, c.type_inv.work i))
+          (λ i lt. omega (arith, c.slice_known-3-1.given i))
           c.start_node.ensures,
     )
 

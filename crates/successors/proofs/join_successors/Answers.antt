@@ -14,19 +14,19 @@ loop-i-init c = joining_start _ _ _ _ c.start_at-i.ensures
 pub target_at-m-requires : goal.target_at-m-requires
 target_at-m-requires c = (
   omega (arith, c.loop-i.invariant.grown.kept.long),
-  index_within _ _ _ _ c.requires.1.1 c.start-at.ensures c.loop-i-test.true,
+  index_within _ _ _ _ c.requires.1.1 c.start_at-end.ensures c.loop-i-test.true,
 )
 
 pub join_rows-requires : goal.join_rows-requires
 join_rows-requires c = (
   omega (arith, c.loop-i.invariant.grown.kept.long),
-  target_within c.requires.1.1 c.start-at.ensures
+  target_within c.requires.1.1 c.start_at-end.ensures
       c.loop-i.invariant c.loop-i-test.true c.target_at-m.ensures,
 )
 
 pub loop-i-preserved : goal.loop-i-preserved
 loop-i-preserved c =
-    joining_more c.requires.1.1 c.start-at.ensures
+    joining_more c.requires.1.1 c.start_at-end.ensures
     c.loop-i.invariant c.loop-i-test.true
     c.target_at-m.ensures _ c.join_rows.ensures
 

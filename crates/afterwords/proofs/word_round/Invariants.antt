@@ -1,0 +1,16 @@
+-- `afterwords::word_round` meets its contract.
+-- Invariant: the rows below p were joined, and `grown` of them grew.
+-- Measure: the rows still to be joined. Each turn is one step of `JoiningWords`.
+-- Assumes nothing.
+use Prim.Native.Nat.{◌-◌}
+use mathlib.Core.Path.{sym, ◌∙◌}
+use native.Mathlib.Omega.{arith}
+use borrow.Author.Rules.{rules}
+use Rattle.classes.proofs.WordLaws.{JoiningWords, round_none, round_more, round_end, rows_left_small}
+use Rattle.afterwords.proofs.word_round.Given as goal
+
+abbrev pub invariant-loop-p : goal.invariant-loop-p
+invariant-loop-p l = JoiningWords l.table l.finals l.states l.initial.rows l.rows l.set l.grown l.p
+
+abbrev pub decreases-loop-p : goal.decreases-loop-p
+decreases-loop-p l = l.states - l.p

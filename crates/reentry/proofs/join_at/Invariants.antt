@@ -1,0 +1,16 @@
+-- `reentry::join_at` meets its contract.
+-- Invariant: the rows below p are joined, and nothing else is new.
+-- Measure: the rows still to be joined. Each turn is one step of `JoiningRows`.
+-- Assumes nothing.
+use Prim.Native.Nat.{◌-◌}
+use native.Mathlib.Omega.{arith}
+use mathlib.Core.Path.{refl}
+use borrow.Author.Rules.{rules}
+use Rattle.successors.proofs.SuccessorLaws.{JoiningRows, rows_start, rows_joined, rows_end}
+use Rattle.reentry.proofs.join_at.Given as goal
+
+abbrev pub invariant-loop-p : goal.invariant-loop-p
+invariant-loop-p l = JoiningRows l.initial.work l.work l.n l.rows l.p
+
+abbrev pub decreases-loop-p : goal.decreases-loop-p
+decreases-loop-p l = 16 - l.p

@@ -1,0 +1,20 @@
+-- `rulestore::clear_rule` meets its contract.
+-- Invariant: the first k bytes of the part are zero, and nothing else differs. Measure: the bytes still to be cleared.
+-- Assumes nothing.
+use Prim.Native.Nat.{ℕ, ◌+◌, ◌≤◌, ◌<◌, ◌-◌}
+use mathlib.Core.Path.{◌≡◌, refl}
+use native.Mathlib.Nat.{not-suc-le-zero}
+use native.Mathlib.Omega.{arith}
+use borrow.Author.Rules.{rules}
+use lib.ListN.{get_or}
+use Rattle.buffer.specs.Layout.{rule_part, marks_part, Lent}
+use Rattle.buffer.specs.Kept.{SameOutside}
+use Rattle.buffer.proofs.KeptLaws.{kept_none}
+use Rattle.rulestore.proofs.RuleLaws.{bytes_more, part_more}
+use Rattle.rulestore.proofs.clear_rule.Given as goal
+
+abbrev pub invariant-loop-k : goal.invariant-loop-k
+invariant-loop-k l = (l.k ≤ 256) × (Lent l.initial.work) × SameOutside l.initial.work l.work rule_part marks_part × ((j : ℕ) → j < l.k → get_or l.work (rule_part + j) 0 ≡ 0)
+
+abbrev pub decreases-loop-k : goal.decreases-loop-k
+decreases-loop-k l = 256 - l.k
