@@ -1,1 +1,2 @@
 // Files alike get the same answer of every call: definitions and theorems, no code.
+#![tactic(auto)]

@@ -1,4 +1,6 @@
 // Before sets, plan and classes of the job that the work buffer holds, each in its part.
+#![tactic(auto)]
+
 ghost use Rattle.std.specs.Prelude.{◌≤◌};
 ghost use Rattle.tables.specs.Held.{Usable};
 ghost use Rattle.found.specs.FoundHeld.{Found};

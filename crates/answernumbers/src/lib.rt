@@ -1,4 +1,6 @@
 // The number that a C call returns for each answer of planning and of listing.
+#![tactic(auto)]
+
 ghost use Rattle.std.specs.Prelude.{◌≡◌};
 ghost use Rattle.planoutcome.specs.PlanCall.{plan_number};
 ghost use Rattle.listoutcome.specs.ListCall.{list_number};

@@ -1,4 +1,6 @@
 // The before sets of the job that the work buffer holds, in their part of it.
+#![tactic(auto)]
+
 ghost use Rattle.tables.specs.Held.{Usable};
 ghost use Rattle.found.specs.FoundHeld.{BeforeFound};
 

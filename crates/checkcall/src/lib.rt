@@ -1,4 +1,6 @@
 // The plan check: a job file, somebody's plan and a work buffer in; faithful, different or a refusal out.
+#![tactic(auto)]
+
 ghost use Rattle.std.specs.Prelude.{◌≡◌, length};
 ghost use Rattle.checking.specs.Checking.{checked, work_left};
 

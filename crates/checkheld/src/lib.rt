@@ -1,4 +1,6 @@
 // The verdict on a plan, for the job that the work buffer holds.
+#![tactic(auto)]
+
 ghost use Rattle.buffer.specs.Views.{rule_rows_in};
 ghost use Rattle.tables.specs.Held.{Usable};
 ghost use Rattle.checking.specs.Inner.{Judged};

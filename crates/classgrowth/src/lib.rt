@@ -1,4 +1,6 @@
 // The growth of the class rows from the after words of the exits, backwards over the edges and by calls that may come back in.
+#![tactic(auto)]
+
 ghost use Rattle.std.specs.Prelude.{◌<◌, ◌≤◌};
 ghost use Rattle.buffer.specs.Layout.{Lent};
 ghost use Rattle.tables.specs.Rows.{CellsBelow};

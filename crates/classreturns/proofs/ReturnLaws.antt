@@ -34,7 +34,7 @@ use Rattle.classreturns.specs.Joins.{ToCall, ToExit, ToExitWithin, NodesJoined}
 
 -- what tells apart after a word for one reason does so for another, for states of the rule
 pub word_within
-    : {a : Automaton} {set p q : ℕ} {More Other : ℕ → ℕ → Type 0} → WellFormed a → ((s : ℕ) → has set s ≡ true → s < a.symbols)
+    : {a : Automaton} {set : ℕ} {More Other : ℕ → ℕ → Type 0} {p q : ℕ} → WellFormed a → ((s : ℕ) → has set s ≡ true → s < a.symbols)
     → ((k l : ℕ) → k < a.states → l < a.states → More k l → Other k l) → p < a.states → q < a.states → WordApart a set More p q
     → WordApart a set Other p q
 word_within wf symbols f hp hq (apart_here s m d) = apart_here s m d

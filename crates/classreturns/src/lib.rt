@@ -1,5 +1,7 @@
 // Calls that may come back in, in the class rows: past one of them the walk may go to any entry, and where the word after an exit ends to
 // any of them.
+#![tactic(auto)]
+
 ghost use Rattle.std.specs.Prelude.{◌<◌, ◌≤◌};
 ghost use Rattle.buffer.specs.Layout.{Lent};
 ghost use Rattle.tables.specs.Rows.{CellsBelow};

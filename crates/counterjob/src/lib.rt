@@ -1,6 +1,8 @@
 // Large jobs, written line by line. Each has a counter for its rule: one symbol, which leads from every state to the next and from the
 // last to the first; the last is final. Node 0 reports the symbol and is entered in state 0; the others are plain.
 // Edge e leads from node e / 32 to node e % 32, so that the edges ascend.
+#![tactic(auto)]
+
 ghost use Rattle.std.specs.Prelude.{◌+◌, ◌<◌, ◌≤◌, length};
 
 use counterlines::{write_edge, write_head, write_node, write_rule};

@@ -1,4 +1,6 @@
 // The lines of large jobs, each written at its place.
+#![tactic(auto)]
+
 ghost use Rattle.std.specs.Prelude.{◌+◌, ◌<◌, ◌≤◌, length};
 
 use linewriter::write_line;

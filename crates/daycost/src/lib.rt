@@ -1,4 +1,6 @@
 // What a day's events cost: the volume file read, and the sum over the watched points.
+#![tactic(auto)]
+
 ghost use Rattle.std.specs.Prelude.{◌≡◌, ◌*◌, ◌≤◌, length, drop};
 ghost use Rattle.lines.specs.Line.{line_of};
 ghost use Rattle.pricing.specs.Inner.{CostFit, Fit, Summed, cost_in, number_due};

@@ -1,4 +1,6 @@
 // The door of every call on a job file: the tests 1, 2 and 3 to 10.
+#![tactic(auto)]
+
 ghost use Rattle.std.specs.Prelude.{◌||◌, ltb, length};
 ghost use Rattle.buffer.specs.Buffer.{work_size};
 ghost use Rattle.admission.specs.Admission.{admitted};

@@ -1,4 +1,6 @@
 // The arrivals index beside the edges: an edge added to three lent lists, and dropped.
+#![tactic(auto)]
+
 ghost use Rattle.std.specs.Prelude.{◌≡◌, ◌*◌, ◌≤◌, length};
 ghost use Rattle.arrivals.specs.Arrivals.{lists, edited, added, dropped};
 ghost use Rattle.edgecall.specs.Standing.{ends_below, stands_at};

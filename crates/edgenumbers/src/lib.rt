@@ -1,4 +1,6 @@
 // The number that a C call returns for each answer of the calls on edges.
+#![tactic(auto)]
+
 ghost use Rattle.std.specs.Prelude.{◌≡◌};
 ghost use Rattle.arrivals.specs.Arrivals.{edge_number};
 ghost use Rattle.edgenumbers.specs.Fits.{EdgesFit};

@@ -1,4 +1,6 @@
 // The place of an edge among edges that ascend, and of a number among numbers that do, found by halving.
+#![tactic(auto)]
+
 ghost use Rattle.std.specs.Prelude.{◌*◌, ◌≤◌, ltb, length, get_or};
 ghost use Rattle.job.specs.Job.{edge};
 ghost use Rattle.arrivals.specs.Arrivals.{edge_at, is_before};

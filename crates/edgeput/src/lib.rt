@@ -1,4 +1,6 @@
 // An edge put into lists that are held, and taken out of them, at its place among the edges: one shift of each list, and no rebuild.
+#![tactic(auto)]
+
 ghost use Rattle.std.specs.Prelude.{◌≡◌};
 ghost use Rattle.job.specs.Job.{edge};
 ghost use Rattle.arrivals.specs.Arrivals.{edges_in, with_edge, without_edge, lists, relisted};

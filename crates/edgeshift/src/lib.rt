@@ -1,4 +1,6 @@
 // Numbers put into a list and taken out of it, and the starts after a node moved by one.
+#![tactic(auto)]
+
 ghost use Rattle.std.specs.Prelude.{◌≡◌, [], ◌∷◌, ℕ, ◌+◌, ◌≤◌, ◌<◌, length, get_or};
 ghost use Rattle.arrivals.specs.Shifts.{opened, closed, raised, lowered};
 

@@ -1,4 +1,6 @@
 // The plan with every shadow enabled, and how many there are.
+#![tactic(auto)]
+
 ghost use Rattle.std.specs.Prelude.{◌≡◌, ◌<◌, ◌≤◌};
 ghost use Rattle.planning.specs.Planning.{shadow_byte};
 ghost use Rattle.buffer.specs.Layout.{Lent};

@@ -1,4 +1,6 @@
 // The event step on bytes: the rule is 256 bytes in row order, the record its numbers one after the other.
+#![tactic(auto)]
+
 ghost use Rattle.std.specs.Prelude.{◌≡◌};
 ghost use Rattle.events.specs.Monitor.{report_number};
 ghost use Rattle.eventbytes.specs.Event.{event_taken, record_left};

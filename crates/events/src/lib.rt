@@ -13,7 +13,7 @@ pub enum Report {
 }
 
 // A running monitor: its state, and how often it alarmed.
-#[derive(Drop)]
+#[derive(Clone, Copy)]
 pub struct Record {
     pub state: u64,
     pub alarms: u64,

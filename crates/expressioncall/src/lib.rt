@@ -1,4 +1,6 @@
 // Rules as expressions: a text and the number of symbols in; the rule's 256 bytes with its states and final set, or a refusal out.
+#![tactic(auto)]
+
 ghost use Rattle.std.specs.Prelude.{◌≡◌, length};
 ghost use Rattle.expressionrule.specs.ExpressionRule.{AnswersExpression, ValuesExpression};
 ghost use Rattle.expressioncall.specs.Inner.{ReadReady, Numbers};

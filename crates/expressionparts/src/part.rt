@@ -4,7 +4,7 @@ ghost use Rattle.expression.specs.Masks.{when};
 ghost use Rattle.expressionparts.specs.Reading.{letter_part, followed, either_part, up_to};
 
 // A part that was read: the position after it, whether the empty word is one of its words, and the positions that words begin and end with.
-#[derive(Drop)]
+#[derive(Clone, Copy)]
 pub struct Part {
     pub end: usize,
     pub nullable: bool,

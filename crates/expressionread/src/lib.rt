@@ -1,4 +1,6 @@
 // The reader of an expression: three functions, one for each level of the grammar, that recurse on what is left of the text.
+#![tactic(auto)]
+
 ghost use Rattle.expression.specs.Grammar.{piece, row, choice};
 ghost use Rattle.expressionparts.specs.Reading.{Answer, Ready, TextAnswer};
 

@@ -1,4 +1,6 @@
 // The test that lent lists hold edges with their fresh index, for numbers of any size.
+#![tactic(auto)]
+
 ghost use Rattle.std.specs.Prelude.{◌≡◌};
 ghost use Rattle.arrivals.specs.Arrivals.{lists, fits, is_held};
 

@@ -1,4 +1,6 @@
 // The arrivals index beside the edges, made afresh in lent lists.
+#![tactic(auto)]
+
 ghost use Rattle.std.specs.Prelude.{◌≡◌};
 ghost use Rattle.arrivals.specs.Arrivals.{lists, edited, indexed};
 

@@ -1,4 +1,6 @@
 // The test of lent lists: edges that ascend between nodes below N, with their fresh index.
+#![tactic(auto)]
+
 ghost use Rattle.std.specs.Prelude.{◌≡◌, true, ◌+◌, ◌*◌, ◌≤◌, length};
 ghost use Rattle.arrivals.specs.Arrivals.{lists, fits, ascend_below, is_fresh};
 ghost use Rattle.arrivals.specs.Placed.{Walkable, Arrived, Copied, meets};

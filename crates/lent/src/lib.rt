@@ -1,4 +1,6 @@
 // One record, lent to the call that takes an event and altered there.
+#![tactic(auto)]
+
 ghost use Rattle.std.specs.Prelude.{◌≡◌};
 ghost use Rattle.automaton.specs.Automaton.{automaton_of};
 ghost use Rattle.events.specs.Monitor.{reported, taken};

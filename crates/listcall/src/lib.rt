@@ -1,4 +1,6 @@
 // Listing as a call: the W and T lines in the lent listing buffer, and their length.
+#![tactic(auto)]
+
 ghost use Rattle.std.specs.Prelude.{◌≡◌, length};
 ghost use Rattle.admission.specs.Admission.{work_after};
 ghost use Rattle.listoutcome.specs.ListCall.{list_answer, listed_of, listing_after};

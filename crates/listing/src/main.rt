@@ -1,4 +1,8 @@
 // The listing program: a job file on standard input; its listing, or the X line of its refusal, on standard output.
-fn main() {
-    listrun::list_input();
+#![tactic(auto)]
+
+use std::io;
+
+fn main(rt: HostRuntime) -> io::Result<()> {
+    listrun::list_input(&rt)
 }

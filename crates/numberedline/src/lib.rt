@@ -1,4 +1,6 @@
 // One numbered line: its place, and a number up to a limit.
+#![tactic(auto)]
+
 ghost use Rattle.std.specs.Prelude.{◌≡◌, ◌≤◌, length, drop};
 ghost use Rattle.lines.specs.Line.{line_of};
 ghost use Rattle.pricing.specs.Inner.{number_due};

@@ -110,7 +110,7 @@ stands_passes
 stands_passes {j} {k} wf s (last_by {plan} e) =
     rw e at (stands_pass wf s)
 stands_passes {j} {k} wf s (again_by {r = r} {k = c} ne h) =
-    subst (λ (i : ℕ). Stands j i 0 r (enabled_count r)) (omega arith) (stands_passes wf (stands_pass wf s) h)
+    subst (λ (i : ℕ). Stands j i 0 r (enabled_count r)) (omega arith) (stands_passes {k = k + 1} wf (stands_pass wf s) h)
 
 -- the plan when k passes are over
 unfoldable pub plan_over : Job → ℕ → List ℕ
@@ -130,7 +130,7 @@ stands_where j wf (suc k) n l = stands_passed wf n l (next_pass (stands_where j 
 
 -- at one plan, with one total
 pub stands_unique
-    : {j : Job} {k n total other : ℕ} {plan left : List ℕ} → Stands j k n plan total → Stands j k n left other
+    : {j : Job} {k n total : ℕ} {plan left : List ℕ} {other : ℕ} → Stands j k n plan total → Stands j k n left other
     → (plan ≡ left) × (total ≡ other)
 stands_unique start start = (refl, refl)
 stands_unique (next_try s l t) (next_try r h u) = go (stands_unique s r) t u

@@ -1,4 +1,6 @@
 // Passes over the plan: one pass, and passes until none removes a point.
+#![tactic(auto)]
+
 ghost use Rattle.std.specs.Prelude.{◌≤◌};
 ghost use Rattle.tables.specs.Held.{Usable};
 ghost use Rattle.passes.specs.Passes.{Carried, PassMade, PassesMade};

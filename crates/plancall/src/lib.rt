@@ -1,4 +1,6 @@
 // Planning as a call: the plan in the lent plan buffer, and the counts of event nodes, watched points and passes.
+#![tactic(auto)]
+
 ghost use Rattle.std.specs.Prelude.{◌≡◌, length};
 ghost use Rattle.admission.specs.Admission.{work_after};
 ghost use Rattle.planoutcome.specs.PlanCall.{plan_answer, outcome_of, plan_after};

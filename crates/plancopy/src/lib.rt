@@ -1,4 +1,6 @@
 // The plan of the nodes, copied from the work buffer to the plan buffer.
+#![tactic(auto)]
+
 ghost use Rattle.std.specs.Prelude.{◌≡◌, ◌≤◌, length};
 ghost use Rattle.std.proofs.lemmas.List.Edits.{sets};
 ghost use Rattle.buffer.specs.Layout.{Lent};

@@ -1,4 +1,6 @@
 // The plan of the job that the work buffer holds, copied to the plan buffer.
+#![tactic(auto)]
+
 ghost use Rattle.std.specs.Prelude.{◌≤◌, length};
 ghost use Rattle.buffer.specs.Views.{rule_rows_in};
 ghost use Rattle.tables.specs.Held.{Usable};

@@ -1,4 +1,6 @@
 // All points watched, then passes in number order until one changes nothing.
+#![tactic(auto)]
+
 ghost use Rattle.std.specs.Prelude.{◌≤◌};
 ghost use Rattle.tables.specs.Held.{Usable};
 ghost use Rattle.passes.specs.Passes.{PlanMade};

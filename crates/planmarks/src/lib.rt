@@ -1,4 +1,6 @@
 // A plan to be checked or priced: refusal 12; and its place in the work buffer, for the check.
+#![tactic(auto)]
+
 ghost use Rattle.std.specs.Prelude.{◌≡◌, ◌<◌, ◌≤◌, length, get_or};
 ghost use Rattle.laws.specs.Bounded.{all_below};
 ghost use Rattle.buffer.specs.Layout.{Lent};

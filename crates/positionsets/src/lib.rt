@@ -1,4 +1,6 @@
 // Sets of letter positions as numbers, and the state that has a set.
+#![tactic(auto)]
+
 ghost use Rattle.std.specs.Prelude.{◌≡◌, ◌<◌, ◌≤◌, length, get_or};
 ghost use Rattle.expression.specs.Masks.{union_over, places_of};
 ghost use Rattle.expressionrule.specs.Numbering.{PlacesAre, Onward, Sought, Added};

@@ -1,4 +1,6 @@
 // The journal price of a plan: a job file, a plan, a volume file and, in the second call, a price file in; cents or a refusal out.
+#![tactic(auto)]
+
 ghost use Rattle.std.specs.Prelude.{◌≡◌};
 ghost use Rattle.pricing.specs.Inner.{PricesFit};
 ghost use Rattle.pricing.specs.Pricing.{priced_at, priced};

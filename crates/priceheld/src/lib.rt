@@ -1,4 +1,6 @@
 // The price of a plan, for the job that the work buffer holds.
+#![tactic(auto)]
+
 ghost use Rattle.pricing.specs.Inner.{BillFit, Billed};
 
 use daycost::day_cost;

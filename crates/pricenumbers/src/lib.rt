@@ -1,4 +1,6 @@
 // The number that a C call returns for each answer of pricing.
+#![tactic(auto)]
+
 ghost use Rattle.std.specs.Prelude.{◌≡◌};
 ghost use Rattle.pricing.specs.Pricing.{price_number};
 ghost use Rattle.pricing.specs.Inner.{CentsFit};

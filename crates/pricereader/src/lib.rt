@@ -1,4 +1,6 @@
 // The price file: its prices, read into sixteen lent ones, and the answer where it is none.
+#![tactic(auto)]
+
 ghost use Rattle.std.specs.Prelude.{◌≡◌};
 ghost use Rattle.pricelist.specs.Inner.{SixteenFit, PricesRead};
 ghost use Rattle.pricelist.specs.PriceList.{unlisted};

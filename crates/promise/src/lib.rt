@@ -1,1 +1,2 @@
 // The third promise: no code.
+#![tactic(auto)]

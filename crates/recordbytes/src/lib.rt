@@ -1,4 +1,6 @@
 // The record of a running monitor as bytes: read, and written.
+#![tactic(auto)]
+
 ghost use Rattle.std.specs.Prelude.{◌≡◌, length};
 ghost use Rattle.eventbytes.specs.Event.{record_size, record_in, record_bytes};
 

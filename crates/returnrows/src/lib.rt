@@ -1,4 +1,6 @@
 // Sixteen rows gathered from nodes: what is told apart before an entry, and past a call that may come back in.
+#![tactic(auto)]
+
 ghost use Rattle.std.specs.Prelude.{◌<◌, ◌≤◌};
 ghost use Rattle.buffer.specs.Layout.{Lent};
 ghost use Rattle.tables.specs.Rows.{CellsBelow};

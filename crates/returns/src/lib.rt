@@ -1,4 +1,6 @@
 // What comes back in, settled once when no row of pairs is marked: returns from the words after exits, and entries after the calls' words.
+#![tactic(auto)]
+
 ghost use Rattle.tables.specs.Held.{Usable};
 ghost use Rattle.returns.specs.CameBack.{NoMarks, CameBackAt};
 

@@ -1,4 +1,6 @@
 // One row of a rule: its line, and whether its numbers are within their limits.
+#![tactic(auto)]
+
 ghost use Rattle.std.specs.Prelude.{◌≡◌, [], ◌≤◌, length, drop};
 ghost use Rattle.lines.specs.Line.{line_of};
 ghost use Rattle.rulerows.specs.Inner.{row_due};

@@ -1,4 +1,6 @@
 // Marks of the pairs that rows name: sixteen rows of sixteen bytes, the next state plus one, or 0 at a pair without a row.
+#![tactic(auto)]
+
 ghost use Rattle.std.specs.Prelude.{◌≡◌, ◌≤◌, length};
 ghost use Rattle.rulerows.specs.Inner.{RowFits, SpanMarked, RowMarked};
 

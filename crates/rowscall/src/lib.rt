@@ -1,4 +1,6 @@
 // Rule rows that offices can edit: a text of rows, states, symbols and the final set in; the rule's 256 bytes or a refusal out.
+#![tactic(auto)]
+
 ghost use Rattle.std.specs.Prelude.{◌≡◌, length};
 ghost use Rattle.automaton.specs.Made.{made_after};
 ghost use Rattle.automaton.specs.Table.{rule_size};

@@ -1,4 +1,6 @@
 // The rows of a text, taken in turn: 17, 18, or the marks of the pairs that they name.
+#![tactic(auto)]
+
 ghost use Rattle.std.specs.Prelude.{◌≡◌, ◌≤◌, length, replicate};
 ghost use Rattle.rulerows.specs.Inner.{RowFits, MarkedMore, RowsTaken};
 

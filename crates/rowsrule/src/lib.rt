@@ -1,4 +1,6 @@
 // The rule of the marks of rows: whether every pair has a mark, and the rule's bytes.
+#![tactic(auto)]
+
 ghost use Rattle.std.specs.Prelude.{◌≡◌, ◌-◌, ◌≤◌, eqb, length, get_or};
 ghost use Rattle.laws.specs.Bounded.{any_below, tab};
 ghost use Rattle.rulerows.specs.Inner.{mark_at};

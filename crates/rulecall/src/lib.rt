@@ -1,4 +1,6 @@
 // The rule of a job: a job file and a work buffer in; the rule's 256 bytes, its states, symbols and final set, or a refusal out.
+#![tactic(auto)]
+
 ghost use Rattle.std.specs.Prelude.{◌≡◌, length};
 ghost use Rattle.admission.specs.Admission.{work_after};
 ghost use Rattle.automaton.specs.Table.{rule_size};

@@ -1,4 +1,6 @@
 // The rule of the job that the work buffer holds, copied to a rule buffer.
+#![tactic(auto)]
+
 ghost use Rattle.std.specs.Prelude.{◌≡◌, length, take, drop};
 ghost use Rattle.buffer.specs.Layout.{rule_part, Lent};
 

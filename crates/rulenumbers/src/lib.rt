@@ -1,4 +1,6 @@
 // The number that a C call returns for each answer of the calls for a rule: the rule of a job, of rows and of an expression.
+#![tactic(auto)]
+
 ghost use Rattle.std.specs.Prelude.{◌≡◌};
 ghost use Rattle.ruleoutcome.specs.RuleCall.{rule_number};
 ghost use Rattle.rulerows.specs.RuleRows.{rows_number};

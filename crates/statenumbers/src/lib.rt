@@ -1,4 +1,6 @@
 // The states of a rule made from an expression, numbered breadth first, and those that are final.
+#![tactic(auto)]
+
 ghost use Rattle.std.specs.Prelude.{◌≡◌, ◌≤◌, length};
 ghost use Rattle.expressionrule.specs.Numbering.{RowReady, RowDone, RowsReady, AllDone, FinalsOf};
 

@@ -1,4 +1,6 @@
 // The event step on values: one event moves the state, and alarms when the state moved to is final.
+#![tactic(auto)]
+
 ghost use Rattle.std.specs.Prelude.{◌≡◌};
 ghost use Rattle.automaton.specs.Automaton.{automaton_of};
 ghost use Rattle.events.specs.Monitor.{taken};

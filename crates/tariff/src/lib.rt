@@ -1,4 +1,6 @@
 // The house prices of journal lines, and cents.
+#![tactic(auto)]
+
 ghost use Rattle.std.specs.Prelude.{◌≡◌, ◌^◌, ◌<◌};
 ghost use Rattle.pricing.specs.Pricing.{house_prices, cents_of};
 

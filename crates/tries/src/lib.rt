@@ -1,4 +1,6 @@
 // Tries: a node goes where the plan without it is faithful.
+#![tactic(auto)]
+
 ghost use Rattle.std.specs.Prelude.{◌≤◌};
 ghost use Rattle.tables.specs.Held.{Usable};
 ghost use Rattle.passes.specs.Passes.{Carried, FirstGone, LastGone};

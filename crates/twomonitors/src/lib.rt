@@ -1,1 +1,2 @@
 // Two monitors on one walk, in any form of the event step: definitions and theorems, no code.
+#![tactic(auto)]

@@ -1,4 +1,6 @@
 // The number that a C call returns for each answer of the plan check.
+#![tactic(auto)]
+
 ghost use Rattle.std.specs.Prelude.{◌≡◌};
 ghost use Rattle.checking.specs.Checking.{verdict_number};
 

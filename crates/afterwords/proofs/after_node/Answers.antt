@@ -1,6 +1,5 @@
 -- `afterwords::after_node` meets its contract: the rows are closed under words over the after set, and joined.
 -- Assumes nothing.
-use borrow.Author.Rules.{rules}
 use Rattle.classes.proofs.AfterLaws.{after_joined}
 use Rattle.afterwords.proofs.after_node.Goals as goal
 

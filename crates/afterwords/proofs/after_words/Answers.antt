@@ -2,11 +2,9 @@
 -- Invariant: the rows of the nodes below n hold the after words of the exits among them, and the rows of the others are empty.
 -- Measure: the nodes still to be done.
 -- Assumes nothing.
-use Prim.Native.Nat.{◌-◌}
 use native.Mathlib.Omega.{arith}
-use borrow.Author.Rules.{rules}
 use Rattle.tables.proofs.SixteenLaws.{empty_rows, empty_row, empty_sixteen}
-use Rattle.classes.proofs.AfterLaws.{AfterSoFar, after_start, After-more, after_end}
+use Rattle.classes.proofs.AfterLaws.{after_start, After-more, after_end}
 use Rattle.afterwords.proofs.after_words.Goals as goal
 
 pub clear_classes-requires : goal.clear_classes-requires

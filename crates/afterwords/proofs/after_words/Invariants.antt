@@ -3,10 +3,7 @@
 -- Measure: the nodes still to be done.
 -- Assumes nothing.
 use Prim.Native.Nat.{◌-◌}
-use native.Mathlib.Omega.{arith}
-use borrow.Author.Rules.{rules}
-use Rattle.tables.proofs.SixteenLaws.{empty_rows, empty_row, empty_sixteen}
-use Rattle.classes.proofs.AfterLaws.{AfterSoFar, after_start, After-more, after_end}
+use Rattle.classes.proofs.AfterLaws.{AfterSoFar}
 use Rattle.afterwords.proofs.after_words.Given as goal
 
 abbrev pub invariant-loop-n : goal.invariant-loop-n

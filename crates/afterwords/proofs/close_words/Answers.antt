@@ -5,8 +5,8 @@
 use mathlib.Core.Path.{sym, ◌∙◌}
 use native.Mathlib.Omega.{arith}
 use Rattle.tables.specs.Sixteen.{rows_left}
-use Rattle.classes.proofs.GrownLaws.{rank, rank_less}
-use Rattle.classes.proofs.WordLaws.{ClosingWords, closing_start, closing_more, Closing-End}
+use Rattle.classes.proofs.GrownLaws.{rank_less}
+use Rattle.classes.proofs.WordLaws.{closing_start, closing_more, Closing-End}
 use Rattle.afterwords.proofs.close_words.Goals as goal
 
 pub loop-grown-init : goal.loop-grown-init

@@ -2,11 +2,9 @@
 -- Invariant: the rows hold what words tell apart; they are closed where the last round grew none.
 -- Measure: the room in the rows and one more; nothing where the last round grew none.
 -- Assumes nothing.
-use mathlib.Core.Path.{sym, ◌∙◌}
-use native.Mathlib.Omega.{arith}
 use Rattle.tables.specs.Sixteen.{rows_left}
-use Rattle.classes.proofs.GrownLaws.{rank, rank_less}
-use Rattle.classes.proofs.WordLaws.{ClosingWords, closing_start, closing_more, Closing-End}
+use Rattle.classes.proofs.GrownLaws.{rank}
+use Rattle.classes.proofs.WordLaws.{ClosingWords}
 use Rattle.afterwords.proofs.close_words.Given as goal
 
 abbrev pub invariant-loop-grown : goal.invariant-loop-grown

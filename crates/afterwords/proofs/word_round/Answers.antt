@@ -2,11 +2,9 @@
 -- Invariant: the rows below p were joined, and `grown` of them grew.
 -- Measure: the rows still to be joined. Each turn is one step of `JoiningWords`.
 -- Assumes nothing.
-use Prim.Native.Nat.{◌-◌}
 use mathlib.Core.Path.{sym, ◌∙◌}
 use native.Mathlib.Omega.{arith}
-use borrow.Author.Rules.{rules}
-use Rattle.classes.proofs.WordLaws.{JoiningWords, round_none, round_more, round_end, rows_left_small}
+use Rattle.classes.proofs.WordLaws.{round_none, round_more, round_end, rows_left_small}
 use Rattle.afterwords.proofs.word_round.Goals as goal
 
 pub loop-p-init : goal.loop-p-init

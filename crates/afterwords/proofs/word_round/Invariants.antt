@@ -3,10 +3,7 @@
 -- Measure: the rows still to be joined. Each turn is one step of `JoiningWords`.
 -- Assumes nothing.
 use Prim.Native.Nat.{◌-◌}
-use mathlib.Core.Path.{sym, ◌∙◌}
-use native.Mathlib.Omega.{arith}
-use borrow.Author.Rules.{rules}
-use Rattle.classes.proofs.WordLaws.{JoiningWords, round_none, round_more, round_end, rows_left_small}
+use Rattle.classes.proofs.WordLaws.{JoiningWords}
 use Rattle.afterwords.proofs.word_round.Given as goal
 
 abbrev pub invariant-loop-p : goal.invariant-loop-p

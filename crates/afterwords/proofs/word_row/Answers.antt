@@ -8,7 +8,7 @@ use native.Mathlib.Omega.{arith}
 use borrow.Author.Rules.{rules}
 use Rattle.laws.proofs.Walk.{rest_lt, clear_lt}
 use Rattle.classes.specs.Backwards.{apart_by, rows_of}
-use Rattle.classes.proofs.WordLaws.{WalkedRow, walked_start, word_turn, word_done}
+use Rattle.classes.proofs.WordLaws.{walked_start, word_turn, word_done}
 use Rattle.afterwords.proofs.word_row.Goals as goal
 
 pub loop-rest-init : goal.loop-rest-init

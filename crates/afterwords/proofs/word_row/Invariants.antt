@@ -2,13 +2,9 @@
 -- Invariant: `rest` is the symbols from some number on, and `out` the states told apart by those before it.
 -- Measure: the set that is left, as a number. Each turn is one step of the walk.
 -- Assumes nothing.
-use mathlib.Core.Path.{refl}
 use Prim.Native.Nat.{ℕ}
-use native.Mathlib.Omega.{arith}
-use borrow.Author.Rules.{rules}
-use Rattle.laws.proofs.Walk.{rest_lt, clear_lt}
 use Rattle.classes.specs.Backwards.{apart_by, rows_of}
-use Rattle.classes.proofs.WordLaws.{WalkedRow, walked_start, word_turn, word_done}
+use Rattle.classes.proofs.WordLaws.{WalkedRow}
 use Rattle.afterwords.proofs.word_row.Given as goal
 
 abbrev pub invariant-loop-rest : goal.invariant-loop-rest

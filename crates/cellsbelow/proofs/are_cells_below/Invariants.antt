@@ -3,14 +3,10 @@
 -- Measures: the rows, and the cells of the row, still to be looked at. A cell that fails makes its row fail, and the row the whole.
 -- Assumes nothing.
 use Prim.Native.Nat.{ℕ, ◌≤◌, ◌-◌}
-use mathlib.Core.Path.{◌≡◌, sym}
+use mathlib.Core.Path.{◌≡◌}
 use mathlib.Core.Bool.{true}
-use borrow.Author.Rules.{rules}
-use native.Mathlib.Omega.{arith}
 use Rattle.laws.specs.Bounded.{all_below}
-use Rattle.laws.proofs.Bounded.{all_none, all_more, all_end}
-use Rattle.automaton.proofs.AutomatonLaws.{cell_fails, cell_high, cell_low}
-use Rattle.automaton.specs.Automaton.{cell, cell_below, cells_below}
+use Rattle.automaton.specs.Automaton.{cell_below}
 use Rattle.cellsbelow.proofs.are_cells_below.Given as goal
 
 abbrev pub invariant-loop-a : goal.invariant-loop-a

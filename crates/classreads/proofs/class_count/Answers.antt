@@ -2,7 +2,6 @@
 -- Assumes nothing.
 use mathlib.Core.Path.{ap, ◌∙◌}
 use Prim.Native.Nat.{ℕ}
-use borrow.Author.Rules.{rules}
 use Rattle.laws.specs.Bounded.{sum_below}
 use Rattle.laws.specs.Bits.{bit}
 use Rattle.classes.specs.Backwards.{is_lowest, lowest_states}

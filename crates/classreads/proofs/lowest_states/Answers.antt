@@ -5,10 +5,9 @@
 use mathlib.Core.Path.{◌≡◌, sym, ap, ◌∙◌}
 use mathlib.Core.Bool.{Bool, not, cond, ◌&&◌}
 use mathlib.Core.List.{List}
-use Prim.Native.Nat.{ℕ, ◌+◌, ◌-◌, ◌*◌, ◌%◌, ◌^◌, ◌≤◌, ◌<◌}
+use Prim.Native.Nat.{ℕ, ◌+◌, ◌*◌, ◌%◌, ◌^◌, ◌<◌}
 use native.Mathlib.Numerals.{add-one}
 use native.Mathlib.Omega.{arith}
-use borrow.Author.Rules.{rules}
 use lib.Bits.{bit_and, bit_or}
 use Rattle.laws.specs.Bounded.{all_below}
 use Rattle.laws.specs.Bits.{has}
@@ -19,7 +18,7 @@ use Rattle.buffer.specs.Views.{class_row_in}
 use Rattle.classes.specs.Backwards.{is_lowest, lowest_states}
 use Rattle.tables.proofs.Complement.{has_complement}
 use Rattle.tables.proofs.SetLaws.{set_of_none, set_of_more, kept_bit}
-use Rattle.classreads.proofs.lowest_states.Invariants.{cleared, Looked}
+use Rattle.classreads.proofs.lowest_states.Invariants.{cleared}
 use Rattle.classreads.proofs.lowest_states.Goals as goal
 
 -- one test more

@@ -2,23 +2,15 @@
 -- Invariant: `out` is the lowest states below q, and `apart` the states told apart from every state below q.
 -- Measure: the states still to be looked at. Each turn keeps bit q of `apart`, then cuts `apart` by row q.
 -- Assumes nothing.
-use mathlib.Core.Path.{◌≡◌, sym, ap, ◌∙◌}
-use mathlib.Core.Bool.{Bool, not, cond, ◌&&◌}
+use mathlib.Core.Path.{◌≡◌}
+use mathlib.Core.Bool.{Bool}
 use mathlib.Core.List.{List}
-use Prim.Native.Nat.{ℕ, ◌+◌, ◌-◌, ◌*◌, ◌%◌, ◌^◌, ◌≤◌, ◌<◌}
-use native.Mathlib.Numerals.{add-one}
-use native.Mathlib.Omega.{arith}
-use borrow.Author.Rules.{rules}
-use lib.Bits.{bit_and, bit_or}
+use Prim.Native.Nat.{ℕ, ◌-◌, ◌≤◌, ◌<◌}
 use Rattle.laws.specs.Bounded.{all_below}
 use Rattle.laws.specs.Bits.{has}
-use Rattle.laws.proofs.Bounded.{all_none}
-use Rattle.laws.proofs.Bits.{has_empty, has_and}
 use Rattle.job.specs.Found.{set_of}
 use Rattle.buffer.specs.Views.{class_row_in}
-use Rattle.classes.specs.Backwards.{is_lowest, lowest_states}
-use Rattle.tables.proofs.Complement.{has_complement}
-use Rattle.tables.proofs.SetLaws.{set_of_none, set_of_more, kept_bit}
+use Rattle.classes.specs.Backwards.{is_lowest}
 use Rattle.classreads.proofs.lowest_states.Given as goal
 
 -- i is told apart from every state below q

@@ -1,6 +1,5 @@
 -- `classrows::class_row` meets its contract: the row is the number in its two bytes.
 -- Assumes nothing.
-use borrow.Author.Rules.{rules}
 use Rattle.buffer.specs.Views.{class_row_in}
 use Rattle.classrows.proofs.class_row.Goals as goal
 

@@ -1,12 +1,11 @@
 -- `classrows::class_rows` meets its contract.
 -- Invariant: the rows before p are those of the node. Measure: the rows still to be read.
 -- Assumes nothing.
-use Prim.Native.Nat.{ℕ, ◌-◌, ◌≤◌, ◌<◌}
-use mathlib.Core.Path.{◌≡◌, refl, ◌∙◌}
+use mathlib.Core.Path.{refl, ◌∙◌}
 use native.Mathlib.Nat.{not-suc-le-zero}
 use native.Mathlib.Omega.{arith}
 use borrow.Author.Rules.{rules}
-use lib.ListN.{length, get_or, length-set}
+use lib.ListN.{length-set}
 use Rattle.laws.proofs.Bounded.{fill_more, fill_done}
 use Rattle.buffer.specs.Views.{class_row_in}
 use Rattle.classrows.proofs.class_rows.Goals as goal

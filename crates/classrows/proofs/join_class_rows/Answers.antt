@@ -2,11 +2,9 @@
 -- Invariant: the rows below p are joined, `grown` of them grew, and nothing else is new.
 -- Measure: the rows still to be joined. Each turn is one step of `JoiningApart`.
 -- Assumes nothing.
-use Prim.Native.Nat.{◌-◌}
 use mathlib.Core.Path.{refl}
 use native.Mathlib.Omega.{arith}
-use borrow.Author.Rules.{rules}
-use Rattle.buffer.proofs.ClassRowLaws.{apart_left_small, JoiningApart, joining_none, joining_more, joining_end}
+use Rattle.buffer.proofs.ClassRowLaws.{apart_left_small, joining_none, joining_more, joining_end}
 use Rattle.classrows.proofs.join_class_rows.Goals as goal
 
 pub loop-p-init : goal.loop-p-init

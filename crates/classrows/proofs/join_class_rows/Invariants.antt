@@ -3,10 +3,7 @@
 -- Measure: the rows still to be joined. Each turn is one step of `JoiningApart`.
 -- Assumes nothing.
 use Prim.Native.Nat.{◌-◌}
-use mathlib.Core.Path.{refl}
-use native.Mathlib.Omega.{arith}
-use borrow.Author.Rules.{rules}
-use Rattle.buffer.proofs.ClassRowLaws.{apart_left_small, JoiningApart, joining_none, joining_more, joining_end}
+use Rattle.buffer.proofs.ClassRowLaws.{JoiningApart}
 use Rattle.classrows.proofs.join_class_rows.Given as goal
 
 abbrev pub invariant-loop-p : goal.invariant-loop-p

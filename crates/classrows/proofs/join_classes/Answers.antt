@@ -1,7 +1,6 @@
 -- `classrows::join_classes` meets its contract. Where the union is the row, storing it would change nothing; elsewhere the row grows.
 -- Assumes nothing.
 use native.Mathlib.Omega.{arith}
-use borrow.Author.Rules.{rules}
 use Rattle.buffer.proofs.ClassRowLaws.{apart_same, apart_grows}
 use Rattle.classrows.proofs.join_classes.Goals as goal
 

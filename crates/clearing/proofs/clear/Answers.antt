@@ -1,6 +1,5 @@
 -- `clearing::clear` meets its contract: the first 65,536 bytes are zero, and the rest as it was.
 -- Assumes nothing.
-use borrow.Author.Rules.{rules}
 use Rattle.buffer.proofs.ClearedLaws.{zeroed_cleared}
 use Rattle.clearing.proofs.clear.Goals as goal
 

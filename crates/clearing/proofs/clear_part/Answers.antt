@@ -2,10 +2,9 @@
 -- Invariant: the bytes from `from` up to i are zero and the others as they were. Measure: the bytes still to be cleared.
 -- Assumes nothing.
 use mathlib.Core.Path.{◌≡◌, subst}
-use Prim.Native.Nat.{ℕ, ◌-◌, ◌≤◌}
+use Prim.Native.Nat.{ℕ}
 use native.Mathlib.Nat.{le_refl}
 use native.Mathlib.Omega.{arith}
-use lib.ListN.{length}
 use borrow.Author.Rules.{rules}
 use Rattle.buffer.specs.Kept.{Zeroed}
 use Rattle.buffer.proofs.KeptLaws.{zeroed_none, zeroed_more}

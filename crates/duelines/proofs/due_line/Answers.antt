@@ -1,7 +1,6 @@
 -- `duelines::due_line` meets its contract: no such line, or a line whose fields decide.
 -- Assumes nothing.
 use native.Mathlib.Omega.{arith}
-use borrow.Author.Rules.{rules}
 use lib.ListN.{length-drop, drop}
 use Rattle.lines.proofs.LineLaws.{frame_length, due_none, due_fields}
 use Rattle.duelines.proofs.due_line.Goals as goal

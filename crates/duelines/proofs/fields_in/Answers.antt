@@ -1,11 +1,10 @@
 -- `duelines::fields_in` meets its contract.
 -- Invariant: the first k fields are numbers, which stand in order, and those past them are as they were. Measure: the fields still to be read.
 -- Assumes nothing.
-use Prim.Native.Nat.{◌≤◌, ◌-◌}
 use mathlib.Core.Path.{sym, ◌∙◌}
 use native.Mathlib.Omega.{arith}
 use borrow.Author.Rules.{rules}
-use Rattle.lines.proofs.LineLaws.{FieldsRead, fields_start, fields_more, fields_stop, fields_end}
+use Rattle.lines.proofs.LineLaws.{fields_start, fields_more, fields_stop, fields_end}
 use Rattle.duelines.proofs.fields_in.Goals as goal
 
 pub loop-k-init : goal.loop-k-init

@@ -2,10 +2,7 @@
 -- Invariant: the first k fields are numbers, which stand in order, and those past them are as they were. Measure: the fields still to be read.
 -- Assumes nothing.
 use Prim.Native.Nat.{◌≤◌, ◌-◌}
-use mathlib.Core.Path.{sym, ◌∙◌}
-use native.Mathlib.Omega.{arith}
-use borrow.Author.Rules.{rules}
-use Rattle.lines.proofs.LineLaws.{FieldsRead, fields_start, fields_more, fields_stop, fields_end}
+use Rattle.lines.proofs.LineLaws.{FieldsRead}
 use Rattle.duelines.proofs.fields_in.Given as goal
 
 abbrev pub invariant-loop-k : goal.invariant-loop-k

@@ -2,7 +2,6 @@
 -- Assumes nothing.
 use mathlib.Core.Path.{sym, ◌∙◌}
 use native.Mathlib.Omega.{arith}
-use borrow.Author.Rules.{rules}
 use lib.ListN.{drop}
 use Rattle.edgeline.proofs.EdgeLineLaws.{edge_limits, edge_stop, edge_fails, edge_passes}
 use Rattle.edgeline.proofs.edge_line.Goals as goal

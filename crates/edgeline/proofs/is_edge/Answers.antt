@@ -1,7 +1,6 @@
 -- `edgeline::is_edge` meets its contract: each test that fails denies one part, and past them edges ascend as their keys do.
 -- Assumes nothing.
 use native.Mathlib.Omega.{arith}
-use borrow.Author.Rules.{rules}
 use Rattle.edgeline.proofs.EdgeLineLaws.{edge_from, edge_to, edge_key}
 use Rattle.edgeline.proofs.is_edge.Goals as goal
 

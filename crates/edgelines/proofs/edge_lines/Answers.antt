@@ -2,12 +2,11 @@
 -- Invariant: the first e lines pass and their targets are stored; `next` is one more than the key of the last; the starts of the nodes up to its
 -- source are stored. Measure: the lines still to be read.
 -- Assumes nothing.
-use Prim.Native.Nat.{◌≤◌, ◌-◌}
 use mathlib.Core.Path.{◌∙◌}
 use native.Mathlib.Omega.{arith}
 use borrow.Author.Rules.{rules}
 use lib.ListN.{drop, length-drop}
-use Rattle.edgelines.proofs.EdgesLaws.{EdgesSoFar, edges_none, edges_stop, Edges-more, edges_end, done_reaches}
+use Rattle.edgelines.proofs.EdgesLaws.{edges_none, edges_stop, Edges-more, edges_end, done_reaches}
 use Rattle.edgelines.proofs.edge_lines.Goals as goal
 
 pub loop-e-init : goal.loop-e-init

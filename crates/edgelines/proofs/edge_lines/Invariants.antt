@@ -3,11 +3,8 @@
 -- source are stored. Measure: the lines still to be read.
 -- Assumes nothing.
 use Prim.Native.Nat.{◌≤◌, ◌-◌}
-use mathlib.Core.Path.{◌∙◌}
-use native.Mathlib.Omega.{arith}
-use borrow.Author.Rules.{rules}
-use lib.ListN.{drop, length-drop}
-use Rattle.edgelines.proofs.EdgesLaws.{EdgesSoFar, edges_none, edges_stop, Edges-more, edges_end, done_reaches}
+use lib.ListN.{drop}
+use Rattle.edgelines.proofs.EdgesLaws.{EdgesSoFar}
 use Rattle.edgelines.proofs.edge_lines.Given as goal
 
 abbrev pub invariant-loop-e : goal.invariant-loop-e

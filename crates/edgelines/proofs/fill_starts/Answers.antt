@@ -1,10 +1,9 @@
 -- `edgelines::fill_starts` meets its contract.
 -- Invariant: the starts from a up to j are v, and nothing else differs. Measure: the starts still to be stored.
 -- Assumes nothing.
-use Prim.Native.Nat.{◌≤◌, ◌-◌}
 use native.Mathlib.Omega.{arith}
 use borrow.Author.Rules.{rules}
-use Rattle.edgelines.proofs.StartLaws.{StartsSoFar, starts_none, Starts-more, starts_end}
+use Rattle.edgelines.proofs.StartLaws.{starts_none, Starts-more, starts_end}
 use Rattle.edgelines.proofs.fill_starts.Goals as goal
 
 pub loop-j-init : goal.loop-j-init

@@ -2,9 +2,7 @@
 -- Invariant: the starts from a up to j are v, and nothing else differs. Measure: the starts still to be stored.
 -- Assumes nothing.
 use Prim.Native.Nat.{◌≤◌, ◌-◌}
-use native.Mathlib.Omega.{arith}
-use borrow.Author.Rules.{rules}
-use Rattle.edgelines.proofs.StartLaws.{StartsSoFar, starts_none, Starts-more, starts_end}
+use Rattle.edgelines.proofs.StartLaws.{StartsSoFar}
 use Rattle.edgelines.proofs.fill_starts.Given as goal
 
 abbrev pub invariant-loop-j : goal.invariant-loop-j

@@ -1,12 +1,10 @@
 -- `exitrows::exit_rows` meets its contract.
 -- Invariant: what the words after the exits below n lead to is joined. Measure: the nodes still to be passed.
 -- Assumes nothing.
-use Prim.Native.Nat.{◌-◌}
 use mathlib.Core.Path.{sym}
 use native.Mathlib.Omega.{arith}
-use borrow.Author.Rules.{rules}
 use Rattle.tables.proofs.SixteenLaws.{empty_rows, empty_sixteen}
-use Rattle.exitrows.proofs.EndedLaws.{EndedSoFar, ended_start, ended_more, ended_end}
+use Rattle.exitrows.proofs.EndedLaws.{ended_start, ended_more, ended_end}
 use Rattle.exitrows.proofs.exit_rows.Goals as goal
 
 pub loop-n-init : goal.loop-n-init

@@ -2,8 +2,6 @@
 -- node are closed under the words of its set.
 -- Assumes nothing.
 use mathlib.Core.Path.{sym, ◌∙◌}
-use borrow.Author.Rules.{rules}
-use borrow.Author.Tests.{not-true, not-false}
 use Rattle.tables.proofs.SixteenLaws.{empty_rows, empty_sixteen}
 use Rattle.exitrows.proofs.EndedLaws.{ended_none, ended_empty, ended_joined}
 use Rattle.exitrows.proofs.join_ended.Goals as goal

@@ -2,7 +2,6 @@
 -- Assumes nothing.
 use mathlib.Core.Path.{sym, ◌∙◌}
 use native.Mathlib.Omega.{arith}
-use borrow.Author.Rules.{rules}
 use Rattle.exitrows.proofs.EndedLaws.{past_empty, past_below, past_joined}
 use Rattle.exitrows.proofs.join_past.Goals as goal
 

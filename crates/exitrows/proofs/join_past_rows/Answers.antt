@@ -1,11 +1,9 @@
 -- `exitrows::join_past_rows` meets its contract.
 -- Invariant: the rows below p are joined past the node. Measure: the rows still to be joined.
 -- Assumes nothing.
-use Prim.Native.Nat.{◌-◌}
 use mathlib.Core.Path.{sym, ◌∙◌}
 use native.Mathlib.Omega.{arith}
-use borrow.Author.Rules.{rules}
-use Rattle.exitrows.proofs.EndedLaws.{PastSoFar, past_start, Past-more, past_end}
+use Rattle.exitrows.proofs.EndedLaws.{past_start, Past-more, past_end}
 use Rattle.exitrows.proofs.join_past_rows.Goals as goal
 
 pub loop-p-init : goal.loop-p-init

@@ -2,10 +2,7 @@
 -- Invariant: the rows below p are joined past the node. Measure: the rows still to be joined.
 -- Assumes nothing.
 use Prim.Native.Nat.{◌-◌}
-use mathlib.Core.Path.{sym, ◌∙◌}
-use native.Mathlib.Omega.{arith}
-use borrow.Author.Rules.{rules}
-use Rattle.exitrows.proofs.EndedLaws.{PastSoFar, past_start, Past-more, past_end}
+use Rattle.exitrows.proofs.EndedLaws.{PastSoFar}
 use Rattle.exitrows.proofs.join_past_rows.Given as goal
 
 abbrev pub invariant-loop-p : goal.invariant-loop-p

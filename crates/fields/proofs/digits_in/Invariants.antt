@@ -1,10 +1,9 @@
 -- `fields::digits_in` meets its contract.
 -- Invariant: v is the value of the columns before i, which are digits, so it is below 10 to their number. Measure: the columns still to be seen.
 -- Assumes nothing.
-use Rattle.std.proofs.Common.{◌≡◌, ◌+◌, ◌-◌, ◌^◌, ◌<◌, ◌≤◌, refl, arith, rules}
+use Rattle.std.proofs.Common.{◌≡◌, ◌+◌, ◌-◌, ◌^◌, ◌<◌, ◌≤◌}
 use lib.Seq.{slice}
 use Rattle.lines.specs.Line.{digits_of}
-use Rattle.lines.proofs.FieldLaws.{digits_none, digits_more, digits_end, digit_lt, digits_few, few_none}
 use Rattle.fields.proofs.digits_in.Given as goal
 
 abbrev pub invariant-loop-i : goal.invariant-loop-i

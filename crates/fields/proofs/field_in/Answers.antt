@@ -1,6 +1,6 @@
 -- `fields::field_in` meets its contract: past the spaces stand no column, or digits to the end.
 -- Assumes nothing.
-use Rattle.std.proofs.Common.{◌∙◌, arith, rules}
+use Rattle.std.proofs.Common.{◌∙◌, arith}
 use Rattle.lines.proofs.FieldLaws.{field_spaces, field_digits}
 use Rattle.fields.proofs.field_in.Goals as goal
 

@@ -1,9 +1,7 @@
 -- `fields::past_spaces` meets its contract.
 -- Invariant: the columns before i are spaces, so the field is what the columns from i on hold. Measure: the columns still to be seen.
 -- Assumes nothing.
-use Rattle.std.proofs.Common.{◌≡◌, ◌+◌, ◌-◌, ◌≤◌, refl, arith, rules}
-use lib.Seq.{slice}
-use Rattle.lines.specs.Line.{field_of}
+use Rattle.std.proofs.Common.{refl, arith, rules}
 use Rattle.lines.proofs.FieldLaws.{past_space}
 use Rattle.fields.proofs.past_spaces.Goals as goal
 

@@ -2,7 +2,6 @@
 -- Assumes nothing.
 use Prim.Native.Nat.{◌+◌, ◌*◌}
 use native.Mathlib.Omega.{arith}
-use borrow.Author.Rules.{rules}
 use lib.ListN.{length-drop, drop}
 use Rattle.lines.proofs.LineLaws.{due_ends, due_short, due_letter, due_end_byte, due_frame, line_length_lem}
 use Rattle.frames.proofs.framed.Goals as goal

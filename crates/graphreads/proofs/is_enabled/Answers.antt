@@ -1,7 +1,6 @@
 -- `graphreads::is_enabled` meets its contract: the byte of an enabled node is 1.
 -- Assumes nothing.
 use mathlib.Core.Path.{refl}
-use borrow.Author.Rules.{rules}
 use Rattle.buffer.specs.Views.{enabled_in}
 use Rattle.graphreads.proofs.is_enabled.Goals as goal
 

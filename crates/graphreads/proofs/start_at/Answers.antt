@@ -1,6 +1,5 @@
 -- `graphreads::start_at` meets its contract: the index is the number in its two bytes.
 -- Assumes nothing.
-use borrow.Author.Rules.{rules}
 use Rattle.buffer.specs.Views.{start_in}
 use Rattle.graphreads.proofs.start_at.Goals as goal
 

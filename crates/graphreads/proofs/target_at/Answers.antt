@@ -1,6 +1,5 @@
 -- `graphreads::target_at` meets its contract: the end is the number in its two bytes.
 -- Assumes nothing.
-use borrow.Author.Rules.{rules}
 use Rattle.buffer.specs.Views.{target_in}
 use Rattle.graphreads.proofs.target_at.Goals as goal
 

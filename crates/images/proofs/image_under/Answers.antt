@@ -4,14 +4,14 @@
 -- Assumes nothing.
 use mathlib.Core.Path.{◌≡◌, sym, ◌∙◌}
 use mathlib.Core.List.{List}
-use Prim.Native.Nat.{ℕ, ◌+◌, ◌-◌, ◌≤◌, ◌<◌}
+use Prim.Native.Nat.{ℕ, ◌+◌, ◌-◌, ◌<◌}
 use native.Mathlib.Omega.{arith}
 use borrow.Author.Rules.{rules}
 use lib.Bits.{bit_and}
 use lib.Count.{count_trailing_zeros}
-use Rattle.laws.specs.Bits.{with, image}
+use Rattle.laws.specs.Bits.{with}
 use Rattle.laws.proofs.Image.{image_zero}
-use Rattle.laws.proofs.Walk.{Rest, rest_start, rest_lt, rest_next, image_next, image_end, clear_lt}
+use Rattle.laws.proofs.Walk.{rest_start, rest_lt, rest_next, image_next, image_end, clear_lt}
 use Rattle.automaton.specs.Automaton.{cell}
 use Rattle.tables.specs.Rows.{image_of}
 use Rattle.images.proofs.image_under.Invariants.{Walked}

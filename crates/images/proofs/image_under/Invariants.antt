@@ -2,18 +2,12 @@
 -- Invariant: `rest` is the members from some number on, and `out` is the image of those before it.
 -- Measure: the set that is left, as a number. Each turn is one step of the walk.
 -- Assumes nothing.
-use mathlib.Core.Path.{◌≡◌, sym, ◌∙◌}
+use mathlib.Core.Path.{◌≡◌}
 use mathlib.Core.List.{List}
-use Prim.Native.Nat.{ℕ, ◌+◌, ◌-◌, ◌≤◌, ◌<◌}
-use native.Mathlib.Omega.{arith}
-use borrow.Author.Rules.{rules}
-use lib.Bits.{bit_and}
-use lib.Count.{count_trailing_zeros}
-use Rattle.laws.specs.Bits.{with, image}
-use Rattle.laws.proofs.Image.{image_zero}
-use Rattle.laws.proofs.Walk.{Rest, rest_start, rest_lt, rest_next, image_next, image_end, clear_lt}
+use Prim.Native.Nat.{ℕ, ◌≤◌}
+use Rattle.laws.specs.Bits.{image}
+use Rattle.laws.proofs.Walk.{Rest}
 use Rattle.automaton.specs.Automaton.{cell}
-use Rattle.tables.specs.Rows.{image_of}
 use Rattle.images.proofs.image_under.Given as goal
 
 -- out is right for the members below the number passed

@@ -1,7 +1,6 @@
 -- `jobreader::read_job` meets its contract: a file that is too long, a J line that does not pass, or what the lines past it give.
 -- Assumes nothing.
 use mathlib.Core.Path.{refl}
-use borrow.Author.Rules.{rules}
 use Rattle.jobreader.proofs.ReadLaws.{long_read, head_refused, file_read}
 use Rattle.jobreader.proofs.read_job.Goals as goal
 

@@ -2,7 +2,6 @@
 -- Assumes nothing.
 use native.Mathlib.Omega.{arith}
 use Rattle.automaton.proofs.AutomatonLaws.{not_fit, fit_rest}
-use borrow.Author.Rules.{rules}
 use Rattle.limits.proofs.do_numbers_fit.Goals as goal
 
 pub returns-then-states-lt1 : goal.returns-then-states-lt1

@@ -1,6 +1,5 @@
 -- `linewriter::column` meets its contract: the test is that of `column_of`.
 -- Assumes nothing.
-use borrow.Author.Rules.{rules}
 use borrow.Author.Tests.{eq-eqb, ne_eqb}
 use Rattle.linewriter.proofs.column.Goals as goal
 

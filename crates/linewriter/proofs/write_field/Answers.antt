@@ -5,7 +5,7 @@
 use native.Mathlib.Omega.{arith}
 use lib.ListN.{length-set}
 use borrow.Author.Rules.{rules}
-use Rattle.linewriter.proofs.WriteLaws.{Columns, columns_start, columns_more, columns_end}
+use Rattle.linewriter.proofs.WriteLaws.{columns_start, columns_more, columns_end}
 use Rattle.linewriter.proofs.write_field.Goals as goal
 
 pub loop-k-init : goal.loop-k-init

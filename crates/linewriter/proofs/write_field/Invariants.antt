@@ -2,10 +2,7 @@
 -- Invariant: the columns from k on, of the five before the last, are stored, and the other k are due, of the digits that are left.
 -- Measure: the columns that are due.
 -- Assumes nothing.
-use native.Mathlib.Omega.{arith}
-use lib.ListN.{length-set}
-use borrow.Author.Rules.{rules}
-use Rattle.linewriter.proofs.WriteLaws.{Columns, columns_start, columns_more, columns_end}
+use Rattle.linewriter.proofs.WriteLaws.{Columns}
 use Rattle.linewriter.proofs.write_field.Given as goal
 
 abbrev pub invariant-loop-k : goal.invariant-loop-k

@@ -1,11 +1,9 @@
 -- `linewriter::write_fields` meets its contract.
 -- Invariant: the first k fields are stored, and storing the others leaves what storing all leaves. Measure: the fields that are due.
 -- Assumes nothing.
-use Prim.Native.Nat.{◌-◌}
 use native.Mathlib.Omega.{arith}
-use lib.ListN.{length}
 use borrow.Author.Rules.{rules}
-use Rattle.linewriter.proofs.WriteLaws.{Stored, each_fits, stored_start, stored_more, stored_end}
+use Rattle.linewriter.proofs.WriteLaws.{each_fits, stored_start, stored_more, stored_end}
 use Rattle.linewriter.proofs.write_fields.Goals as goal
 
 pub loop-k-init : goal.loop-k-init

@@ -2,10 +2,8 @@
 -- Invariant: the first k fields are stored, and storing the others leaves what storing all leaves. Measure: the fields that are due.
 -- Assumes nothing.
 use Prim.Native.Nat.{◌-◌}
-use native.Mathlib.Omega.{arith}
 use lib.ListN.{length}
-use borrow.Author.Rules.{rules}
-use Rattle.linewriter.proofs.WriteLaws.{Stored, each_fits, stored_start, stored_more, stored_end}
+use Rattle.linewriter.proofs.WriteLaws.{Stored}
 use Rattle.linewriter.proofs.write_fields.Given as goal
 
 abbrev pub invariant-loop-k : goal.invariant-loop-k

@@ -2,7 +2,6 @@
 -- Assumes nothing.
 use native.Mathlib.Omega.{arith}
 use lib.ListN.{length-set}
-use borrow.Author.Rules.{rules}
 use Rattle.linewriter.proofs.WriteLaws.{Fields-keep, line_stored}
 use Rattle.linewriter.proofs.write_line.Goals as goal
 

@@ -3,7 +3,6 @@
 use native.Mathlib.Numerals.{towards_numerals}
 use native.Mathlib.Omega.{arith}
 use Rattle.laws.specs.Bytes.{number_at}
-use borrow.Author.Rules.{rules}
 use Rattle.loads.proofs.read_pair.Goals as goal
 
 pub returns : goal.returns

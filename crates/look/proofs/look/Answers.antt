@@ -2,7 +2,6 @@
 -- No loop: each return is one law of `LookLaws`, from what was read of the row (`RowRead`) and, past the call word, from the row past
 -- the node (`RowMoved`).
 -- Assumes nothing.
-use borrow.Author.Rules.{rules}
 use native.Mathlib.Omega.{arith}
 use Rattle.look.proofs.LookLaws.{RowRead, RowMoved, spread_told, look_empty, look_word, look_long, look_small, look_point, look_exit}
 use Rattle.look.proofs.look.Goals as goal

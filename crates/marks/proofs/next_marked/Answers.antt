@@ -2,9 +2,7 @@
 -- Invariant: no node from the first up to `next` has marks.
 -- Measure: the nodes still to be passed.
 -- Assumes nothing.
-use Prim.Native.Nat.{◌-◌}
-use borrow.Author.Rules.{rules}
-use Rattle.tables.proofs.TableLaws.{Unmarked, unmarked_start, unmarked_more, next_here, next_none}
+use Rattle.tables.proofs.TableLaws.{unmarked_start, unmarked_more, next_here, next_none}
 use Rattle.marks.proofs.next_marked.Goals as goal
 
 pub loop-next-init : goal.loop-next-init

@@ -3,8 +3,7 @@
 -- Measure: the nodes still to be passed.
 -- Assumes nothing.
 use Prim.Native.Nat.{◌-◌}
-use borrow.Author.Rules.{rules}
-use Rattle.tables.proofs.TableLaws.{Unmarked, unmarked_start, unmarked_more, next_here, next_none}
+use Rattle.tables.proofs.TableLaws.{Unmarked}
 use Rattle.marks.proofs.next_marked.Given as goal
 
 abbrev pub invariant-loop-next : goal.invariant-loop-next

@@ -1,7 +1,6 @@
 -- `marks::take_marks` meets its contract: the marks of the node are read, then stored as none.
 -- Assumes nothing.
 use native.Mathlib.Omega.{arith}
-use borrow.Author.Rules.{rules}
 use Rattle.tables.proofs.TableLaws.{marks_taken}
 use Rattle.marks.proofs.take_marks.Goals as goal
 

@@ -2,7 +2,6 @@
 -- At a shadow by the symbol that stands there, at any other node by its own row.
 -- Assumes nothing.
 use mathlib.Core.Path.{sym, ◌∙◌}
-use borrow.Author.Rules.{rules}
 use Rattle.classes.proofs.ClassLaws.{before_shadow, before_other}
 use Rattle.nextrows.proofs.before_row.Goals as goal
 

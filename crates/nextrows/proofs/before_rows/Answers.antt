@@ -1,12 +1,11 @@
 -- `nextrows::before_rows` meets its contract.
 -- Invariant: the rows before p are those before the node. Measure: the rows still to be made.
 -- Assumes nothing.
-use Prim.Native.Nat.{ℕ, ◌-◌, ◌≤◌, ◌<◌}
-use mathlib.Core.Path.{◌≡◌, refl, ◌∙◌}
+use mathlib.Core.Path.{refl, ◌∙◌}
 use native.Mathlib.Nat.{not-suc-le-zero}
 use native.Mathlib.Omega.{arith}
 use borrow.Author.Rules.{rules}
-use lib.ListN.{length, get_or, length-set}
+use lib.ListN.{length-set}
 use Rattle.laws.proofs.Bounded.{fill_more, fill_done}
 use Rattle.classes.specs.Classes.{before_row}
 use Rattle.nextrows.proofs.before_rows.Goals as goal

@@ -2,12 +2,8 @@
 -- Invariant: the rows before p are those before the node. Measure: the rows still to be made.
 -- Assumes nothing.
 use Prim.Native.Nat.{ℕ, ◌-◌, ◌≤◌, ◌<◌}
-use mathlib.Core.Path.{◌≡◌, refl, ◌∙◌}
-use native.Mathlib.Nat.{not-suc-le-zero}
-use native.Mathlib.Omega.{arith}
-use borrow.Author.Rules.{rules}
-use lib.ListN.{length, get_or, length-set}
-use Rattle.laws.proofs.Bounded.{fill_more, fill_done}
+use mathlib.Core.Path.{◌≡◌}
+use lib.ListN.{length, get_or}
 use Rattle.classes.specs.Classes.{before_row}
 use Rattle.nextrows.proofs.before_rows.Given as goal
 

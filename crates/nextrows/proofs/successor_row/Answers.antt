@@ -2,12 +2,11 @@
 -- Invariant: `out` has the states told apart before the ends of the edges below i.
 -- Measure: the edges still to be passed.
 -- Assumes nothing.
-use Prim.Native.Nat.{suc, ◌-◌, ◌<◌, ◌≤◌}
+use Prim.Native.Nat.{suc, ◌<◌, ◌≤◌}
 use native.Mathlib.Numerals.{add-one}
 use native.Mathlib.Omega.{arith}
-use borrow.Author.Rules.{rules}
 use Rattle.buffer.specs.Views.{start_in}
-use Rattle.classes.proofs.ClassLaws.{NextSoFar, next_start, next_more, next_end}
+use Rattle.classes.proofs.ClassLaws.{next_start, next_more, next_end}
 use Rattle.nextrows.proofs.successor_row.Goals as goal
 
 pub loop-i-init : goal.loop-i-init

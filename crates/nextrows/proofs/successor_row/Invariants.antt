@@ -2,12 +2,8 @@
 -- Invariant: `out` has the states told apart before the ends of the edges below i.
 -- Measure: the edges still to be passed.
 -- Assumes nothing.
-use Prim.Native.Nat.{suc, ◌-◌, ◌<◌, ◌≤◌}
-use native.Mathlib.Numerals.{add-one}
-use native.Mathlib.Omega.{arith}
-use borrow.Author.Rules.{rules}
-use Rattle.buffer.specs.Views.{start_in}
-use Rattle.classes.proofs.ClassLaws.{NextSoFar, next_start, next_more, next_end}
+use Prim.Native.Nat.{◌-◌}
+use Rattle.classes.proofs.ClassLaws.{NextSoFar}
 use Rattle.nextrows.proofs.successor_row.Given as goal
 
 abbrev pub invariant-loop-i : goal.invariant-loop-i

@@ -1,7 +1,6 @@
 -- `nodeline::node_line` meets its contract: nothing or no line, numbers that do not pass, or a node that is stored.
 -- Assumes nothing.
 use mathlib.Core.Path.{sym, ◌∙◌}
-use borrow.Author.Rules.{rules}
 use lib.ListN.{drop}
 use Rattle.nodetest.proofs.NodeTestLaws.{node_fits}
 use Rattle.nodeline.proofs.NodeLineLaws.{node_stop, node_fails, node_passes}

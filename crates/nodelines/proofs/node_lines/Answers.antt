@@ -1,12 +1,11 @@
 -- `nodelines::node_lines` meets its contract.
 -- Invariant: the first n lines pass, their nodes are stored, and sum is that of their entry sets. Measure: the lines still to be read.
 -- Assumes nothing.
-use Prim.Native.Nat.{◌≤◌, ◌-◌}
 use mathlib.Core.Path.{◌∙◌}
 use native.Mathlib.Omega.{arith}
 use borrow.Author.Rules.{rules}
 use lib.ListN.{drop, length-drop}
-use Rattle.nodelines.proofs.NodesLaws.{NodesSoFar, nodes_none, nodes_more, nodes_stop, nodes_end}
+use Rattle.nodelines.proofs.NodesLaws.{nodes_none, nodes_more, nodes_stop, nodes_end}
 use Rattle.nodelines.proofs.node_lines.Goals as goal
 
 pub loop-n-init : goal.loop-n-init

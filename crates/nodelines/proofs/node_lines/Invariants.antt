@@ -2,11 +2,8 @@
 -- Invariant: the first n lines pass, their nodes are stored, and sum is that of their entry sets. Measure: the lines still to be read.
 -- Assumes nothing.
 use Prim.Native.Nat.{◌≤◌, ◌-◌}
-use mathlib.Core.Path.{◌∙◌}
-use native.Mathlib.Omega.{arith}
-use borrow.Author.Rules.{rules}
-use lib.ListN.{drop, length-drop}
-use Rattle.nodelines.proofs.NodesLaws.{NodesSoFar, nodes_none, nodes_more, nodes_stop, nodes_end}
+use lib.ListN.{drop}
+use Rattle.nodelines.proofs.NodesLaws.{NodesSoFar}
 use Rattle.nodelines.proofs.node_lines.Given as goal
 
 abbrev pub invariant-loop-n : goal.invariant-loop-n

@@ -1,14 +1,11 @@
 -- `nodereads::any_reentrant` meets its contract.
 -- Invariant: none of the nodes below n may come back in. Measure: the nodes still to be looked at.
 -- Assumes nothing.
-use mathlib.Core.Path.{◌≡◌, sym, ◌∙◌}
+use mathlib.Core.Path.{◌≡◌}
 use mathlib.Core.Bool.{Bool, false}
 use mathlib.Core.List.{List}
 use Prim.Native.Nat.{ℕ, ◌-◌}
-use native.Mathlib.Omega.{arith}
-use borrow.Author.Rules.{rules}
 use Rattle.laws.specs.Bounded.{any_below}
-use Rattle.laws.proofs.Bounded.{any_none, any_more, any_of, any_end}
 use Rattle.job.specs.Job.{is_reentrant}
 use Rattle.buffer.specs.Views.{node_in}
 use Rattle.nodereads.proofs.any_reentrant.Given as goal

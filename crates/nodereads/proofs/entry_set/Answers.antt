@@ -1,6 +1,5 @@
 -- `nodereads::entry_set` meets its contract: the set is the number in its two bytes.
 -- Assumes nothing.
-use borrow.Author.Rules.{rules}
 use Rattle.buffer.specs.Views.{node_in}
 use Rattle.nodereads.proofs.entry_set.Goals as goal
 

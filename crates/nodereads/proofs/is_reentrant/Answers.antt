@@ -6,7 +6,6 @@ use native.Mathlib.Omega.{arith}
 use lib.Dec.{ltb}
 use lib.ListN.{get_or}
 use borrow.Author.Tests.{lt-ltb}
-use borrow.Author.Rules.{rules}
 use Rattle.laws.specs.Bytes.{number_at}
 use Rattle.job.specs.Job.{kind_of, is_reentrant}
 use Rattle.buffer.specs.Views.{node_in}

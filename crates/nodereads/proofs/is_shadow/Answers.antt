@@ -6,7 +6,6 @@ use native.Mathlib.Omega.{arith}
 use lib.Dec.{eqb}
 use lib.ListN.{get_or}
 use borrow.Author.Tests.{ne_eqb}
-use borrow.Author.Rules.{rules}
 use Rattle.laws.specs.Bytes.{number_at}
 use Rattle.job.specs.Job.{kind_of}
 use Rattle.buffer.specs.Views.{node_in}

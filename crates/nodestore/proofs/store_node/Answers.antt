@@ -1,7 +1,6 @@
 -- `nodestore::store_node` meets its contract: each number is read back from its own bytes, and no other byte differs.
 -- Assumes nothing.
 use native.Mathlib.Omega.{arith}
-use borrow.Author.Rules.{rules}
 use lib.ListN.{length-set}
 use Rattle.nodestore.proofs.NodeLaws.{node_stored}
 use Rattle.nodestore.proofs.store_node.Goals as goal

@@ -1,7 +1,6 @@
 -- `nodetest::is_node` meets its contract: each test that fails denies one part of `good_node`.
 -- Assumes nothing.
 use mathlib.Core.Path.{sym, ◌∙◌}
-use borrow.Author.Rules.{rules}
 use Rattle.nodetest.proofs.NodeTestLaws.{node_place, node_value, node_entries, node_exits, node_after, node_exit, node_inner}
 use Rattle.nodetest.proofs.is_node.Goals as goal
 

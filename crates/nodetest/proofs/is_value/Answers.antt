@@ -2,7 +2,6 @@
 -- Assumes nothing.
 use mathlib.Core.Path.{sym}
 use native.Mathlib.Omega.{arith}
-use borrow.Author.Rules.{rules}
 use Rattle.nodetest.proofs.NodeTestLaws.{value_set, value_none}
 use Rattle.nodetest.proofs.is_value.Goals as goal
 

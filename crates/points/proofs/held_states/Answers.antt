@@ -5,18 +5,16 @@ use mathlib.Core.Path.{◌≡◌, sym, ap, ◌∙◌}
 use mathlib.Core.Logic.{◌≢◌}
 use mathlib.Core.Bool.{Bool, not, cond}
 use mathlib.Core.List.{List}
-use Prim.Native.Nat.{ℕ, ◌+◌, ◌-◌, ◌^◌, ◌≤◌}
+use Prim.Native.Nat.{ℕ, ◌+◌, ◌^◌}
 use native.Mathlib.Omega.{arith}
-use borrow.Author.Rules.{rules}
 use borrow.Author.Tests.{eq-eqb, ne_eqb}
-use lib.Dec.{eqb}
 use lib.Bits.{or_zero_r}
 use Rattle.laws.specs.Bits.{with}
 use Rattle.job.specs.Found.{set_of}
 use Rattle.buffer.specs.Views.{pair_row_in}
 use Rattle.classes.specs.Backwards.{held_states}
 use Rattle.tables.proofs.SetLaws.{set_of_none, set_of_more}
-use Rattle.points.proofs.held_states.Invariants.{holds, Looked}
+use Rattle.points.proofs.held_states.Invariants.{holds}
 use Rattle.points.proofs.held_states.Goals as goal
 use Rattle.points.proofs.held_states.Goals.{then-pair_row-ne0, else-pair_row-ne0}
 

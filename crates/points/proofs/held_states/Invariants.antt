@@ -1,21 +1,13 @@
 -- `points::held_states` meets its contract.
 -- Invariant: `out` is the states below q whose rows hold pairs. Measure: the states still to be looked at.
 -- Assumes nothing.
-use mathlib.Core.Path.{◌≡◌, sym, ap, ◌∙◌}
-use mathlib.Core.Logic.{◌≢◌, ⊎_elim}
-use mathlib.Core.Bool.{Bool, not, cond}
+use mathlib.Core.Path.{◌≡◌}
+use mathlib.Core.Bool.{Bool, not}
 use mathlib.Core.List.{List}
-use Prim.Native.Nat.{ℕ, ◌+◌, ◌-◌, ◌^◌, ◌≤◌}
-use native.Mathlib.Omega.{arith}
-use borrow.Author.Rules.{rules}
-use borrow.Author.Tests.{eq-eqb, ne_eqb}
+use Prim.Native.Nat.{ℕ, ◌-◌, ◌≤◌}
 use lib.Dec.{eqb}
-use lib.Bits.{or_zero_r}
-use Rattle.laws.specs.Bits.{with}
 use Rattle.job.specs.Found.{set_of}
 use Rattle.buffer.specs.Views.{pair_row_in}
-use Rattle.classes.specs.Backwards.{held_states}
-use Rattle.tables.proofs.SetLaws.{set_of_none, set_of_more}
 use Rattle.points.proofs.held_states.Given as goal
 
 -- the row of q holds pairs

@@ -2,24 +2,9 @@
 -- Invariant: `rest` is the members from some number on, and the mark holds for the members before it.
 -- Measure: the set that is left, as a number. Each turn is one step of the walk; a member without the mark ends it.
 -- Assumes nothing.
-use mathlib.Core.Path.{◌≡◌, sym}
-use mathlib.Core.Logic.{⊎_elim}
-use mathlib.Core.Bool.{Bool, true, false}
-use mathlib.Core.List.{List}
-use Prim.Native.Nat.{ℕ, ◌+◌, ◌-◌, ◌<◌}
-use native.Mathlib.Nat.{not-suc-le-zero}
+use mathlib.Core.Bool.{true, false}
 use native.Mathlib.Omega.{arith}
-use borrow.Author.Rules.{rules}
-use lib.Bits.{bit_and}
-use lib.Count.{count_trailing_zeros}
-use Rattle.laws.specs.Bits.{has}
-use Rattle.laws.proofs.Tests.{passes_or_fails}
-use Rattle.laws.proofs.Bounded.{all_of, all_fails}
-use Rattle.laws.proofs.Walk.{Rest, rest_start, rest_low, rest_lt, rest_next, members_more, members_end, clear_lt}
-use Rattle.automaton.specs.Automaton.{cell}
-use Rattle.buffer.specs.Views.{class_row_in}
-use Rattle.classes.specs.Backwards.{is_nop}
-use Rattle.classes.proofs.FoundLaws.{mark, mark_other}
+use Rattle.laws.proofs.Walk.{rest_lt, clear_lt}
 use Rattle.points.proofs.is_nop.Invariants.{walk_start, turn, end_final, end_apart, end_all}
 use Rattle.points.proofs.is_nop.Goals as goal
 

@@ -8,14 +8,12 @@ use mathlib.Core.Bool.{Bool, true, false}
 use mathlib.Core.List.{List}
 use Prim.Native.Nat.{ℕ, ◌+◌, ◌-◌, ◌<◌}
 use native.Mathlib.Nat.{not-suc-le-zero}
-use native.Mathlib.Omega.{arith}
-use borrow.Author.Rules.{rules}
 use lib.Bits.{bit_and}
 use lib.Count.{count_trailing_zeros}
 use Rattle.laws.specs.Bits.{has}
 use Rattle.laws.proofs.Tests.{passes_or_fails}
 use Rattle.laws.proofs.Bounded.{all_of, all_fails}
-use Rattle.laws.proofs.Walk.{Rest, rest_start, rest_low, rest_lt, rest_next, members_more, members_end, clear_lt}
+use Rattle.laws.proofs.Walk.{Rest, rest_start, rest_low, rest_lt, rest_next, members_more, members_end}
 use Rattle.automaton.specs.Automaton.{cell}
 use Rattle.buffer.specs.Views.{class_row_in}
 use Rattle.classes.specs.Backwards.{is_nop}

@@ -2,7 +2,6 @@
 -- Assumes nothing.
 use mathlib.Core.Path.{sym}
 use Rattle.events.proofs.MonitorLaws.{raised_rises, raised_stays}
-use borrow.Author.Rules.{rules}
 use Rattle.raising.proofs.raise.Goals as goal
 
 pub returns-then-alarms-lt18446744073709551615 : goal.returns-then-alarms-lt18446744073709551615

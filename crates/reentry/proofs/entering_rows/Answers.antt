@@ -1,12 +1,10 @@
 -- `reentry::entering_rows` meets its contract.
 -- Invariant: the rows of the calls below n are joined. Measure: the nodes still to be passed.
 -- Assumes nothing.
-use Prim.Native.Nat.{◌-◌}
 use mathlib.Core.Path.{sym}
 use native.Mathlib.Omega.{arith}
-use borrow.Author.Rules.{rules}
 use Rattle.tables.proofs.SixteenLaws.{empty_rows, empty_sixteen}
-use Rattle.reentry.proofs.ReentryLaws.{EnteringSoFar, entering_start, entering_more, entering_end}
+use Rattle.reentry.proofs.ReentryLaws.{entering_start, entering_more, entering_end}
 use Rattle.reentry.proofs.entering_rows.Goals as goal
 
 pub loop-n-init : goal.loop-n-init

@@ -2,11 +2,9 @@
 -- Invariant: the rows below p are joined, and nothing else is new.
 -- Measure: the rows still to be joined. Each turn is one step of `JoiningRows`.
 -- Assumes nothing.
-use Prim.Native.Nat.{◌-◌}
 use native.Mathlib.Omega.{arith}
 use mathlib.Core.Path.{refl}
-use borrow.Author.Rules.{rules}
-use Rattle.successors.proofs.SuccessorLaws.{JoiningRows, rows_start, rows_joined, rows_end}
+use Rattle.successors.proofs.SuccessorLaws.{rows_start, rows_joined, rows_end}
 use Rattle.reentry.proofs.join_at.Goals as goal
 
 pub loop-p-init : goal.loop-p-init

@@ -1,15 +1,9 @@
 -- `reentry::join_entering` meets its contract.
 -- Invariant: the rows of the node below p are joined. Measure: the rows still to be joined.
 -- Assumes nothing.
-use Prim.Native.Nat.{ℕ, ◌-◌}
 use mathlib.Core.Path.{sym, ◌∙◌}
 use native.Mathlib.Omega.{arith}
-use borrow.Author.Rules.{rules}
-use borrow.Author.Tests.{not-true, not-false}
-use Rattle.buffer.specs.Views.{pair_row_in}
-use Rattle.tables.specs.Sixteen.{Sixteen}
-use Rattle.relation.specs.Union.{Union, Below}
-use Rattle.relation.proofs.UnionLaws.{AtRow, union_start, union_more}
+use Rattle.relation.proofs.UnionLaws.{union_start, union_more}
 use Rattle.reentry.proofs.ReentryLaws.{entering_none, entering_row, entering_all}
 use Rattle.reentry.proofs.join_entering.Goals as goal
 

@@ -2,13 +2,9 @@
 -- Invariant: the rows are joined at the nodes below n that are an entry. Measure: the nodes still to be passed.
 -- Assumes nothing.
 use Prim.Native.Nat.{ℕ, ◌-◌}
-use mathlib.Core.Path.{ap}
-use native.Mathlib.Omega.{arith}
-use borrow.Author.Rules.{rules}
-use Rattle.job.specs.Job.{is_entry, Node}
+use Rattle.job.specs.Job.{is_entry}
 use Rattle.buffer.specs.Views.{node_in}
-use Rattle.tables.proofs.KeptLaws.{node_same}
-use Rattle.reentry.proofs.ReentryLaws.{JoiningWhere, where_start, where_more, where_end}
+use Rattle.reentry.proofs.ReentryLaws.{JoiningWhere}
 use Rattle.reentry.proofs.join_entries.Given as goal
 
 abbrev pub invariant-loop-n : goal.invariant-loop-n

@@ -1,8 +1,6 @@
 -- `reentry::join_entry` meets its contract: a node that is not an entry joins nothing.
 -- Assumes nothing.
 use mathlib.Core.Path.{sym, ◌∙◌}
-use borrow.Author.Rules.{rules}
-use borrow.Author.Tests.{not-true, not-false}
 use Rattle.reentry.proofs.ReentryLaws.{if_not, if_so}
 use Rattle.reentry.proofs.join_entry.Goals as goal
 

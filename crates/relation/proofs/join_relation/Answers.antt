@@ -1,14 +1,11 @@
 -- `relation::join_relation` meets its contract.
 -- Invariant: the rows below p are joined. Measure: the rows still to be joined.
 -- Assumes nothing.
-use Prim.Native.Nat.{ℕ, ◌-◌}
+use Prim.Native.Nat.{ℕ}
 use mathlib.Core.Path.{sym, ◌∙◌}
 use native.Mathlib.Omega.{arith}
-use borrow.Author.Rules.{rules}
 use lib.ListN.{get_or}
-use Rattle.tables.specs.Sixteen.{Sixteen}
-use Rattle.relation.specs.Union.{Union, Below}
-use Rattle.relation.proofs.UnionLaws.{AtRow, union_row, union_start, union_more, union_rows}
+use Rattle.relation.proofs.UnionLaws.{union_row, union_start, union_more, union_rows}
 use Rattle.relation.proofs.join_relation.Goals as goal
 
 pub loop-p-init : goal.loop-p-init

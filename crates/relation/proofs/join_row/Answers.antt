@@ -1,7 +1,6 @@
 -- `relation::join_row` meets its contract. Where the union is the row nothing is stored; elsewhere the row grows.
 -- Assumes nothing.
 use native.Mathlib.Omega.{arith}
-use borrow.Author.Rules.{rules}
 use Rattle.tables.proofs.SixteenLaws.{row_same, row_grows}
 use Rattle.relation.proofs.join_row.Goals as goal
 

@@ -3,15 +3,12 @@
 -- are closed but for its edges, and `rows` has their pairs past the node, which the edges then get.
 -- Measure: the nodes, and within a node the set of rows, still to be looked at.
 -- Assumes nothing.
-use Prim.Native.Nat.{◌-◌}
-use mathlib.Core.Path.{◌≡◌, refl, sym, subst, ◌∙◌}
+use mathlib.Core.Path.{refl, sym, subst, ◌∙◌}
 use native.Mathlib.Omega.{arith}
-use borrow.Author.Rules.{rules}
 use Rattle.laws.proofs.Walk.{clear_lt}
 use Rattle.tables.proofs.KeptLaws.{usable_same}
 use Rattle.tables.proofs.SixteenLaws.{empty_rows, empty_row}
-use Rattle.rounds.specs.declared.Seen.TheVariants.{Rows}
-use Rattle.rounds.proofs.RoundLaws.{RowsSoFar, rows_none, row_small, rows_more, node_looked}
+use Rattle.rounds.proofs.RoundLaws.{rows_none, row_small, rows_more, node_looked}
 use Rattle.rounds.proofs.RoundLaws.{RoundSoFar, round_none, round_more, round_split, round_end}
 use Rattle.rounds.proofs.round.Goals as goal
 

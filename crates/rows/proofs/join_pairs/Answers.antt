@@ -2,7 +2,6 @@
 -- by more than the mark adds.
 -- Assumes nothing.
 use native.Mathlib.Omega.{arith}
-use borrow.Author.Rules.{rules}
 use Rattle.tables.proofs.TableLaws.{pairs_same, pairs_grow}
 use Rattle.rows.proofs.join_pairs.Goals as goal
 

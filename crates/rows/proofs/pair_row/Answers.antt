@@ -1,6 +1,5 @@
 -- `rows::pair_row` meets its contract: the row is the number in its two bytes.
 -- Assumes nothing.
-use borrow.Author.Rules.{rules}
 use Rattle.buffer.specs.Views.{pair_row_in}
 use Rattle.rows.proofs.pair_row.Goals as goal
 

@@ -1,6 +1,5 @@
 -- `ruleline::rule_line` meets its contract: nothing or no line, one of the three tests fails, or a row that is stored.
 -- Assumes nothing.
-use borrow.Author.Rules.{rules}
 use lib.ListN.{drop}
 use Rattle.ruleline.proofs.RuleLineLaws.{rule_stop, rule_place, rule_mark, rule_cells, cells_small, rule_passes}
 use Rattle.ruleline.proofs.rule_line.Goals as goal

@@ -2,11 +2,8 @@
 -- Invariant: the first q lines pass, their rows are stored, and finals is the set of their final states. Measure: the lines still to be read.
 -- Assumes nothing.
 use Prim.Native.Nat.{◌≤◌, ◌-◌}
-use mathlib.Core.Path.{◌∙◌}
-use native.Mathlib.Omega.{arith}
-use borrow.Author.Rules.{rules}
-use lib.ListN.{drop, length-drop}
-use Rattle.rulelines.proofs.RulesLaws.{RulesSoFar, rules_none, rules_more, rules_stop, rules_end}
+use lib.ListN.{drop}
+use Rattle.rulelines.proofs.RulesLaws.{RulesSoFar}
 use Rattle.rulelines.proofs.rule_lines.Given as goal
 
 abbrev pub invariant-loop-q : goal.invariant-loop-q

@@ -1,7 +1,6 @@
 -- `rulereads::table_in` meets its contract: the table of the rule's part of the buffer.
 -- Assumes nothing.
 use Rattle.buffer.specs.Views.{rule_rows_in}
-use borrow.Author.Rules.{rules}
 use Rattle.rulereads.proofs.table_in.Goals as goal
 
 pub returns : goal.returns

@@ -1,15 +1,14 @@
 -- `rulestore::are_below` meets its contract.
 -- Invariant: the first c next states are below S. Measure: the next states still to be looked at.
 -- Assumes nothing.
-use Prim.Native.Nat.{ℕ, ◌+◌, ◌≤◌, ◌-◌}
-use mathlib.Core.Path.{◌≡◌, sym}
+use Prim.Native.Nat.{ℕ, ◌+◌}
+use mathlib.Core.Path.{sym}
 use mathlib.Core.Bool.{true}
 use native.Mathlib.Omega.{arith}
 use borrow.Author.Rules.{rules}
 use borrow.Author.Tests.{lt-ltb, le-ltb}
 use lib.Dec.{ltb}
 use lib.ListN.{get_or}
-use Rattle.laws.specs.Bounded.{all_below}
 use Rattle.laws.proofs.Bounded.{all_none, all_more, all_end, all_fails}
 use Rattle.rulestore.proofs.are_below.Goals as goal
 

@@ -1,14 +1,12 @@
 -- `rulestore::clear_rule` meets its contract.
 -- Invariant: the first k bytes of the part are zero, and nothing else differs. Measure: the bytes still to be cleared.
 -- Assumes nothing.
-use Prim.Native.Nat.{ℕ, ◌+◌, ◌≤◌, ◌<◌, ◌-◌}
-use mathlib.Core.Path.{◌≡◌, refl}
+use Prim.Native.Nat.{◌+◌}
+use mathlib.Core.Path.{refl}
 use native.Mathlib.Nat.{not-suc-le-zero}
 use native.Mathlib.Omega.{arith}
 use borrow.Author.Rules.{rules}
-use lib.ListN.{get_or}
-use Rattle.buffer.specs.Layout.{rule_part, marks_part, Lent}
-use Rattle.buffer.specs.Kept.{SameOutside}
+use Rattle.buffer.specs.Layout.{rule_part, marks_part}
 use Rattle.buffer.proofs.KeptLaws.{kept_none}
 use Rattle.rulestore.proofs.RuleLaws.{bytes_more, part_more}
 use Rattle.rulestore.proofs.clear_rule.Goals as goal

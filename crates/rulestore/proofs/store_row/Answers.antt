@@ -1,11 +1,10 @@
 -- `rulestore::store_row` meets its contract.
 -- Invariant: the first c cells of the row are stored, and nothing else differs. Measure: the cells still to be stored.
 -- Assumes nothing.
-use Prim.Native.Nat.{◌≤◌, ◌-◌}
 use mathlib.Core.Path.{refl}
 use native.Mathlib.Omega.{arith}
 use borrow.Author.Rules.{rules}
-use Rattle.rulestore.proofs.RuleLaws.{CellsStored, cells_none, cells_more, cells_end}
+use Rattle.rulestore.proofs.RuleLaws.{cells_none, cells_more, cells_end}
 use Rattle.rulestore.proofs.store_row.Goals as goal
 
 pub loop-c-init : goal.loop-c-init

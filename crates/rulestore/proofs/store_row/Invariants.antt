@@ -2,10 +2,7 @@
 -- Invariant: the first c cells of the row are stored, and nothing else differs. Measure: the cells still to be stored.
 -- Assumes nothing.
 use Prim.Native.Nat.{◌≤◌, ◌-◌}
-use mathlib.Core.Path.{refl}
-use native.Mathlib.Omega.{arith}
-use borrow.Author.Rules.{rules}
-use Rattle.rulestore.proofs.RuleLaws.{CellsStored, cells_none, cells_more, cells_end}
+use Rattle.rulestore.proofs.RuleLaws.{CellsStored}
 use Rattle.rulestore.proofs.store_row.Given as goal
 
 abbrev pub invariant-loop-c : goal.invariant-loop-c

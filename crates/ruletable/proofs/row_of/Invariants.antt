@@ -2,13 +2,8 @@
 -- Invariant: the cells before a are the bytes from the row's start on. Measure: the cells still to be filled.
 -- Assumes nothing.
 use Prim.Native.Nat.{ℕ, ◌+◌, ◌-◌, ◌≤◌, ◌<◌}
-use mathlib.Core.Path.{◌≡◌, refl, ◌∙◌}
-use native.Mathlib.Nat.{not-suc-le-zero}
-use native.Mathlib.Omega.{arith}
-use borrow.Author.Rules.{rules}
-use lib.ListN.{length, get_or, length-set}
-use Rattle.laws.proofs.Bounded.{fill_more, fill_done}
-use Rattle.automaton.specs.Table.{row_of}
+use mathlib.Core.Path.{◌≡◌}
+use lib.ListN.{length, get_or}
 use Rattle.ruletable.proofs.row_of.Given as goal
 
 abbrev pub invariant-loop-a : goal.invariant-loop-a

@@ -2,14 +2,10 @@
 -- Invariant: the rows before q are those of the bytes. Measure: the rows still to be filled.
 -- Assumes nothing.
 use Prim.Native.Nat.{ℕ, ◌*◌, ◌-◌, ◌≤◌, ◌<◌}
-use mathlib.Core.Path.{◌≡◌, refl, ◌∙◌}
+use mathlib.Core.Path.{◌≡◌}
 use mathlib.Core.List.{[]}
-use native.Mathlib.Nat.{not-suc-le-zero}
-use native.Mathlib.Omega.{arith}
-use borrow.Author.Rules.{rules}
-use lib.ListN.{length, get_or, length-set}
-use Rattle.laws.proofs.Bounded.{fill_more, fill_done}
-use Rattle.automaton.specs.Table.{row_of, table_of}
+use lib.ListN.{length, get_or}
+use Rattle.automaton.specs.Table.{row_of}
 use Rattle.ruletable.proofs.table_of.Given as goal
 
 abbrev pub invariant-loop-q : goal.invariant-loop-q

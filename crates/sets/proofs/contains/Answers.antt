@@ -5,7 +5,6 @@ use mathlib.Core.Path.{ap}
 use lib.Dec.{eqb}
 use lib.Bits.{and_mask}
 use Rattle.laws.specs.Bits.{has}
-use borrow.Author.Rules.{rules}
 use Rattle.sets.proofs.contains.Goals as goal
 
 pub returns : goal.returns

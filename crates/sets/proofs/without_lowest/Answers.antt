@@ -1,7 +1,6 @@
 -- `sets::without_lowest` meets its contract: the set is not empty, so that 1 can be taken off it.
 -- Assumes nothing.
 use mathlib.Core.Path.{refl}
-use borrow.Author.Rules.{rules}
 use Rattle.sets.proofs.without_lowest.Goals as goal
 
 pub returns : goal.returns

@@ -2,12 +2,9 @@
 -- Invariant: every pair is one that a word leads to, and the rows that are not due were moved by every symbol.
 -- Measure: the room in the rows, each step of it more than the rows that are due, and those.
 -- Assumes nothing.
-use Prim.Native.Nat.{◌+◌, ◌*◌}
 use mathlib.Core.Path.{sym, ◌∙◌}
 use native.Mathlib.Omega.{arith}
-use borrow.Author.Rules.{rules}
-use Rattle.tables.specs.Sixteen.{rows_left}
-use Rattle.spelling.proofs.SpellingLaws.{Closing, closing_start, due_small, closing_more, closing_less, Closing-End, closed_none}
+use Rattle.spelling.proofs.SpellingLaws.{closing_start, due_small, closing_more, closing_less, Closing-End, closed_none}
 use Rattle.spelling.proofs.close_forward.Goals as goal
 
 pub returns-then-set-eq0 : goal.returns-then-set-eq0

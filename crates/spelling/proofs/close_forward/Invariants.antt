@@ -3,11 +3,8 @@
 -- Measure: the room in the rows, each step of it more than the rows that are due, and those.
 -- Assumes nothing.
 use Prim.Native.Nat.{◌+◌, ◌*◌}
-use mathlib.Core.Path.{sym, ◌∙◌}
-use native.Mathlib.Omega.{arith}
-use borrow.Author.Rules.{rules}
 use Rattle.tables.specs.Sixteen.{rows_left}
-use Rattle.spelling.proofs.SpellingLaws.{Closing, closing_start, due_small, closing_more, closing_less, Closing-End, closed_none}
+use Rattle.spelling.proofs.SpellingLaws.{Closing}
 use Rattle.spelling.proofs.close_forward.Given as goal
 
 abbrev pub invariant-loop-due : goal.invariant-loop-due

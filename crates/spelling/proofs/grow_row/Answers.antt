@@ -1,6 +1,5 @@
 -- `spelling::grow_row` meets its contract.
 -- Assumes nothing.
-use borrow.Author.Rules.{rules}
 use mathlib.Core.Path.{sym, ◌∙◌}
 use Rattle.spelling.proofs.SpellingLaws.{row_quiet, row_grown}
 use Rattle.spelling.proofs.grow_row.Goals as goal

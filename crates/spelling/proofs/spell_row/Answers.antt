@@ -4,9 +4,8 @@
 -- Assumes nothing.
 use mathlib.Core.Path.{refl, sym, ◌∙◌}
 use native.Mathlib.Omega.{arith}
-use borrow.Author.Rules.{rules}
 use Rattle.laws.proofs.Walk.{rest_lt, clear_lt}
-use Rattle.spelling.proofs.SpellingLaws.{SpellingRow, spelling_start, spelling_none, spelling_more, spelling_end}
+use Rattle.spelling.proofs.SpellingLaws.{spelling_start, spelling_none, spelling_more, spelling_end}
 use Rattle.spelling.proofs.spell_row.Goals as goal
 
 pub bounds-rows-p : goal.bounds-rows-p

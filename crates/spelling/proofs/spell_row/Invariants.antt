@@ -2,11 +2,7 @@
 -- Invariant: the row, as it was at the start, was moved by the symbols before some number; `rest` is the symbols from it on.
 -- Measure: the set that is left, as a number. Each turn is one step of `SpellingRow`.
 -- Assumes nothing.
-use mathlib.Core.Path.{refl, sym, ◌∙◌}
-use native.Mathlib.Omega.{arith}
-use borrow.Author.Rules.{rules}
-use Rattle.laws.proofs.Walk.{rest_lt, clear_lt}
-use Rattle.spelling.proofs.SpellingLaws.{SpellingRow, spelling_start, spelling_none, spelling_more, spelling_end}
+use Rattle.spelling.proofs.SpellingLaws.{SpellingRow}
 use Rattle.spelling.proofs.spell_row.Given as goal
 
 abbrev pub invariant-loop-rest : goal.invariant-loop-rest

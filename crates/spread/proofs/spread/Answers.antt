@@ -5,7 +5,7 @@
 use borrow.Author.Rules.{rules}
 use native.Mathlib.Omega.{arith}
 use Rattle.laws.proofs.Walk.{rest_lt, clear_lt}
-use Rattle.spread.proofs.SpreadLaws.{Spreading, spreading_start, spreading_split, spreading_more, spreading_end}
+use Rattle.spread.proofs.SpreadLaws.{spreading_start, spreading_split, spreading_more, spreading_end}
 use Rattle.spread.proofs.spread.Goals as goal
 
 pub loop-rest-init : goal.loop-rest-init

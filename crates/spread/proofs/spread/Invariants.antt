@@ -2,10 +2,7 @@
 -- Invariant: the row was moved by the symbols before some number and joined, all alarming alike; `rest` is the symbols from it on.
 -- Measure: the set that is left, as a number. Each turn is one step of `Spreading`.
 -- Assumes nothing.
-use borrow.Author.Rules.{rules}
-use native.Mathlib.Omega.{arith}
-use Rattle.laws.proofs.Walk.{rest_lt, clear_lt}
-use Rattle.spread.proofs.SpreadLaws.{Spreading, spreading_start, spreading_split, spreading_more, spreading_end}
+use Rattle.spread.proofs.SpreadLaws.{Spreading}
 use Rattle.spread.proofs.spread.Given as goal
 
 abbrev pub invariant-loop-rest : goal.invariant-loop-rest

@@ -2,11 +2,10 @@
 -- Invariant: of the emptied rows those of the nodes below n hold their starts, and nothing else is held.
 -- Measure: the nodes still to be started.
 -- Assumes nothing.
-use Prim.Native.Nat.{◌-◌, ◌≤◌}
 use mathlib.Core.Path.{◌∙◌}
 use native.Mathlib.Omega.{arith}
 use borrow.Author.Rules.{rules}
-use Rattle.starts.proofs.StartedLaws.{Starting, starting_none, starting_more, starting_end}
+use Rattle.starts.proofs.StartedLaws.{starting_none, starting_more, starting_end}
 use Rattle.starts.proofs.start.Goals as goal
 
 pub clear_marks-requires : goal.clear_marks-requires

@@ -3,10 +3,7 @@
 -- Measure: the nodes still to be started.
 -- Assumes nothing.
 use Prim.Native.Nat.{◌-◌, ◌≤◌}
-use mathlib.Core.Path.{◌∙◌}
-use native.Mathlib.Omega.{arith}
-use borrow.Author.Rules.{rules}
-use Rattle.starts.proofs.StartedLaws.{Starting, starting_none, starting_more, starting_end}
+use Rattle.starts.proofs.StartedLaws.{Starting}
 use Rattle.starts.proofs.start.Given as goal
 
 abbrev pub invariant-loop-n : goal.invariant-loop-n

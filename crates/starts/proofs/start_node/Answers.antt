@@ -3,9 +3,8 @@
 -- Measure: the set that is left, as a number. Each turn is one step of the walk.
 -- Assumes nothing.
 use native.Mathlib.Omega.{arith}
-use borrow.Author.Rules.{rules}
 use Rattle.laws.proofs.Walk.{rest_lt, clear_lt}
-use Rattle.starts.proofs.StartedLaws.{StartingNode, node_start, node_more, Node-End}
+use Rattle.starts.proofs.StartedLaws.{node_start, node_more, Node-End}
 use Rattle.starts.proofs.start_node.Goals as goal
 
 pub entry_set-rest-requires : goal.entry_set-rest-requires

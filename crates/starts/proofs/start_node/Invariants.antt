@@ -2,10 +2,7 @@
 -- Invariant: `rest` is the admitted states from some number on; those before it were joined, and nothing else.
 -- Measure: the set that is left, as a number. Each turn is one step of the walk.
 -- Assumes nothing.
-use native.Mathlib.Omega.{arith}
-use borrow.Author.Rules.{rules}
-use Rattle.laws.proofs.Walk.{rest_lt, clear_lt}
-use Rattle.starts.proofs.StartedLaws.{StartingNode, node_start, node_more, Node-End}
+use Rattle.starts.proofs.StartedLaws.{StartingNode}
 use Rattle.starts.proofs.start_node.Given as goal
 
 abbrev pub invariant-loop-rest : goal.invariant-loop-rest

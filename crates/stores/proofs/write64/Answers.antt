@@ -1,7 +1,6 @@
 -- `stores::write64` meets its contract: a number is written by its low half and then its high half.
 -- Assumes nothing.
 use mathlib.Core.Path.{sym, ◌∙◌}
-use native.Mathlib.Omega.{arith}
 use Rattle.laws.proofs.Bytes.{put_split}
 use Rattle.stores.proofs.write64.Goals as goal
 

@@ -3,10 +3,7 @@
 -- Measure: the rows still to be joined. Each turn is one step of `JoiningRows`.
 -- Assumes nothing.
 use Prim.Native.Nat.{◌-◌}
-use native.Mathlib.Omega.{arith}
-use mathlib.Core.Path.{refl}
-use borrow.Author.Rules.{rules}
-use Rattle.successors.proofs.SuccessorLaws.{JoiningRows, rows_start, rows_joined, rows_end}
+use Rattle.successors.proofs.SuccessorLaws.{JoiningRows}
 use Rattle.successors.proofs.join_rows.Given as goal
 
 abbrev pub invariant-loop-p : goal.invariant-loop-p

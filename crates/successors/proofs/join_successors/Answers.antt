@@ -2,10 +2,8 @@
 -- Invariant: the rows are joined at the ends of the edges of the node below i, and nothing else is new.
 -- Measure: the edges still to be passed. Each turn is one step of `Joining`.
 -- Assumes nothing.
-use Prim.Native.Nat.{◌-◌}
 use native.Mathlib.Omega.{arith}
-use borrow.Author.Rules.{rules}
-use Rattle.successors.proofs.SuccessorLaws.{Joining, joining_start, index_within, target_within, joining_more, joining_end}
+use Rattle.successors.proofs.SuccessorLaws.{joining_start, index_within, target_within, joining_more, joining_end}
 use Rattle.successors.proofs.join_successors.Goals as goal
 
 pub loop-i-init : goal.loop-i-init

@@ -3,9 +3,7 @@
 -- Measure: the edges still to be passed. Each turn is one step of `Joining`.
 -- Assumes nothing.
 use Prim.Native.Nat.{◌-◌}
-use native.Mathlib.Omega.{arith}
-use borrow.Author.Rules.{rules}
-use Rattle.successors.proofs.SuccessorLaws.{Joining, joining_start, index_within, target_within, joining_more, joining_end}
+use Rattle.successors.proofs.SuccessorLaws.{Joining}
 use Rattle.successors.proofs.join_successors.Given as goal
 
 abbrev pub invariant-loop-i : goal.invariant-loop-i

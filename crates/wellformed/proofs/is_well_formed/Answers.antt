@@ -4,7 +4,6 @@ use mathlib.Core.Path.{sym, ◌∙◌}
 use native.Mathlib.Omega.{arith}
 use Rattle.laws.proofs.Bits.{below_says, shr_zero_says}
 use Rattle.automaton.proofs.AutomatonLaws.{not_well_formed, fit_all, well_formed_rest}
-use borrow.Author.Rules.{rules}
 use Rattle.wellformed.proofs.is_well_formed.Goals as goal
 
 pub returns-then-states-lt1 : goal.returns-then-states-lt1

@@ -1,7 +1,6 @@
 -- `automaton::rule::next` meets its contract: the cell of the state and the symbol.
 -- Assumes nothing.
 use Rattle.automaton.specs.Automaton.{cell}
-use borrow.Author.Rules.{rules}
 use Rattle.automaton.proofs.rule.next.Goals as goal
 
 pub returns : goal.returns

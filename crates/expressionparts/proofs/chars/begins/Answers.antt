@@ -1,7 +1,6 @@
 -- `expressionparts::chars::begins` meets its contract: a parenthesis, or else the letter test tells.
 -- Assumes nothing.
 use Rattle.expressionparts.proofs.ReadingLaws.{tells_group, tells_begins}
-use borrow.Author.Rules.{rules}
 use Rattle.expressionparts.proofs.chars.begins.Goals as goal
 
 pub returns-then-is_at : goal.returns-then-is_at

@@ -2,7 +2,6 @@
 -- Assumes nothing.
 use mathlib.Core.Path.{sym}
 use Rattle.expression.proofs.GrammarLaws.{get_d_past}
-use borrow.Author.Rules.{rules}
 use Rattle.expressionparts.proofs.chars.char_at.Goals as goal
 
 pub returns-else-i-text : goal.returns-else-i-text

@@ -1,7 +1,6 @@
 -- `expressionparts::chars::is_at` meets its contract: the test is on the character there.
 -- Assumes nothing.
 use Rattle.expressionparts.proofs.ReadingLaws.{tells_at}
-use borrow.Author.Rules.{rules}
 use Rattle.expressionparts.proofs.chars.is_at.Goals as goal
 
 pub returns : goal.returns

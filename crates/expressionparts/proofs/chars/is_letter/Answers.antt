@@ -1,7 +1,6 @@
 -- `expressionparts::chars::is_letter` meets its contract: the character is below `a`, or the letters end before it or not.
 -- Assumes nothing.
 use Rattle.expressionparts.proofs.ReadingLaws.{tells_low, tells_high}
-use borrow.Author.Rules.{rules}
 use Rattle.expressionparts.proofs.chars.is_letter.Goals as goal
 
 pub returns-then-c-lt97 : goal.returns-then-c-lt97

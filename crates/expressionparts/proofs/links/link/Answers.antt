@@ -2,10 +2,9 @@
 -- Invariant: the members of `lasts` that are no longer in `rest` are linked, the other positions are as they were.
 -- Measure: the set that is left, as a number. Each turn is one step of the walk.
 -- Assumes nothing.
-use borrow.Author.Rules.{rules}
 use native.Mathlib.Omega.{arith}
 use Rattle.laws.proofs.Walk.{rest_lt, clear_lt}
-use Rattle.expressionparts.proofs.ReadingLaws.{Linking, linking_none, linking_more, linking_all}
+use Rattle.expressionparts.proofs.ReadingLaws.{linking_none, linking_more, linking_all}
 use Rattle.expressionparts.proofs.links.link.Goals as goal
 
 pub loop-rest-init : goal.loop-rest-init

@@ -2,10 +2,7 @@
 -- Invariant: the members of `lasts` that are no longer in `rest` are linked, the other positions are as they were.
 -- Measure: the set that is left, as a number. Each turn is one step of the walk.
 -- Assumes nothing.
-use borrow.Author.Rules.{rules}
-use native.Mathlib.Omega.{arith}
-use Rattle.laws.proofs.Walk.{rest_lt, clear_lt}
-use Rattle.expressionparts.proofs.ReadingLaws.{Linking, linking_none, linking_more, linking_all}
+use Rattle.expressionparts.proofs.ReadingLaws.{Linking}
 use Rattle.expressionparts.proofs.links.link.Given as goal
 
 abbrev pub invariant-loop-rest : goal.invariant-loop-rest

@@ -2,13 +2,9 @@
 -- Invariant: the stars before `end` are read, the first of which has linked the part to itself: the others change nothing.
 -- Measure: what is left of the text, which a star is part of.
 -- Assumes nothing.
-use borrow.Author.Rules.{rules}
-use borrow.Author.Tests.{not-true, not-false}
-use Prim.Native.Nat.{◌-◌}
-use lib.ListN.{length}
 use native.Mathlib.Omega.{arith}
 use Rattle.expression.proofs.GrammarLaws.{char_within}
-use Rattle.expressionparts.proofs.PartLaws.{starred_none, Starring, starring_first, starring_more, starring_all}
+use Rattle.expressionparts.proofs.PartLaws.{starred_none, starring_first, starring_more, starring_all}
 use Rattle.expressionparts.proofs.links.with_stars.Goals as goal
 
 pub returns-then-not-is_at : goal.returns-then-not-is_at

@@ -1,6 +1,5 @@
 -- `expressionparts::part::choose` meets its contract: it is the definition, field by field.
 -- Assumes nothing.
-use borrow.Author.Rules.{rules}
 use Rattle.expressionparts.proofs.PartLaws.{either_fields}
 use Rattle.expressionparts.proofs.part.choose.Goals as goal
 

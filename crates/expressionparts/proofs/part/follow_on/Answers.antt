@@ -1,6 +1,5 @@
 -- `expressionparts::part::follow_on` meets its contract: it is the definition, field by field.
 -- Assumes nothing.
-use borrow.Author.Rules.{rules}
 use Rattle.expressionparts.proofs.PartLaws.{followed_fields}
 use Rattle.expressionparts.proofs.part.follow_on.Goals as goal
 

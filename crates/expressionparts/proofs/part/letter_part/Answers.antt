@@ -1,7 +1,6 @@
 -- `expressionparts::part::letter_part` meets its contract: the shift is the power, as the position is below 64.
 -- Assumes nothing.
 use Rattle.laws.proofs.Bits.{one_shl}
-use borrow.Author.Rules.{rules}
 use Rattle.expressionparts.proofs.PartLaws.{letter_fields}
 use Rattle.expressionparts.proofs.part.letter_part.Goals as goal
 

@@ -1,7 +1,6 @@
 -- `jobhead::head::head_line` meets its contract: nothing or no line, numbers outside their limits, or the numbers.
 -- Assumes nothing.
 use mathlib.Core.Path.{refl, sym, ◌∙◌}
-use borrow.Author.Rules.{rules}
 use Rattle.jobhead.proofs.HeadLaws.{head_stop, head_fails, head_found}
 use Rattle.jobhead.proofs.head.head_line.Goals as goal
 

@@ -1,3 +1,0 @@
--- What the walks share.
--- Assumes nothing.
-pub mod MachineValues
