@@ -1,6 +1,6 @@
 //! The C calls of the static library.
 extern "C" {
-    /// `#[no_mangle] pub extern "C" fn dapohiru_check(job: &[u8], plan: &[u8], work: &mut [u8]) -> u64`
+    /// `#[unsafe(no_mangle)] pub extern "C" fn dapohiru_check(job: &[u8], plan: &[u8], work: &mut [u8]) -> u64`
     pub fn dapohiru_check(
         job: *const u8,
         job_len: usize,
@@ -10,7 +10,7 @@ extern "C" {
         work_len: usize,
     ) -> u64;
 
-    /// `#[no_mangle] pub extern "C" fn dapohiru_event(rule: &[u8], states: u64, symbols: u64, finals: u64, symbol: u64, rec: &mut [u8]) -> u64`
+    /// `#[unsafe(no_mangle)] pub extern "C" fn dapohiru_event(rule: &[u8], states: u64, symbols: u64, finals: u64, symbol: u64, rec: &mut [u8]) -> u64`
     pub fn dapohiru_event(
         rule: *const u8,
         rule_len: usize,
@@ -22,7 +22,7 @@ extern "C" {
         rec_len: usize,
     ) -> u64;
 
-    /// `#[no_mangle] pub extern "C" fn dapohiru_plan(job: &[u8], work: &mut [u8], plan: &mut [u8]) -> u64`
+    /// `#[unsafe(no_mangle)] pub extern "C" fn dapohiru_plan(job: &[u8], work: &mut [u8], plan: &mut [u8]) -> u64`
     pub fn dapohiru_plan(
         job: *const u8,
         job_len: usize,
@@ -32,7 +32,7 @@ extern "C" {
         plan_len: usize,
     ) -> u64;
 
-    /// `#[no_mangle] pub extern "C" fn dapohiru_list(job: &[u8], work: &mut [u8], listing: &mut [u8]) -> u64`
+    /// `#[unsafe(no_mangle)] pub extern "C" fn dapohiru_list(job: &[u8], work: &mut [u8], listing: &mut [u8]) -> u64`
     pub fn dapohiru_list(
         job: *const u8,
         job_len: usize,
@@ -42,7 +42,7 @@ extern "C" {
         listing_len: usize,
     ) -> u64;
 
-    /// `#[no_mangle] pub extern "C" fn dapohiru_price(job: &[u8], plan: &[u8], volumes: &[u8]) -> u64`
+    /// `#[unsafe(no_mangle)] pub extern "C" fn dapohiru_price(job: &[u8], plan: &[u8], volumes: &[u8]) -> u64`
     pub fn dapohiru_price(
         job: *const u8,
         job_len: usize,
@@ -52,7 +52,7 @@ extern "C" {
         volumes_len: usize,
     ) -> u64;
 
-    /// `#[no_mangle] pub extern "C" fn dapohiru_price_by(job: &[u8], plan: &[u8], volumes: &[u8], prices: &[u8]) -> u64`
+    /// `#[unsafe(no_mangle)] pub extern "C" fn dapohiru_price_by(job: &[u8], plan: &[u8], volumes: &[u8], prices: &[u8]) -> u64`
     pub fn dapohiru_price_by(
         job: *const u8,
         job_len: usize,
@@ -64,7 +64,7 @@ extern "C" {
         prices_len: usize,
     ) -> u64;
 
-    /// `#[no_mangle] pub extern "C" fn dapohiru_rule(job: &[u8], work: &mut [u8], rule: &mut [u8]) -> u64`
+    /// `#[unsafe(no_mangle)] pub extern "C" fn dapohiru_rule(job: &[u8], work: &mut [u8], rule: &mut [u8]) -> u64`
     pub fn dapohiru_rule(
         job: *const u8,
         job_len: usize,
@@ -74,7 +74,7 @@ extern "C" {
         rule_len: usize,
     ) -> u64;
 
-    /// `#[no_mangle] pub extern "C" fn dapohiru_rows(rows: &[u8], states: u64, symbols: u64, finals: u64, rule: &mut [u8]) -> u64`
+    /// `#[unsafe(no_mangle)] pub extern "C" fn dapohiru_rows(rows: &[u8], states: u64, symbols: u64, finals: u64, rule: &mut [u8]) -> u64`
     pub fn dapohiru_rows(
         rows: *const u8,
         rows_len: usize,
@@ -85,7 +85,7 @@ extern "C" {
         rule_len: usize,
     ) -> u64;
 
-    /// `#[no_mangle] pub extern "C" fn dapohiru_expression(text: &[u8], symbols: u64, rule: &mut [u8]) -> u64`
+    /// `#[unsafe(no_mangle)] pub extern "C" fn dapohiru_expression(text: &[u8], symbols: u64, rule: &mut [u8]) -> u64`
     pub fn dapohiru_expression(
         text: *const u8,
         text_len: usize,
@@ -94,7 +94,7 @@ extern "C" {
         rule_len: usize,
     ) -> u64;
 
-    /// `#[no_mangle] pub extern "C" fn dapohiru_add_edge(edges: &mut [u16], predecessors: &mut [u16], starts: &mut [u16], nodes: u64, count: u64, from: u64, to: u64) -> u64`
+    /// `#[unsafe(no_mangle)] pub extern "C" fn dapohiru_add_edge(edges: &mut [u16], predecessors: &mut [u16], starts: &mut [u16], nodes: u64, count: u64, from: u64, to: u64) -> u64`
     pub fn dapohiru_add_edge(
         edges: *mut u16,
         edges_len: usize,
@@ -108,7 +108,7 @@ extern "C" {
         to: u64,
     ) -> u64;
 
-    /// `#[no_mangle] pub extern "C" fn dapohiru_drop_edge(edges: &mut [u16], predecessors: &mut [u16], starts: &mut [u16], nodes: u64, count: u64, from: u64, to: u64) -> u64`
+    /// `#[unsafe(no_mangle)] pub extern "C" fn dapohiru_drop_edge(edges: &mut [u16], predecessors: &mut [u16], starts: &mut [u16], nodes: u64, count: u64, from: u64, to: u64) -> u64`
     pub fn dapohiru_drop_edge(
         edges: *mut u16,
         edges_len: usize,
@@ -122,7 +122,7 @@ extern "C" {
         to: u64,
     ) -> u64;
 
-    /// `#[no_mangle] pub extern "C" fn dapohiru_index_edges(edges: &[u16], predecessors: &mut [u16], starts: &mut [u16], nodes: u64, count: u64) -> u64`
+    /// `#[unsafe(no_mangle)] pub extern "C" fn dapohiru_index_edges(edges: &[u16], predecessors: &mut [u16], starts: &mut [u16], nodes: u64, count: u64) -> u64`
     pub fn dapohiru_index_edges(
         edges: *const u16,
         edges_len: usize,

@@ -101,7 +101,7 @@ fn header_and_wrapper_declare_the_same_calls() {
 #[test]
 fn wrapper_names_the_signatures_of_the_rattle_source() {
     let wrapper = fs::read_to_string(top("rust/src/ffi.rs")).expect("the wrapper is there");
-    let folder = fs::read_dir(top("crates/dapohiru/src")).expect("the crate is there");
+    let folder = fs::read_dir(top("crates/dapohiru_c/src")).expect("the crate is there");
     // arguments on lines of their own are joined
     let source = |file: std::io::Result<fs::DirEntry>| {
         let text = text(&file.expect("a file").path());
@@ -115,10 +115,10 @@ fn wrapper_names_the_signatures_of_the_rattle_source() {
             .flat_map(|source| between(source, signature, "\0"));
         after.any(|rest| rest.starts_with(" ensures") || rest.starts_with(" {"))
     };
-    let signatures: Vec<_> = between(&wrapper, "/// `#[no_mangle] ", "`").collect();
+    let signatures: Vec<_> = between(&wrapper, "/// `#[unsafe(no_mangle)] ", "`").collect();
     for signature in &signatures {
         assert!(
-            is_there(&format!("#[no_mangle] {signature}")),
+            is_there(&format!("#[unsafe(no_mangle)] {signature}")),
             "{signature}"
         );
         // a slice is a pointer and a length, in place

@@ -5,6 +5,6 @@ pub mod plan; // plan.rt: planning
 pub mod list; // list.rt: listing
 pub mod price; // price.rt: pricing
 pub mod rule; // rule.rt: the rule of a job
-pub mod rows; // rows.rt: rule rows
-pub mod expression; // expression.rt: rules as expressions
+pub mod rule_rows; // rule_rows.rt: rule rows
+pub mod rule_expression; // rule_expression.rt: rules as expressions
 pub mod edges; // edges.rt: edges and their arrivals index

@@ -1,10 +1,10 @@
--- `dapohiru::expression::dapohiru_expression` meets its contract: the number of the answer, whose numbers are small, and the rule buffer as the call
+-- `dapohiru::rule_expression::dapohiru_expression` meets its contract: the number of the answer, whose numbers are small, and the rule buffer as the call
 -- on values left it.
 -- Assumes nothing.
 use borrow.Author.Rules.{rules}
 use Rattle.dapohiru.proofs.FitsLaws.{expression_fits}
-use Rattle.dapohiru.proofs.expression.dapohiru_expression.Statement.{statement}
-use Rattle.dapohiru.proofs.expression.dapohiru_expression.Tie as tie
+use Rattle.dapohiru.proofs.rule_expression.dapohiru_expression.Statement.{statement}
+use Rattle.dapohiru.proofs.rule_expression.dapohiru_expression.Tie as tie
 
 take_expression_requires : tie.Need-take-expression-requires
 take_expression_requires c κs = search rules

@@ -1,10 +1,10 @@
--- `dapohiru::rows::dapohiru_rows` meets its contract: the number of the answer, and the rule buffer as the call on values left it.
+-- `dapohiru::rule_rows::dapohiru_rows` meets its contract: the number of the answer, and the rule buffer as the call on values left it.
 -- Assumes nothing.
 use mathlib.Core.Path.{ap, ◌∙◌}
 use borrow.Author.Rules.{rules}
 use Rattle.rulerows.specs.RuleRows.{rows_number}
-use Rattle.dapohiru.proofs.rows.dapohiru_rows.Statement.{statement}
-use Rattle.dapohiru.proofs.rows.dapohiru_rows.Tie as tie
+use Rattle.dapohiru.proofs.rule_rows.dapohiru_rows.Statement.{statement}
+use Rattle.dapohiru.proofs.rule_rows.dapohiru_rows.Tie as tie
 
 take_rows_requires : tie.Need-take-rows-requires
 take_rows_requires c κs = search rules
