@@ -1,4 +1,4 @@
-//! Links the static library that `rt staticlib dapohiru` writes.
+//! Links the static library that `tools/built library` writes.
 //! `DAPOHIRU_LIB_DIR` names another folder than `target/staticlib` of the repository.
 use std::{env, path::PathBuf, process};
 

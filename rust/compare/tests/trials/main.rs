@@ -94,14 +94,14 @@ fn listing_program_prints_what_the_walks_list() {
     assert_eq!(job, file("examples/pair.job"));
 }
 
-/// What the program `listing`, which `rt check listing` builds, prints for a file on standard input.
+/// What the program `listing`, which `rt ci` builds, prints for a file on standard input.
 fn printed(file: &[u8]) -> Vec<u8> {
-    let program = Path::new(env!("CARGO_MANIFEST_DIR")).join("../../target/bin/listing");
+    let program = Path::new(env!("CARGO_MANIFEST_DIR")).join("../../crates/listing/out/listing");
     let mut child = Command::new(&program)
         .stdin(Stdio::piped())
         .stdout(Stdio::piped())
         .spawn()
-        .unwrap_or_else(|why| panic!("{}: {why}: run `rt check listing`", program.display()));
+        .unwrap_or_else(|why| panic!("{}: {why}: run `rt ci`", program.display()));
     let mut input = child.stdin.take().unwrap();
     let bytes = file.to_vec();
     // the program stops reading past the limit, so the pipe may close early
