@@ -149,7 +149,7 @@ pub fn number(
         _ => {
             let (asked, last) = (shown::name(asked), count - 1);
             Err(format!(
-                "{command}: {option} is `{asked}`, and the {things} are 0 to {last}"
+                "{command}: {option} is {asked}, and the {things} are 0 to {last}"
             ))
         }
     }

@@ -93,7 +93,7 @@ fn node_that_the_job_lacks_is_told_with_the_limits() {
         "1,2",
         " 1",
     ] {
-        let wrong = format!("dapohiru: edges: --into is `{node}`, and the nodes are 0 to 2\n");
+        let wrong = format!("dapohiru: edges: --into is {node}, and the nodes are 0 to 2\n");
         let words = [format!("--into={node}"), "--json".to_string()];
         for words in [&[words[0].as_str()][..], &[&words[0], &words[1]]] {
             assert_eq!(listed(words, PAIR), (2, String::new(), wrong.clone()));

@@ -93,7 +93,7 @@ fn node_or_state_that_the_job_lacks_is_refused_with_the_limits() {
         for (option, things) in [("--entry", "nodes"), ("--state", "states")] {
             let done = watch(&[&job, &format!("{option}={number}")], "0\n");
             let wrong =
-                format!("dapohiru: watch: {option} is `{number}`, and the {things} are 0 to 2\n");
+                format!("dapohiru: watch: {option} is {number}, and the {things} are 0 to 2\n");
             assert_eq!(done, (2, String::new(), wrong));
         }
     }
