@@ -1,4 +1,6 @@
 // The calls open to C and Rust: numbers and slices of bytes or 16-bit numbers in, one 64-bit number out.
+#![tactic(auto)]
+
 pub mod event; // event.rt: the event step
 pub mod check; // check.rt: the plan check
 pub mod plan; // plan.rt: planning

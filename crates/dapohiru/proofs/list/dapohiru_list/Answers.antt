@@ -1,0 +1,22 @@
+-- `dapohiru::list::dapohiru_list` meets its contract: the number of the answer, whose length fits, and the buffers as
+-- listing left them.
+-- Assumes nothing.
+use mathlib.Core.Path.{ap, ◌∙◌}
+use mathlib.Core.Bool.{◌||◌}
+use lib.Dec.{ltb}
+use lib.ListN.{length}
+use Rattle.buffer.specs.Buffer.{work_size}
+use Rattle.listoutcome.specs.ListCall.{listing_size, list_number}
+use Rattle.dapohiru.proofs.FitsLaws.{listed_fits}
+use Rattle.dapohiru.proofs.list.dapohiru_list.Goals as goal
+
+pub of_listed-requires : goal.of_listed-requires
+of_listed-requires c =
+    let x = c.args in
+    let r = c.list_job in
+    listed_fits x.job.now (ltb (length x.work.now) work_size || ltb (length x.listing.now) listing_size) r.result r.ensures.0
+
+pub returns : goal.returns
+returns c =
+    let r = c.list_job in
+    (c.of_listed.ensures ∙ ap list_number r.ensures.0, r.ensures.1, r.ensures.2)

@@ -1,0 +1,19 @@
+-- `dapohiru::rule::dapohiru_rule` meets its contract: the number of the answer, whose numbers are small, and the buffers as the call on values
+-- left them.
+-- Assumes nothing.
+use mathlib.Core.Path.{ap, ◌∙◌}
+use lib.ListN.{length}
+use Rattle.ruleoutcome.specs.RuleCall.{rule_number}
+use Rattle.dapohiru.proofs.FitsLaws.{rule_fits}
+use Rattle.dapohiru.proofs.rule.dapohiru_rule.Goals as goal
+
+pub of_rule-requires : goal.of_rule-requires
+of_rule-requires c =
+    let x = c.args in
+    let r = c.take_rule in
+    rule_fits x.job.now (length x.work.now) (length x.rule.now) r.result r.ensures.0
+
+pub returns : goal.returns
+returns c =
+    let r = c.take_rule in
+    (c.of_rule.ensures ∙ ap rule_number r.ensures.0, r.ensures.1, r.ensures.2)
