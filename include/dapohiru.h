@@ -178,7 +178,7 @@ uint64_t dapohiru_rows(const uint8_t *rows, size_t rows_len, uint64_t states, ui
  * 0 past the states and symbols. Returns DAPOHIRU_ACCEPTED plus states times 2^16 and the set of final states. 13 where
  * rule_len is not DAPOHIRU_RULE_LEN, tested before all else; then 20 for symbols outside 1 to 16, a text_len above
  * DAPOHIRU_EXPRESSION_LEN, a text that is empty or outside the grammar, or a letter past symbols; then 21. They leave
- * rule as it was. The call is lent no work buffer: it takes less than 32,768 bytes of its caller's stack.
+ * rule as it was. The call is lent no work buffer: it takes less than 24,576 bytes of its caller's stack.
  */
 uint64_t dapohiru_expression(const uint8_t *text, size_t text_len, uint64_t symbols, uint8_t *rule, size_t rule_len);
 

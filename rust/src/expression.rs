@@ -14,7 +14,7 @@ use crate::{numbers, Refusal, Rule, RULE_LEN};
 ///
 /// Refused are, in this order: 20, where `symbols` is outside 1 to 16, the text is empty, longer than 64
 /// characters or outside the grammar, or a letter of it is past `symbols`; 21, where there are more than
-/// 16 states. The call takes less than 32,768 bytes of the stack.
+/// 16 states. The call takes less than 24,576 bytes of the stack.
 ///
 /// ```
 /// use dapohiru::{expression, Record, Refusal, Report};
