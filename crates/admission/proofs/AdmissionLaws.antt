@@ -23,8 +23,7 @@ use Rattle.jobfile.proofs.SpellableLaws.{read_written}
 use Rattle.buffer.specs.Buffer.{work_size, cleared}
 use Rattle.buffer.specs.Layout.{nodes_part, Lent}
 use Rattle.buffer.specs.Kept.{SameOutside}
-use Rattle.jobhead.specs.declared.head.Head.{Head}
-use Rattle.jobhead.specs.ReadLines.{refused_head}
+use Rattle.jobhead.specs.Numbers.{HeadNumbers, refused_head}
 use Rattle.jobhead.specs.Reading.{head_of_answer, JobRead, SameRest}
 use Rattle.buffer.proofs.ClearedLaws.{cleared_same}
 use Rattle.admission.specs.Admission.{admitted, refused_left}
@@ -157,7 +156,7 @@ module _ (file l : List ℕ) (other : Bool) where
   admit_short_other h s =
       turned_admitted 2 l l (admitted_short file short h (or_right (ltb (length l) work_size) other s)) (λ e. omega arith) refl
 
-  module _ (fits : length file ≤ max_file) (long : Lent l) (room : other ≡ false) (m : List ℕ) (r : Head)
+  module _ (fits : length file ≤ max_file) (long : Lent l) (room : other ≡ false) (m : List ℕ) (r : HeadNumbers)
       (read : JobRead (read_job file) l m r) where
     -- the answer is what the file spells
     spells : admitted file short ≡ read_job file

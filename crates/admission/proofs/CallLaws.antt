@@ -13,7 +13,7 @@ use Rattle.jobfile.specs.File.{Answer, accepted, turned}
 use Rattle.buffer.specs.Buffer.{work_size, cleared}
 use Rattle.buffer.specs.Layout.{nodes_part}
 use Rattle.buffer.specs.Kept.{SameOutside}
-use Rattle.jobhead.specs.declared.head.Head.{Head}
+use Rattle.jobhead.specs.Numbers.{HeadNumbers}
 use Rattle.jobhead.specs.Reading.{head_of_answer}
 use Rattle.buffer.specs.Views.{rule_rows_in}
 use Rattle.tables.specs.Held.{JobHeld}
@@ -28,7 +28,7 @@ Ends outcome after answer work other r work' other' =
 
 -- where no buffer but the work buffer is tested, its test is the only one
 pub admitted_alone
-    : (file : List ℕ) (size : ℕ) {l m : List ℕ} {r : Head} → Admitted (admitted file (ltb size work_size || false)) l m r
+    : (file : List ℕ) (size : ℕ) {l m : List ℕ} {r : HeadNumbers} → Admitted (admitted file (ltb size work_size || false)) l m r
     → Admitted (admitted file (ltb size work_size)) l m r
 admitted_alone file size {l} {m} {r} a = go (ltb size work_size) a
   where
@@ -37,14 +37,14 @@ admitted_alone file size {l} {m} {r} a = go (ltb size work_size) a
     go false a = a
 
 -- a number other than 0 is the answer's refusal
-pub answer_refused : {answer : Answer} {l m : List ℕ} {r : Head} → Admitted answer l m r → (r.refusal ≡ 0 → ⊥) → answer ≡ turned r.refusal
+pub answer_refused : {answer : Answer} {l m : List ℕ} {r : HeadNumbers} → Admitted answer l m r → (r.refusal ≡ 0 → ⊥) → answer ≡ turned r.refusal
 answer_refused {answer} {l} {m} {r} a h = go answer a.exact
   where
     go : (x : Answer) → r ≡ head_of_answer x → x ≡ turned r.refusal
-    go (accepted j) e = absurd (h (ap (λ (y : Head). y.refusal) e))
-    go (turned k) e = ap turned (sym (ap (λ (y : Head). y.refusal) e))
+    go (accepted j) e = absurd (h (ap (λ (y : HeadNumbers). y.refusal) e))
+    go (turned k) e = ap turned (sym (ap (λ (y : HeadNumbers). y.refusal) e))
 
-module _ {X : Type 0} (outcome : Answer → X) (after : Answer → List ℕ → List ℕ) {answer : Answer} {work m : List ℕ} {r : Head}
+module _ {X : Type 0} (outcome : Answer → X) (after : Answer → List ℕ → List ℕ) {answer : Answer} {work m : List ℕ} {r : HeadNumbers}
     (other : List ℕ) (admitted : Admitted answer work m r) where
   -- an answer is what it equals
   ends_as

@@ -17,7 +17,7 @@ use Rattle.job.specs.Job.{Job, no_node, node_at, leads}
 use Rattle.jobfile.specs.File.{accepted, read_job}
 use Rattle.jobfile.specs.Spellable.{Spellable}
 use Rattle.jobfile.proofs.SpellableLaws.{read_written}
-use Rattle.jobhead.specs.declared.head.Head.{Head}
+use Rattle.jobhead.specs.Numbers.{HeadNumbers}
 use Rattle.buffer.specs.Layout.{Lent}
 use Rattle.buffer.specs.Views.{node_in, start_in, target_in, cell_in, table_in, EdgeIn, rule_rows_in}
 use Rattle.jobhead.specs.Stored.{job_in}
@@ -36,14 +36,14 @@ lt_or_ge a b =
 le_of_eq_le : {x s q : ℕ} → x ≡ s → s ≤ q → x ≤ q
 le_of_eq_le e h = rw e h
 
-module _ (file l m : List ℕ) (r : Head) (read : JobRead (read_job file) l m r) (j : Job) (e : read_job file ≡ accepted j) where
+module _ (file l m : List ℕ) (r : HeadNumbers) (read : JobRead (read_job file) l m r) (j : Job) (e : read_job file ≡ accepted j) where
   -- the numbers returned are the job's
   numbers : r ≡ head_of_answer (accepted j)
   numbers = read.exact ∙ ap head_of_answer e
 
   -- no refusal
   good : r.refusal ≡ 0
-  good = ap (λ (h : Head). h.refusal) numbers
+  good = ap (λ (h : HeadNumbers). h.refusal) numbers
 
   -- what the file spells
   spelled : Spellable j
@@ -55,23 +55,23 @@ module _ (file l m : List ℕ) (r : Head) (read : JobRead (read_job file) l m r)
 
   -- S
   pub states_read : r.states ≡ j.rule.states
-  states_read = ap (λ (h : Head). h.states) numbers
+  states_read = ap (λ (h : HeadNumbers). h.states) numbers
 
   -- A
   symbols_read : r.symbols ≡ j.rule.symbols
-  symbols_read = ap (λ (h : Head). h.symbols) numbers
+  symbols_read = ap (λ (h : HeadNumbers). h.symbols) numbers
 
   -- the final set
   pub finals_read : r.finals ≡ j.rule.finals
-  finals_read = ap (λ (h : Head). h.finals) numbers
+  finals_read = ap (λ (h : HeadNumbers). h.finals) numbers
 
   -- N
   pub nodes_read : r.nodes ≡ length j.nodes
-  nodes_read = ap (λ (h : Head). h.nodes) numbers
+  nodes_read = ap (λ (h : HeadNumbers). h.nodes) numbers
 
   -- E is within its limit
   few_edges : r.edges ≤ 2048
-  few_edges = rw (ap (λ (h : Head). h.edges) numbers) spelled.few_edges
+  few_edges = rw (ap (λ (h : HeadNumbers). h.edges) numbers) spelled.few_edges
 
   -- N is within its limit
   pub few_nodes : r.nodes ≤ 512

@@ -33,7 +33,7 @@ pub fn word_row(
         let a = lowest(rest) as usize;
         let state = next_state(table, p, a);
         let apart = rows[state] | unlike_states(finals, state);
-        out = out | preimage_under(table, states, a, apart);
+        out |= preimage_under(table, states, a, apart);
         rest = without_lowest(rest);
     }
     out
@@ -51,11 +51,9 @@ fn word_round(
     ensures { WordsGrown table.now finals states rows.old rows.new set result }
 {
     let mut grown = 0;
-    let mut p = 0;
-    while p < states {
+    for p in 0..states {
         let row = word_row(rows, table, finals, states, set, p);
         grown += join_row(rows, p, row);
-        p += 1;
     }
     grown
 }
@@ -103,9 +101,7 @@ pub fn after_words(
     ensures { AfterWords table.now finals states nodes work.old work.new }
 {
     clear_classes(work);
-    let mut n = 0;
-    while n < nodes {
+    for n in 0..nodes {
         after_node(work, table, finals, states, n, [0; 16]);
-        n += 1;
     }
 }

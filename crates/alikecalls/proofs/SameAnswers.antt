@@ -2,6 +2,7 @@
 -- alike have the same volumes or none, price files alike the same prices or none, and pricing looks at no more of them; texts of rows alike have
 -- the same rows or none.
 -- Assumes nothing.
+use Rattle.std.specs.Prelude.{Result}
 use mathlib.Core.Path.{◌≡◌, refl, sym, ap, ap₂, ◌∙◌}
 use mathlib.Core.Logic.{◌≢◌}
 use mathlib.Core.Bool.{Bool, false, cond, ◌&&◌, ◌||◌, and-false}
@@ -20,7 +21,6 @@ use Rattle.jobfile.specs.Alike.{Alike}
 use Rattle.jobfile.proofs.AlikeLaws.{alike_says}
 use Rattle.buffer.specs.Buffer.{work_size}
 use Rattle.admission.specs.Admission.{admitted}
-use Rattle.checking.specs.declared.check.Verdict.{Verdict}
 use Rattle.checking.specs.Checking.{answered, checked}
 use Rattle.pricing.specs.Numbered.{Column, column, not_these_lines, column_in}
 use Rattle.pricing.specs.Pricing.{volume_line, house_prices, priced_job, answered_at, priced_at}
@@ -37,6 +37,7 @@ use Rattle.ruleoutcome.specs.RuleCall.{fitted, rule_answer}
 use Rattle.rulerows.specs.RuleRows.{Rows, rows_in, max_text, made_of_rows, rule_from, rows_made, rows_value}
 use Rattle.rulerows.proofs.RowsAlikeLaws.{rows_say_alike}
 use Rattle.alikecalls.specs.SameAnswers.{plan_gives, list_gives, check_gives, price_gives, rule_gives, value_gives, print_gives, rows_gives, OneAnswer, OnePrice, OneOwnPrice, OneRule, SameAnswers}
+use Rattle.checking.specs.declared.check.Verdict.{Verdict}
 
 -- the answer of pricing is one, whatever the prices
 abbrev SamePrice : List ℕ → List ℕ → List ℕ → List ℕ → List ℕ → Type 0
@@ -90,7 +91,7 @@ module _ (f g : List ℕ) (long : length f ≡ length g) (read : read_job f ≡ 
         list_answer_holds = same_list;
         listing = λ work listing. ap (λ (x : Answer). list_gives x work listing) (same_list (length work) (length listing));
         verdict = same_verdict;
-        checking = λ plan work. ap (λ (v : Verdict). check_gives v work) (same_verdict plan (length work));
+        checking = λ plan work. ap (λ (v : Result Verdict ℕ). check_gives v work) (same_verdict plan (length work));
         pricing = λ plan volumes. ap price_gives (same_price plan volumes house_prices);
         own_pricing = λ plan volumes prices. ap price_gives (same_own_price f g plan volumes volumes prices (same_price plan volumes));
         rule_answer_holds = same_rule;

@@ -5,7 +5,7 @@
 -- zeros is alike each file of its numbers (`written` of `pricing`'s `NumberedAlike.antt`), and each text of its rows (`written`, `same_rows` of
 -- `rulerows`'s `RowsAlike.antt`).
 -- Assumes nothing.
-use Rattle.std.specs.Prelude.{◌≡◌, ◌≢◌, Bool, false, List, [], ◌∷◌, ◌++◌, ℕ, ◌<◌, length, replicate}
+use Rattle.std.specs.Prelude.{Err, Result, ◌≡◌, ◌≢◌, Bool, false, List, [], ◌∷◌, ◌++◌, ℕ, ◌<◌, length, replicate}
 use Rattle.automaton.specs.Automaton.{numbers_fit}
 use Rattle.automaton.specs.Table.{rule_size}
 use Rattle.automaton.specs.Made.{Made, made_after}
@@ -16,26 +16,22 @@ use Rattle.jobfile.specs.File.{Answer, accepted, read_job}
 use Rattle.jobfile.specs.ListingLines.{printed_for}
 use Rattle.jobfile.specs.Alike.{TurnedDue, Alike}
 use Rattle.admission.specs.Admission.{admitted, work_after}
-use Rattle.checking.specs.declared.check.Verdict.{Verdict}
 use Rattle.checking.specs.Checking.{checked, work_left, verdict_number}
-use Rattle.pricing.specs.declared.price.Price.{Price}
-use Rattle.pricing.specs.declared.price.Price.TheVariants.{Refused}
 use Rattle.pricing.specs.Pricing.{volume_line, priced, price_number}
 use Rattle.pricelist.specs.PriceList.{price_line, priced_by}
-use Rattle.planoutcome.specs.declared.plan.Outcome.{Outcome}
 use Rattle.planoutcome.specs.PlanCall.{plan_answer, outcome_of, plan_after, plan_number}
-use Rattle.listoutcome.specs.declared.list.Listed.{Listed}
 use Rattle.listoutcome.specs.ListCall.{list_answer, listed_of, listing_after, list_number}
-use Rattle.ruleoutcome.specs.declared.rule.RuleAnswer.{RuleAnswer}
-use Rattle.ruleoutcome.specs.declared.rule.JobRule.{JobRule}
+use Rattle.rulevalue.specs.declared.WithTable.{WithTable}
 use Rattle.ruleoutcome.specs.RuleCall.{rule_answer, ruled_of, rule_after, rule_value, rule_number}
-use Rattle.rulerows.specs.declared.rows.RowsAnswer.{RowsAnswer}
 use Rattle.rulerows.specs.RuleRows.{row_line, rows_due, max_text, rows_made, rows_answer, rows_value, rows_number}
 use Rattle.rulerows.specs.RowsAlike.{AlikeRows}
+use Rattle.passes.specs.declared.passes.Counts.{Counts}
+use Rattle.ruleoutcome.specs.declared.rule.RuleNumbers.{RuleNumbers}
+use Rattle.checking.specs.declared.check.Verdict.{Verdict}
 
 -- what a caller of planning has: counts or refusal, their number, the work buffer, the plan buffer
 pub record PlanResult : Type 0 where
-  pub outcome : Outcome
+  pub outcome : Result Counts ℕ
   pub number : ℕ
   pub work : List ℕ
   pub plan : List ℕ
@@ -47,7 +43,7 @@ plan_gives a work plan =
 
 -- of listing: length or refusal, its number, the work buffer, the listing buffer
 pub record ListResult : Type 0 where
-  pub length : Listed
+  pub length : Result ℕ ℕ
   pub number : ℕ
   pub work : List ℕ
   pub listing : List ℕ
@@ -59,26 +55,26 @@ list_gives a work listing =
 
 -- of the plan check: the verdict, its number, the work buffer
 pub record CheckResult : Type 0 where
-  pub verdict : Verdict
+  pub verdict : Result Verdict ℕ
   pub number : ℕ
   pub work : List ℕ
 
 -- for a verdict
-abbrev pub check_gives : Verdict → List ℕ → CheckResult
+abbrev pub check_gives : Result Verdict ℕ → List ℕ → CheckResult
 check_gives v work = record { verdict = v; number = verdict_number v; work = work_left v work }
 
 -- of pricing: the price, its number
 pub record PriceResult : Type 0 where
-  pub price : Price
+  pub price : Result ℕ ℕ
   pub number : ℕ
 
 -- for an answer
-abbrev pub price_gives : Price → PriceResult
+abbrev pub price_gives : Result ℕ ℕ → PriceResult
 price_gives p = record { price = p; number = price_number p }
 
 -- of the rule call: the numbers of the rule or a refusal, their number, the work buffer, the rule buffer
 pub record RuleResult : Type 0 where
-  pub answer : RuleAnswer
+  pub answer : Result RuleNumbers ℕ
   pub number : ℕ
   pub work : List ℕ
   pub rule : List ℕ
@@ -90,7 +86,7 @@ rule_gives a work rule =
 
 -- by value: the rule, the work buffer
 pub record ValueResult : Type 0 where
-  pub rule : JobRule
+  pub rule : WithTable (Result RuleNumbers ℕ)
   pub work : List ℕ
 
 -- for an answer
@@ -108,7 +104,7 @@ print_gives a work = record { text = printed_for a; work = work_after a work }
 
 -- of the call for rule rows: its answer, the number, the rule buffer
 pub record RowsResult : Type 0 where
-  pub answer : RowsAnswer
+  pub answer : Result Unit ℕ
   pub number : ℕ
   pub rule : List ℕ
 
@@ -181,7 +177,7 @@ pub record SameAnswers : Type 0 where
   pub volumes_no_further
       : (file f g due : List ℕ) (j : Job) → read_job file ≡ accepted j → length f ≡ length g
       → FileDue volume_line (length j.nodes) f due → AlikeUpTo due f g → OnePrice file f g
-  pub volumes_last : (file plan f g : List ℕ) (r : ℕ) → r ≢ 16 → priced file plan f ≡ Refused r → priced file plan g ≡ Refused r
+  pub volumes_last : (file plan f g : List ℕ) (r : ℕ) → r ≢ 16 → priced file plan f ≡ Err r → priced file plan g ≡ Err r
   pub prices : (f g : List ℕ) → AlikeFiles price_line 16 f g → OneOwnPrice f g
   pub job_volumes_and_prices
       : (file other f g p q plan : List ℕ) (j : Job) → Alike file other → read_job file ≡ accepted j
@@ -193,10 +189,10 @@ pub record SameAnswers : Type 0 where
   pub prices_no_further
       : (f g due : List ℕ) → length f ≡ length g → FileDue price_line 16 f due → AlikeUpTo due f g → OneOwnPrice f g
   pub prices_last
-      : (file plan volumes f g : List ℕ) (r : ℕ) → r ≢ 28 → priced_by file plan volumes f ≡ Refused r → priced_by file plan volumes g ≡ Refused r
+      : (file plan volumes f g : List ℕ) (r : ℕ) → r ≢ 28 → priced_by file plan volumes f ≡ Err r → priced_by file plan volumes g ≡ Err r
   pub own_volumes_last
-      : (file plan f g prices : List ℕ) (r : ℕ) → r ≢ 16 → r ≢ 28 → priced_by file plan f prices ≡ Refused r
-      → priced_by file plan g prices ≡ Refused r
+      : (file plan f g prices : List ℕ) (r : ℕ) → r ≢ 16 → r ≢ 28 → priced_by file plan f prices ≡ Err r
+      → priced_by file plan g prices ≡ Err r
   pub rows : (s a : ℕ) (f g : List ℕ) → AlikeRows s a f g → (finals : ℕ) → OneRule s a f g finals
   pub rows_no_further
       : (s a : ℕ) (f g due : List ℕ) → length f ≡ length g → FileDue (row_line s a) (rows_due f) f due → AlikeUpTo due f g → (finals : ℕ)

@@ -2,37 +2,38 @@
 #![tactic(auto)]
 
 ghost use Rattle.std.specs.Prelude.{◌≡◌};
+ghost use Rattle.refusal.specs.Refusal.{said};
 ghost use Rattle.planoutcome.specs.PlanCall.{plan_number};
 ghost use Rattle.listoutcome.specs.ListCall.{list_number};
 ghost use Rattle.answernumbers.specs.Fits.{OutcomeFits, ListedFits};
 
 use callnumber::ACCEPTED;
-use listoutcome::list::Listed;
-use planoutcome::plan::Outcome;
+use passes::passes::Counts;
+use refusal::Refusal;
 
 // 2^48 plus event nodes times 2^32, watched points times 2^16, and passes, or the refusal's number.
-pub fn of_outcome(outcome: Outcome) -> u64
-    requires { OutcomeFits outcome }
-    ensures { result ≡ plan_number outcome }
+pub fn of_outcome(outcome: Result<Counts, Refusal>) -> u64
+    requires { OutcomeFits (said outcome) }
+    ensures { result ≡ plan_number (said outcome) }
 {
     match outcome {
-        Outcome::Planned(counts) => {
+        Ok(counts) => {
             ACCEPTED
                 + counts.shadows as u64 * 4_294_967_296
                 + counts.enabled as u64 * 65_536
                 + counts.passes as u64
         }
-        Outcome::Refused(number) => number,
+        Err(unplanned) => u64::from(unplanned),
     }
 }
 
 // 2^48 plus the length of the listing, or the refusal's number.
-pub fn of_listed(listed: Listed) -> u64
-    requires { ListedFits listed }
-    ensures { result ≡ list_number listed }
+pub fn of_listed(listed: Result<usize, Refusal>) -> u64
+    requires { ListedFits (said listed) }
+    ensures { result ≡ list_number (said listed) }
 {
     match listed {
-        Listed::Length(length) => ACCEPTED + length as u64,
-        Listed::Refused(number) => number,
+        Ok(length) => ACCEPTED + length as u64,
+        Err(unlisted) => u64::from(unlisted),
     }
 }

@@ -1,6 +1,7 @@
 -- What an accepted call leaves: lists that hold the edges named, whose index is what a fresh build gives; the entries of other nodes
 -- name what they named; and a call undone leaves the lists as they were. Why: the lists begin with the edges and the index named.
 -- Assumes nothing.
+use Rattle.std.specs.Prelude.{Ok}
 use mathlib.Core.Path.{◌≡◌, refl, sym, ap, subst, ◌∙◌}
 use mathlib.Core.Logic.{⊎_elim}
 use mathlib.Core.Bool.{true, not, and-eq-true_iff}
@@ -12,7 +13,6 @@ use lib.ListN.{length, get_or, take, drop}
 use Rattle.laws.proofs.Tests.{or_passes, or_left}
 use Rattle.job.specs.Job.{Edge, edge, holds}
 use Rattle.jobfile.specs.Spellable.{Ascending}
-use Rattle.arrivals.specs.declared.answer.EdgeAnswer.TheVariants.{Counted}
 use Rattle.arrivals.specs.Arrivals.{numbers_of, predecessors_of, arrivals, starts_of, with_edge, without_edge, Lists, lists, relisted, Edited, counted, added, dropped, indexed}
 use Rattle.arrivals.specs.ArrivalsSay.{entry_in, Within, Held, Addable, Droppable, Indexable, zeroed, KeepsIndex}
 use Rattle.arrivals.proofs.ListLaws.{take_get_d, take_drop_take}
@@ -117,9 +117,9 @@ unfolding counted
 counted_left n k es l = refl
 
 -- what it answers and leaves where the lists become others
-counted_is : (n k : ℕ) (es : List Edge) (l r : Lists) → relisted n k es l ≡ r → counted n k es l ≡ record { answer = Counted (length es); left = r }
+counted_is : (n k : ℕ) (es : List Edge) (l r : Lists) → relisted n k es l ≡ r → counted n k es l ≡ record { answer = Ok (length es); left = r }
 unfolding counted
-counted_is n k es l r e = ap (λ (x : Lists). record { answer = Counted (length es); left = x }) e
+counted_is n k es l r e = ap (λ (x : Lists). record { answer = Ok (length es); left = x }) e
 
 module _ (n a b : ℕ) (es : List Edge) (l : Lists) (h : Addable n a b es l) where
   -- what an addition leaves
@@ -218,7 +218,7 @@ add_drop
     : (n a b : ℕ) (es : List Edge) (l : Lists) → Addable n a b es l
     → dropped n (length es + 1) a b (added n (length es) a b l).left
     ≡ record {
-      answer = Counted (length es);
+      answer = Ok (length es);
       left = lists (zeroed (2 * length es) 2 l.edges) (zeroed (length es) 1 l.predecessors) l.starts;
     }
 add_drop n a b es l h =
@@ -238,7 +238,7 @@ add_drop n a b es l h =
 -- a removal undone
 drop_add
     : (n a b : ℕ) (es : List Edge) (l : Lists) → Droppable n a b es l
-    → added n (length es - 1) a b (dropped n (length es) a b l).left ≡ record { answer = Counted (length es); left = l }
+    → added n (length es - 1) a b (dropped n (length es) a b l).left ≡ record { answer = Ok (length es); left = l }
 drop_add n a b es l h =
     let ds = without_edge (edge a b) es in
     let r = relisted n (length es) ds l in

@@ -4,6 +4,7 @@ pub mod ListLaws
 pub mod PlacedLaws
 pub mod OrderLaws
 pub mod NumbersLaws
+pub mod PairLaws
 pub mod WithLaws
 pub mod SplitLaws
 pub mod IndexLaws

@@ -1,5 +1,6 @@
 -- Every answer of the calls on edges is 22, or a count of at most 2,048.
 -- Assumes nothing.
+use Rattle.std.specs.Prelude.{Result}
 use mathlib.Core.Path.{◌≡◌, refl}
 use mathlib.Core.Logic.{inl, inr}
 use mathlib.Core.Bool.{false}
@@ -11,7 +12,6 @@ use lib.ListN.{length}
 use borrow.Author.Tests.{le-ltb}
 use Rattle.callnumber.specs.CallNumber.{accepted_from}
 use Rattle.job.specs.Job.{Edge, edge}
-use Rattle.arrivals.specs.declared.answer.EdgeAnswer.{EdgeAnswer}
 use Rattle.arrivals.specs.Arrivals.{with_edge, without_edge, Lists, counted, added, dropped, indexed, edge_number}
 use Rattle.arrivals.specs.ArrivalsSay.{Addable, Droppable, Indexable, Told, edge_seen, AnswersSay}
 use Rattle.arrivals.proofs.WithLaws.{with_counts, without_counts}
@@ -23,7 +23,7 @@ unfolding counted
 counted_told n k es l h = inr (length es, h, refl)
 
 -- told answers are read back from their numbers
-told_by_number : (r : EdgeAnswer) → Told r → edge_seen (edge_number r) ≡ r
+told_by_number : (r : Result ℕ ℕ) → Told r → edge_seen (edge_number r) ≡ r
 told_by_number r (inl e) = rw e refl
 told_by_number r (inr (m, few, e)) =
     let past : ltb (accepted_from + m) accepted_from ≡ false = le-ltb (accepted_from + m) accepted_from (omega arith) in

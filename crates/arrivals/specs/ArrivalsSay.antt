@@ -1,13 +1,11 @@
 -- What is said of the arrivals index and of the calls that keep it (document 02, request 7): statements, shown in proofs/.
 -- Assumes nothing.
-use Rattle.std.specs.Prelude.{◌≡◌, ◌≢◌, ◌↔◌, ◌⊎◌, true, false, cond, not, ◌&&◌, ◌||◌, List, [], ◌∷◌, ℕ, ◌+◌, ◌*◌, ◌-◌, ◌≤◌, ◌<◌, eqb, leb, ltb, length, get_or, take, drop}
+use Rattle.std.specs.Prelude.{Result, Ok, Err, ◌≡◌, ◌≢◌, ◌↔◌, ◌⊎◌, true, false, cond, not, ◌&&◌, ◌||◌, List, [], ◌∷◌, ℕ, ◌+◌, ◌*◌, ◌-◌, ◌≤◌, ◌<◌, eqb, leb, ltb, length, get_or, take, drop}
 use Rattle.laws.specs.Bounded.{tab}
 use Rattle.callnumber.specs.CallNumber.{accepted_from}
 use Rattle.job.specs.Job.{Edge, edge, Job, holds, leads}
 use Rattle.jobfile.specs.File.{accepted, read_job}
 use Rattle.jobfile.specs.Spellable.{Ascending}
-use Rattle.arrivals.specs.declared.answer.EdgeAnswer.{EdgeAnswer}
-use Rattle.arrivals.specs.declared.answer.EdgeAnswer.TheVariants.{Counted, Refused}
 use Rattle.arrivals.specs.Arrivals.{numbers_of, predecessors_of, arrivals, starts_of, with_edge, without_edge, Lists, lists, is_held, Edited, counted, refused, added, dropped, indexed, edge_number}
 
 -- ---- the edges with one more or less, and their index
@@ -116,16 +114,16 @@ pub record EditsSay : Type 0 where
   pub index : (n k : ℕ) (l : Lists) → Decides k (λ es. Indexable n es l) l (λ es. counted n k es l) (indexed n k l)
 
 -- an answer is 22, or a count of at most 2,048
-abbrev pub Told : EdgeAnswer → Type 0
-Told r = (r ≡ Refused 22) ⊎ ((m : ℕ) × (m ≤ 2048) × (r ≡ Counted m))
+abbrev pub Told : Result ℕ ℕ → Type 0
+Told r = (r ≡ Err 22) ⊎ ((m : ℕ) × (m ≤ 2048) × (r ≡ Ok m))
 
 -- the answer that a C call's number says
-abbrev pub edge_seen : ℕ → EdgeAnswer
-edge_seen x = cond (ltb x accepted_from) (Refused x) (Counted (x - accepted_from))
+abbrev pub edge_seen : ℕ → Result ℕ ℕ
+edge_seen x = cond (ltb x accepted_from) (Err x) (Ok (x - accepted_from))
 
 -- the statement: no call answers anything else, and such an answer is read back from its number
 pub record AnswersSay : Type 0 where
-  pub by_number : (r : EdgeAnswer) → Told r → edge_seen (edge_number r) ≡ r
+  pub by_number : (r : Result ℕ ℕ) → Told r → edge_seen (edge_number r) ≡ r
   pub add : (n k a b : ℕ) (l : Lists) → Told (added n k a b l).answer
   pub drop : (n k a b : ℕ) (l : Lists) → Told (dropped n k a b l).answer
   pub index : (n k : ℕ) (l : Lists) → Told (indexed n k l).answer
@@ -149,7 +147,7 @@ pub record KeepsIndex : Type 0 where
   pub index_holds : (n : ℕ) (es : List Edge) (l : Lists) → Indexable n es l → Held n es (indexed n (length es) l).left
   pub fresh
       : (n : ℕ) (es : List Edge) (l : Lists) → Held n es l
-      → indexed n (length es) l ≡ record { answer = Counted (length es); left = l }
+      → indexed n (length es) l ≡ record { answer = Ok (length es); left = l }
   pub add_untouched
       : (n a b : ℕ) (es : List Edge) (l : Lists) → Addable n a b es l → (m : ℕ) → m < n → m ≢ b
       → entry_in (added n (length es) a b l).left m ≡ entry_in l m
@@ -160,12 +158,12 @@ pub record KeepsIndex : Type 0 where
       : (n a b : ℕ) (es : List Edge) (l : Lists) → Addable n a b es l
       → dropped n (length es + 1) a b (added n (length es) a b l).left
       ≡ record {
-        answer = Counted (length es);
+        answer = Ok (length es);
         left = lists (zeroed (2 * length es) 2 l.edges) (zeroed (length es) 1 l.predecessors) l.starts;
       }
   pub drop_add
       : (n a b : ℕ) (es : List Edge) (l : Lists) → Droppable n a b es l
-      → added n (length es - 1) a b (dropped n (length es) a b l).left ≡ record { answer = Counted (length es); left = l }
+      → added n (length es - 1) a b (dropped n (length es) a b l).left ≡ record { answer = Ok (length es); left = l }
 
 -- a list is as long as it was, and as it was from a place on
 pub record KeptFrom (at : ℕ) (l r : List ℕ) : Type 0 where
@@ -219,9 +217,9 @@ pub record Graph : Type 0 where
   pub edges : List Edge
 
 -- after a call's answer, with the lists that it leaves: an accepted one gives the count and makes the edges, a refused one changes neither
-abbrev pub graph_after : Graph → Edit → EdgeAnswer → Lists → Graph
-graph_after g c (Counted k) l = record { count = k; lists = l; edges = edges_by c g.edges }
-graph_after g c (Refused r) l = record { count = g.count; lists = l; edges = g.edges }
+abbrev pub graph_after : Graph → Edit → Result ℕ ℕ → Lists → Graph
+graph_after g c (Ok k) l = record { count = k; lists = l; edges = edges_by c g.edges }
+graph_after g c (Err r) l = record { count = g.count; lists = l; edges = g.edges }
 
 -- after a call
 abbrev pub after_edit : ℕ → Graph → Edit → Graph

@@ -1,5 +1,3 @@
 // The arrivals index beside the edges: the answer of the calls that keep it. What they answer and leave is in specs/; the calls themselves are
 // the crates `edgecall` and `indexcall`.
 #![tactic(auto)]
-
-pub mod answer; // answer.rt: the answer of the calls

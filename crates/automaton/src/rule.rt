@@ -3,13 +3,6 @@ ghost use Rattle.std.specs.Prelude.{◌≡◌, ◌<◌};
 ghost use Rattle.laws.specs.Bits.{has};
 ghost use Rattle.automaton.specs.Automaton.{cell};
 
-// A cell as a number.
-pub fn wide(cell: u8) -> u64
-    ensures { (result ≡ cell) × (result < 256) }
-{
-    cell as u64
-}
-
 // The next state of a state on a symbol.
 pub fn next(table: &[[u8; 16]; 16], state: u64, symbol: u64) -> u64
     requires { (state < 16) × (symbol < 16) }
@@ -17,7 +10,7 @@ pub fn next(table: &[[u8; 16]; 16], state: u64, symbol: u64) -> u64
 {
     let q = state as usize;
     let a = symbol as usize;
-    wide(table[q][a])
+    u64::from(table[q][a])
 }
 
 // Whether a state is final.

@@ -24,10 +24,8 @@ pub fn store_before(work: &mut [u8], states: usize, nodes: usize)
     requires { (Lent work.old) × ((states ≤ 16) × (nodes ≤ 512)) }
     ensures { BeforeStored work.old work.new states nodes }
 {
-    let mut n = 0;
-    while n < nodes {
+    for n in 0..nodes {
         let states_held = held_states(work, n, states);
         write16(work, FOUND + n * 4, states_held);
-        n += 1;
     }
 }

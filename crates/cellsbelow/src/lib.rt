@@ -4,8 +4,6 @@
 ghost use Rattle.std.specs.Prelude.{◌≡◌, ◌≤◌};
 ghost use Rattle.automaton.specs.Automaton.{cells_below};
 
-use automaton::rule::wide;
-
 // Whether every next state in the S by A part of the table is below S.
 pub fn are_cells_below(table: &[[u8; 16]; 16], states: u64, symbols: u64) -> bool
     requires { (states ≤ 16) × (symbols ≤ 16) }
@@ -13,16 +11,12 @@ pub fn are_cells_below(table: &[[u8; 16]; 16], states: u64, symbols: u64) -> boo
 {
     let rows = states as usize;
     let columns = symbols as usize;
-    let mut q = 0;
-    while q < rows {
-        let mut a = 0;
-        while a < columns {
-            if states <= wide(table[q][a]) {
+    for q in 0..rows {
+        for a in 0..columns {
+            if states <= u64::from(table[q][a]) {
                 return false;
             }
-            a += 1;
         }
-        q += 1;
     }
     true
 }

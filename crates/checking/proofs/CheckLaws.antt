@@ -1,5 +1,6 @@
 -- Laws of the plan check, in the shape of its code.
 -- Assumes nothing.
+use Rattle.std.specs.Prelude.{Result, Ok, Err}
 use mathlib.Core.Path.{◌≡◌, refl, sym, ap, ◌∙◌, subst}
 use mathlib.Core.Logic.{inr}
 use mathlib.Core.Bool.{Bool, true, false, cond}
@@ -19,21 +20,21 @@ use Rattle.buffer.specs.Layout.{nodes_part, class_part, found_part, plan_part, r
 use Rattle.buffer.specs.Views.{node_in, rule_rows_in}
 use Rattle.buffer.specs.Kept.{SameOutside}
 use Rattle.buffer.proofs.KeptLaws.{kept_fewer, outside_part, kept_none, kept_both}
-use Rattle.jobhead.specs.declared.head.Head.{Head}
+use Rattle.jobhead.specs.Numbers.{HeadNumbers}
 use Rattle.tables.specs.Tables.{SearchKept}
 use Rattle.tables.specs.Held.{Usable, JobHeld, PlanHeld}
 use Rattle.tables.proofs.JobKeptLaws.{FrontKept, front_kept, front_usable, front_job, table_usable}
 use Rattle.search.specs.Searched.{SearchedAt}
 use Rattle.classes.specs.Backwards.{AfterWords}
 use Rattle.classes.proofs.AfterLaws.{after_front}
-use Rattle.admission.specs.Admission.{admitted, work_after}
+use Rattle.admission.specs.Admission.{work_after}
 use Rattle.admission.specs.Admitted.{Admitted}
 use Rattle.admission.proofs.AdmissionLaws.{admitted_long, admitted_short, admitted_read, cleared_outside}
 use Rattle.admission.proofs.CallLaws.{answer_refused}
-use Rattle.checking.specs.declared.check.Verdict.{Verdict}
-use Rattle.checking.specs.declared.check.Verdict.TheVariants.{Faithful, Different, Refused}
 use Rattle.checking.specs.Inner.{PlanStored, Judged}
 use Rattle.checking.specs.Checking.{good_mark, judged, answered, checked, work_left}
+use Rattle.checking.specs.declared.check.Verdict.{Verdict}
+use Rattle.checking.specs.declared.check.Verdict.TheVariants.{Faithful, Different}
 
 -- ---- the answer for a job
 
@@ -42,21 +43,21 @@ abbrev pub marks : List ℕ → (ℕ → Node) → ℕ → Bool
 marks plan node n = good_mark (node n).kind (get_or plan n 0)
 
 -- refusal 11
-pub judged_11 : (j : Job) (plan : List ℕ) → (length plan ≡ length j.nodes → ⊥) → judged j plan ≡ Refused 11
+pub judged_11 : (j : Job) (plan : List ℕ) → (length plan ≡ length j.nodes → ⊥) → judged j plan ≡ Err 11
 unfolding judged
 judged_11 j plan h = simp (ne_eqb (length plan) (length j.nodes) h)
 
 -- refusal 12
 pub judged_12
     : (j : Job) (plan : List ℕ) → length plan ≡ length j.nodes → all_below (length j.nodes) (marks plan (node_at j)) ≡ false
-    → judged j plan ≡ Refused 12
+    → judged j plan ≡ Err 12
 unfolding judged
 judged_12 j plan h g = simp (eq-eqb (length plan) (length j.nodes) h, g)
 
 -- the verdict
 pub judged_verdict
     : (j : Job) (plan : List ℕ) (b : Bool) → length plan ≡ length j.nodes
-    → all_below (length j.nodes) (marks plan (node_at j)) ≡ true → faithful j plan ≡ b → judged j plan ≡ cond b Faithful Different
+    → all_below (length j.nodes) (marks plan (node_at j)) ≡ true → faithful j plan ≡ b → judged j plan ≡ cond b (Ok Faithful) (Ok Different)
 unfolding judged
 judged_verdict j plan b h g e = simp (eq-eqb (length plan) (length j.nodes) h, g, e)
 
@@ -75,7 +76,7 @@ marks_held j plan l table finals states nodes h = marks_same plan (node_in l) (n
 
 module _ (plan l : List ℕ) (table : List (List ℕ)) (finals states nodes : ℕ) where
   -- the plan has another length
-  pub other_length : (length plan ≡ nodes → ⊥) → Judged table finals states nodes plan l l (Refused 11)
+  pub other_length : (length plan ≡ nodes → ⊥) → Judged table finals states nodes plan l l (Err 11)
   other_length h = record {
     kept = kept_none l nodes_part work_size;
     exact = λ j held. sym (judged_11 j plan (λ e. h (e ∙ sym held.nodes_are)));
@@ -83,7 +84,7 @@ module _ (plan l : List ℕ) (table : List (List ℕ)) (finals states nodes : �
 
   -- a node may not have its byte
   pub other_marks
-      : length plan ≡ nodes → all_below nodes (marks plan (node_in l)) ≡ false → Judged table finals states nodes plan l l (Refused 12)
+      : length plan ≡ nodes → all_below nodes (marks plan (node_in l)) ≡ false → Judged table finals states nodes plan l l (Err 12)
   other_marks h g = record {
     kept = kept_none l nodes_part work_size;
     exact = λ j held.
@@ -120,9 +121,9 @@ module _ (plan l m k f : List ℕ) (table : List (List ℕ)) (finals states node
   pub search_judged
       : (rule : List (List ℕ)) (answer b : Bool) → table ≡ rule → Usable l rule states nodes → length plan ≡ nodes
       → all_below nodes (marks plan (node_in l)) ≡ true → PlanStored plan l m nodes → AfterWords table finals states nodes m k
-      → SearchedAt table finals states nodes k f answer → answer ≡ b → Judged rule finals states nodes plan l f (cond b Faithful Different)
+      → SearchedAt table finals states nodes k f answer → answer ≡ b → Judged rule finals states nodes plan l f (cond b (Ok Faithful) (Ok Different))
   search_judged rule answer b same usable h g p a s e =
-      subst (λ (t : List (List ℕ)). Judged t finals states nodes plan l f (cond b Faithful Different)) same (record {
+      subst (λ (t : List (List ℕ)). Judged t finals states nodes plan l f (cond b (Ok Faithful) (Ok Different))) same (record {
         kept = rest_kept p a s.kept;
         exact = λ j held.
             let u = table_usable same usable in
@@ -136,12 +137,12 @@ module _ (plan l m k f : List ℕ) (table : List (List ℕ)) (finals states node
 -- ---- the answer for a file
 
 -- refusal 1
-pub checked_1 : (file plan : List ℕ) (size : ℕ) → max_file < length file → Refused 1 ≡ checked file plan size
+pub checked_1 : (file plan : List ℕ) (size : ℕ) → max_file < length file → Err 1 ≡ checked file plan size
 unfolding checked
 checked_1 file plan size h = sym (ap (λ (a : Answer). answered a plan) (admitted_long file (ltb size work_size) h))
 
 -- refusal 2
-pub checked_2 : (file plan : List ℕ) (size : ℕ) → length file ≤ max_file → size < work_size → Refused 2 ≡ checked file plan size
+pub checked_2 : (file plan : List ℕ) (size : ℕ) → length file ≤ max_file → size < work_size → Err 2 ≡ checked file plan size
 unfolding checked
 checked_2 file plan size h g =
     sym (ap (λ (a : Answer). answered a plan) (admitted_short file (ltb size work_size) h (lt-ltb size work_size g)))
@@ -159,7 +160,7 @@ unfolding judged
 left_judged j plan work =
     go (eqb (length plan) (length j.nodes)) (all_below (length j.nodes) (marks plan (node_at j))) (faithful j plan)
   where
-    go : (a b c : Bool) → work_left (cond a (cond b (cond c Faithful Different) (Refused 12)) (Refused 11)) work ≡ cleared work
+    go : (a b c : Bool) → work_left (cond a (cond b (cond c (Ok Faithful) (Ok Different)) (Err 12)) (Err 11)) work ≡ cleared work
     go true true true = refl
     go true true false = refl
     go true false c = refl
@@ -167,8 +168,8 @@ left_judged j plan work =
 
 -- a number of admission is the refusal
 pub check_refused
-    : {answer : Answer} {l m : List ℕ} {r : Head} (plan : List ℕ) → Admitted answer l m r → (r.refusal ≡ 0 → ⊥)
-    → (Refused r.refusal ≡ answered answer plan) × (m ≡ work_left (Refused r.refusal) l)
+    : {answer : Answer} {l m : List ℕ} {r : HeadNumbers} (plan : List ℕ) → Admitted answer l m r → (r.refusal ≡ 0 → ⊥)
+    → (Err r.refusal ≡ answered answer plan) × (m ≡ work_left (Err r.refusal) l)
 check_refused {answer} {l} plan a h =
     let e = answer_refused a h in (
       sym (ap (λ (x : Answer). answered x plan) e),
@@ -177,11 +178,11 @@ check_refused {answer} {l} plan a h =
 
 -- the answer for the job that was admitted, and the buffer is cleared
 pub check_judged
-    : {answer : Answer} {l m : List ℕ} {r : Head} (plan k : List ℕ) (v : Verdict) → Admitted answer l m r → r.refusal ≡ 0
+    : {answer : Answer} {l m : List ℕ} {r : HeadNumbers} (plan k : List ℕ) (v : Result Verdict ℕ) → Admitted answer l m r → r.refusal ≡ 0
     → Judged (rule_rows_in m) r.finals r.states r.nodes plan m k v → (v ≡ answered answer plan) × (cleared k ≡ work_left v l)
 check_judged {answer} {l} {m} plan k v a h g =
     let j = a.job h in
     let same : v ≡ judged j.job plan = g.exact j.job j.held in (
       same ∙ sym (ap (λ (x : Answer). answered x plan) j.is),
-      cleared_outside m k g.kept ∙ j.clears ∙ sym (ap (λ (x : Verdict). work_left x l) same ∙ left_judged j.job plan l),
+      cleared_outside m k g.kept ∙ j.clears ∙ sym (ap (λ (x : Result Verdict ℕ). work_left x l) same ∙ left_judged j.job plan l),
     )

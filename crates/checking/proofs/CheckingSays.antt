@@ -1,6 +1,7 @@
 -- The verdicts of the plan check say what the walks of the job define, and are read back from the number.
 -- Why: past all refusals the verdict is the test `faithful`, which decides whether a walk shows a difference.
 -- Assumes nothing.
+use Rattle.std.specs.Prelude.{Result, Ok, Err}
 use mathlib.Core.Path.{◌≡◌, refl, sym, ap, ◌∙◌, subst}
 use mathlib.Core.Logic.{⊎_elim, ◌↔◌}
 use mathlib.Core.Bool.{Bool, true, false, cond}
@@ -21,11 +22,11 @@ use Rattle.jobfile.proofs.SpellableLaws.{read_written}
 use Rattle.buffer.specs.Buffer.{work_size, cleared}
 use Rattle.admission.specs.Admission.{admitted}
 use Rattle.admission.proofs.AdmissionLaws.{admitted_small}
-use Rattle.checking.specs.declared.check.Verdict.{Verdict}
-use Rattle.checking.specs.declared.check.Verdict.TheVariants.{Faithful, Different, Refused}
 use Rattle.checking.specs.Checking.{good_mark, has_length, good_marks, judged, answered, checked, work_left, verdict_number}
 use Rattle.checking.specs.CheckingSays.{MarkFor, unwatched, watched, Admissible, SaysFaithful, SaysDifferent, WorkBufferSays, verdict_read, VerdictByNumber}
 use Rattle.checking.proofs.CheckLaws.{marks, judged_11, judged_12, judged_verdict, checked_1, checked_2, checked_read}
+use Rattle.checking.specs.declared.check.Verdict.{Verdict}
+use Rattle.checking.specs.declared.check.Verdict.TheVariants.{Faithful, Different}
 
 -- ---- plan bytes
 
@@ -62,17 +63,17 @@ marks_say j plan = (
 -- ---- verdicts
 
 -- the verdict of a test
-abbrev verdict : Bool → Verdict
-verdict b = cond b Faithful Different
+abbrev verdict : Bool → Result Verdict ℕ
+verdict b = cond b (Ok Faithful) (Ok Different)
 
 -- verdicts have numbers of their own, and a refusal another
-abbrev tag : Verdict → ℕ
-tag Faithful = 0
-tag Different = 1
-tag (Refused k) = 2
+abbrev tag : Result Verdict ℕ → ℕ
+tag (Ok Faithful) = 0
+tag (Ok Different) = 1
+tag (Err k) = 2
 
 -- a refusal is no verdict
-refused_not : (k : ℕ) (b : Bool) → Refused k ≡ verdict b → ⊥
+refused_not : (k : ℕ) (b : Bool) → Err k ≡ verdict b → ⊥
 refused_not k true e = let z : ◌≡◌ {A = ℕ} 2 0 = ap tag e in omega arith
 refused_not k false e = let z : ◌≡◌ {A = ℕ} 2 1 = ap tag e in omega arith
 
@@ -171,28 +172,28 @@ verdict_different file plan size = (
 pub work_buffer_says : WorkBufferSays
 work_buffer_says = record { left_by_1 = λ work. refl; left_by_2 = λ work. refl; cleared_else = else }
   where
-    else : (v : Verdict) (work : List ℕ) → (v ≡ Refused 1 → ⊥) → (v ≡ Refused 2 → ⊥) → work_left v work ≡ cleared work
-    else Faithful work a b = refl
-    else Different work a b = refl
-    else (Refused zero) work a b = refl
-    else (Refused (suc zero)) work a b = absurd (a refl)
-    else (Refused (suc (suc zero))) work a b = absurd (b refl)
-    else (Refused (suc (suc (suc k)))) work a b = refl
+    else : (v : Result Verdict ℕ) (work : List ℕ) → (v ≡ Err 1 → ⊥) → (v ≡ Err 2 → ⊥) → work_left v work ≡ cleared work
+    else (Ok Faithful) work a b = refl
+    else (Ok Different) work a b = refl
+    else (Err zero) work a b = refl
+    else (Err (suc zero)) work a b = absurd (a refl)
+    else (Err (suc (suc zero))) work a b = absurd (b refl)
+    else (Err (suc (suc (suc k)))) work a b = refl
 
 -- ---- the number
 
 -- a refusal's number is small
-abbrev SmallRefusal : Verdict → Type 0
-SmallRefusal Faithful = Unit {0}
-SmallRefusal Different = Unit {0}
-SmallRefusal (Refused k) = k ≤ 15
+abbrev SmallRefusal : Result Verdict ℕ → Type 0
+SmallRefusal (Ok Faithful) = Unit {0}
+SmallRefusal (Ok Different) = Unit {0}
+SmallRefusal (Err k) = k ≤ 15
 
 -- of a job's plan
 judged_small : (j : Job) (plan : List ℕ) → SmallRefusal (judged j plan)
 unfolding judged
 judged_small j plan = go (has_length j plan) (good_marks j plan) (faithful j plan)
   where
-    go : (a b c : Bool) → SmallRefusal (cond a (cond b (cond c Faithful Different) (Refused 12)) (Refused 11))
+    go : (a b c : Bool) → SmallRefusal (cond a (cond b (cond c (Ok Faithful) (Ok Different)) (Err 12)) (Err 11))
     go true true true = tt
     go true true false = tt
     go true false c = omega arith
@@ -208,10 +209,10 @@ checked_small file plan size = go (admitted file (ltb size work_size)) refl
     go (turned k) e = omega (arith, admitted_small file (ltb size work_size) k e)
 
 -- a verdict with a small refusal is read back
-read_small : (v : Verdict) → SmallRefusal v → verdict_read (verdict_number v) ≡ v
-read_small Faithful s = refl
-read_small Different s = refl
-read_small (Refused k) s = simp (ne_eqb k accepted_from (λ e. omega arith), ne_eqb k (accepted_from + 1) (λ e. omega arith))
+read_small : (v : Result Verdict ℕ) → SmallRefusal v → verdict_read (verdict_number v) ≡ v
+read_small (Ok Faithful) s = refl
+read_small (Ok Different) s = refl
+read_small (Err k) s = simp (ne_eqb k accepted_from (λ e. omega arith), ne_eqb k (accepted_from + 1) (λ e. omega arith))
 
 -- the verdict is read back
 pub verdict_by_number : VerdictByNumber

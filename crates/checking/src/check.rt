@@ -1,9 +1,18 @@
-// The answer of the plan check.
+// The verdict of the plan check.
+use std::fmt;
 
-// Faithful, different, or a refusal.
-#[derive(Drop)]
+// Whether no walk tells the plan from all points watched.
+#[derive(Clone, Copy, Debug, PartialEq, Eq)]
 pub enum Verdict {
     Faithful,
     Different,
-    Refused(u64),
+}
+
+impl fmt::Display for Verdict {
+    fn fmt<W: fmt::Write>(&self, f: &mut fmt::Formatter<W>) -> fmt::Result {
+        f.write_str(match self {
+            Verdict::Faithful => "faithful",
+            Verdict::Different => "different",
+        })
+    }
 }

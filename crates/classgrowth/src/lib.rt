@@ -29,12 +29,10 @@ fn class_node(
     let set = call_set(work, n);
     let rows = class_rows(work, n);
     let mut grown = 0;
-    let mut p = 0;
-    while p < states {
+    for p in 0..states {
         let words = word_row(&rows, table, finals, states, set, p);
         let row = words | successor_row(work, table, finals, states, n, p);
         grown += join_classes(work, n, p, row);
-        p += 1;
     }
     grown
 }
@@ -51,9 +49,7 @@ fn class_round(
     ensures { ClassesGrown table.now finals states nodes work.old work.new result }
 {
     let mut grown = 0;
-    let mut n = nodes;
-    while n > 0 {
-        n -= 1;
+    for n in (0..nodes).rev() {
         grown += class_node(work, table, finals, states, n);
     }
     grown

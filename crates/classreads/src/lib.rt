@@ -16,11 +16,9 @@ pub fn lowest_states(work: &[u8], n: usize, states: usize) -> u16
 {
     let mut out = 0;
     let mut apart = 65535;
-    let mut q = 0;
-    while q < states {
-        out = out | (apart & (1 << q));
-        apart = apart & class_row(work, n, q);
-        q += 1;
+    for q in 0..states {
+        out |= apart & (1 << q);
+        apart &= class_row(work, n, q);
     }
     out
 }

@@ -33,10 +33,8 @@ fn join_calls(work: &mut [u8], nodes: usize, rows: &[u16; 16]) -> usize
     ensures { NodesJoined (ToCall rows.now) (ToCall rows.now) work.old work.new nodes result }
 {
     let mut grown = 0;
-    let mut n = 0;
-    while n < nodes {
+    for n in 0..nodes {
         grown += join_call(work, n, rows);
-        n += 1;
     }
     grown
 }
@@ -73,10 +71,8 @@ fn join_exits(
     ensures { NodesJoined (ToExit table.now finals states rows) (ToExitWithin table.now finals states rows) work.old work.new nodes result }
 {
     let mut grown = 0;
-    let mut n = 0;
-    while n < nodes {
+    for n in 0..nodes {
         grown += join_exit(work, table, finals, states, n, rows);
-        n += 1;
     }
     grown
 }

@@ -40,10 +40,8 @@ pub fn class_rows(work: &[u8], n: usize) -> [u16; 16]
     ensures { result ≡ tab 16 (class_row_in work.now n) }
 {
     let mut rows = [0u16; 16];
-    let mut p = 0;
-    while p < 16 {
+    for p in 0..16 {
         rows[p] = class_row(work, n, p);
-        p += 1;
     }
     rows
 }
@@ -54,10 +52,8 @@ pub fn join_class_rows(work: &mut [u8], n: usize, rows: &[u16; 16]) -> usize
     ensures { ApartJoined work.old work.new n rows.now result }
 {
     let mut grown = 0;
-    let mut p = 0;
-    while p < 16 {
+    for p in 0..16 {
         grown += join_classes(work, n, p, rows[p]);
-        p += 1;
     }
     grown
 }

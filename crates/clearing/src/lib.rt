@@ -13,11 +13,7 @@ fn clear_part(work: &mut [u8], from: usize, to: usize)
     requires { (to ≤ length work.old) × (from ≤ to) }
     ensures { Zeroed work.old work.new from to }
 {
-    let mut i = from;
-    while i < to {
-        work[i] = 0;
-        i += 1;
-    }
+    work[from..to].fill(0);
 }
 
 // Empties the rows of pairs.

@@ -39,10 +39,8 @@ fn write_rest_line(out: &mut [u8], k: usize, states: usize, nodes: usize)
 fn write_rest(out: &mut [u8], states: usize, nodes: usize, edges: usize)
     requires { (49914 ≤ length out.old) × (states ≤ 17) × (nodes ≤ 65) × (edges ≤ 2049) }
 {
-    let mut k = 0;
-    while k < states + nodes + edges {
+    for k in 0..states + nodes + edges {
         write_rest_line(out, k, states, nodes);
-        k += 1;
     }
 }
 

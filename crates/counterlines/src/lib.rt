@@ -5,25 +5,12 @@ ghost use Rattle.std.specs.Prelude.{◌+◌, ◌<◌, ◌≤◌, length};
 
 use linewriter::write_line;
 
-// A mark as a number: 1 or 0.
-fn mark(b: bool) -> u64
-    ensures { result ≤ 1 }
-{
-    if b {
-        return 1;
-    }
-    0
-}
-
 // The state after q.
 fn next(q: usize, states: usize) -> u64
     requires { q < 17 }
     ensures { result ≤ 17 }
 {
-    if q + 1 == states {
-        return 0;
-    }
-    q as u64 + 1
+    if q + 1 == states { 0 } else { q as u64 + 1 }
 }
 
 // Writes the J line.
@@ -38,7 +25,7 @@ pub fn write_head(out: &mut [u8], states: usize, nodes: usize, edges: usize)
 pub fn write_rule(out: &mut [u8], at: usize, q: usize, states: usize)
     requires { (at + 20 ≤ length out.old) × (q < 17) }
 {
-    let numbers = [q as u64, mark(q + 1 == states), next(q, states)];
+    let numbers = [q as u64, u64::from(q + 1 == states), next(q, states)];
     write_line(out, at, b'R', &numbers);
 }
 
@@ -46,7 +33,7 @@ pub fn write_rule(out: &mut [u8], at: usize, q: usize, states: usize)
 pub fn write_node(out: &mut [u8], at: usize, n: usize)
     requires { (at + 38 ≤ length out.old) × (n < 65) }
 {
-    let first = mark(n == 0);
+    let first = u64::from(n == 0);
     let numbers = [n as u64, first, 0, first, 0, 0];
     write_line(out, at, b'P', &numbers);
 }

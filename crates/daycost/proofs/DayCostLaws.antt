@@ -1,5 +1,6 @@
 -- Laws of a node's cost, and of the sum over the V lines, in the shape of the code.
 -- Assumes nothing.
+use Rattle.std.specs.Prelude.{Option, Some, None, Result, Ok, Err}
 use mathlib.Core.Path.{◌≡◌, refl, sym, ap, ◌∙◌, subst}
 use mathlib.Core.Bool.{Bool, true, false, true≢false}
 use mathlib.Core.List.{List}
@@ -12,12 +13,10 @@ use Rattle.laws.specs.Bounded.{sum_below, tab}
 use Rattle.laws.proofs.Bounded.{sum_none, sum_more, sum_cong, get_d_tab}
 use Rattle.job.specs.Job.{Point, no_point, point, point_of, is_point}
 use Rattle.job.specs.Plan.{enables}
-use Rattle.lines.specs.declared.field.Field.{Field}
-use Rattle.lines.specs.declared.field.Field.TheVariants.{Number, Malformed}
-use Rattle.lines.specs.declared.line.Collected.{Collected}
+use Rattle.refusal.specs.declared.Refusal.{Refusal}
+use Rattle.refusal.specs.declared.Refusal.TheVariants.{WrongVolumes}
 use Rattle.lines.specs.Line.{line_of}
 use Rattle.lines.proofs.LinesLaws.{passed_more}
-use Rattle.framing.specs.Framing.{collected}
 use Rattle.buffer.specs.Views.{node_in}
 use Rattle.pricing.specs.Numbered.{not_these_lines, column_in}
 use Rattle.pricing.specs.Pricing.{volume_line, cost}
@@ -77,8 +76,8 @@ module _ (file prices work plan : List ℕ) where
 
   -- one node more
   pub sum_next
-      : (sum n v : ℕ) (f : Field) (x : ℕ) → PricesFit prices → SumSoFar sum n → f ≡ number_due 999999 n (line_of 86 2 (drop (n * 14) file))
-      → f ≡ Number v → x ≡ cost_in prices work plan n v → SumSoFar (sum + x) (n + 1)
+      : (sum n v : ℕ) (f : Option ℕ) (x : ℕ) → PricesFit prices → SumSoFar sum n → f ≡ number_due 999999 n (line_of 86 2 (drop (n * 14) file))
+      → f ≡ Some v → x ≡ cost_in prices work plan n v → SumSoFar (sum + x) (n + 1)
   sum_next sum n v f x fit s due number e =
       let (good, volume, few) = line_passes 86 999999 16 file n v (sym due ∙ number) in
       let here : x ≡ cost_in prices work plan n (volume_at file n) = e ∙ ap (cost_in prices work plan n) (sym volume) in
@@ -90,32 +89,32 @@ module _ (file prices work plan : List ℕ) where
 
   -- a volume within its limit
   pub volume_few
-      : (n v : ℕ) (f : Field) → f ≡ number_due 999999 n (line_of 86 2 (drop (n * 14) file)) → f ≡ Number v → v ≤ 999999
+      : (n v : ℕ) (f : Option ℕ) → f ≡ number_due 999999 n (line_of 86 2 (drop (n * 14) file)) → f ≡ Some v → v ≤ 999999
   volume_few n v f due number = (line_passes 86 999999 16 file n v (sym due ∙ number)).2
 
   -- ---- the file as a whole
 
-  -- a file that is not these lines: 16 beside 0
-  none_summed : (nodes : ℕ) (r : Collected) → r ≡ collected 16 0 → column_in volume_line nodes file ≡ not_these_lines → Summed prices work plan file nodes r
-  none_summed nodes r e none = record { is = e ∙ sym (ap (sum_in prices work plan nodes) none); small = rw e (lit< tt) }
+  -- a file that is not these lines
+  none_summed : (nodes : ℕ) → column_in volume_line nodes file ≡ not_these_lines → Summed prices work plan file nodes (Err WrongVolumes)
+  none_summed nodes none = record { is = sym (ap (sum_in prices work plan nodes) none); small = lit< tt }
 
   -- another length
-  pub sum_length : (nodes : ℕ) (r : Collected) → r ≡ collected 16 0 → (length file ≡ nodes * 14 → ⊥) → Summed prices work plan file nodes r
-  sum_length nodes r refusal h = none_summed nodes r refusal (column_length 86 999999 16 file nodes h)
+  pub sum_length : (nodes : ℕ) → (length file ≡ nodes * 14 → ⊥) → Summed prices work plan file nodes (Err WrongVolumes)
+  sum_length nodes h = none_summed nodes (column_length 86 999999 16 file nodes h)
 
   -- a line that does not pass
   pub sum_stop
-      : (sum nodes n : ℕ) (f : Field) (r : Collected) → r ≡ collected 16 0 → n < nodes → SumSoFar sum n
-      → f ≡ number_due 999999 n (line_of 86 2 (drop (n * 14) file)) → f ≡ Malformed → Summed prices work plan file nodes r
-  sum_stop sum nodes n f r refusal l s due none =
-      none_summed nodes r refusal (column_stop 86 999999 16 file nodes (lit< tt) n l s.passed (sym due ∙ none))
+      : (sum nodes n : ℕ) (f : Option ℕ) → n < nodes → SumSoFar sum n
+      → f ≡ number_due 999999 n (line_of 86 2 (drop (n * 14) file)) → f ≡ None → Summed prices work plan file nodes (Err WrongVolumes)
+  sum_stop sum nodes n f l s due none =
+      none_summed nodes (column_stop 86 999999 16 file nodes (lit< tt) n l s.passed (sym due ∙ none))
 
   -- all lines
   sum_all
       : (sum nodes : ℕ) → length file ≡ nodes * 14 → SumSoFar sum nodes
-      → collected 0 sum ≡ sum_in prices work plan nodes (column_in volume_line nodes file)
+      → Ok sum ≡ sum_in prices work plan nodes (column_in volume_line nodes file)
   sum_all sum nodes long s =
-      ap (collected 0)
+      ap {B = Result ℕ Refusal} (λ (x : ℕ). Ok x)
       (s.is
       ∙ sum_cong nodes (λ k. cost_in prices work plan k (volume_at file k))
       (λ k. cost_in prices work plan k (get_or (tab nodes (volume_at file)) k 0))
@@ -125,6 +124,6 @@ module _ (file prices work plan : List ℕ) where
   -- a loop left at its bound
   pub sum_end
       : (sum nodes n : ℕ) → n ≡ nodes → nodes ≤ 512 → length file ≡ nodes * 14 → SumSoFar sum n
-      → Summed prices work plan file nodes (collected 0 sum)
+      → Summed prices work plan file nodes (Ok sum)
   sum_end sum nodes n e few long s =
       record { is = sum_all sum nodes long (subst (SumSoFar sum) e s); small = omega (arith, s.small) }

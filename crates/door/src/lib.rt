@@ -5,36 +5,30 @@ ghost use Rattle.std.specs.Prelude.{◌||◌, ltb, length};
 ghost use Rattle.buffer.specs.Buffer.{work_size};
 ghost use Rattle.admission.specs.Admission.{admitted};
 ghost use Rattle.admission.specs.Admitted.{Admitted};
+ghost use Rattle.jobhead.specs.Numbers.{numbers_in};
 
 use buffer::WORK;
 use clearing::clear;
-use jobhead::head::{Head, turned_back};
+use jobhead::head::Head;
 use jobreader::{LONGEST, read_job};
+use refusal::Refusal;
 
-// The refusals of a file that is too long, and of a lent buffer that is too short.
-const LONG: u64 = 1;
-
-const SHORT: u64 = 2;
-
-// Admits a file and the lent buffers: a refusal's number, or 0 beside the numbers of the job that the work buffer holds. `short` says that
+// Admits a file and the lent buffers: a refusal, or the numbers of the job that the work buffer holds. `short` says that
 // another lent buffer is too short.
-pub fn admit(file: &[u8], work: &mut [u8], short: bool) -> Head
-    ensures { Admitted (admitted file.now (ltb (length work.old) work_size || short)) work.old work.new result }
+pub fn admit(file: &[u8], work: &mut [u8], short: bool) -> Result<Head, Refusal>
+    ensures { Admitted (admitted file.now (ltb (length work.old) work_size || short)) work.old work.new (numbers_in result) }
 {
     if LONGEST < file.len() {
-        return turned_back(LONG);
+        return Err(Refusal::LongFile);
     }
-    if work.len() < WORK {
-        return turned_back(SHORT);
+    if work.len() < WORK || short {
+        return Err(Refusal::ShortBuffer);
     }
-    if short {
-        return turned_back(SHORT);
+    match read_job(file, work) {
+        Ok(head) => Ok(head),
+        Err(refusal) => {
+            clear(work);
+            Err(refusal)
+        }
     }
-    let head = read_job(file, work);
-    let refusal = head.refusal;
-    if refusal != 0 {
-        clear(work);
-        return turned_back(refusal);
-    }
-    head
 }

@@ -1,6 +1,7 @@
 -- What the calls on edges answer and leave, test by test.
 -- Assumes nothing.
-use mathlib.Core.Path.{◌≡◌, refl, sym, ap, ◌∙◌}
+use Rattle.std.specs.Prelude.{Ok}
+use mathlib.Core.Path.{◌≡◌, sym, ap, ◌∙◌}
 use mathlib.Core.Bool.{Bool, true, false, ◌&&◌, true≢false, and-eq-true_iff}
 use mathlib.Core.List.{List}
 use Prim.Native.Nat.{ℕ, ◌+◌, ◌*◌, ◌-◌, ◌≤◌, ◌<◌}
@@ -12,7 +13,6 @@ use lib.ListN.{length}
 use borrow.Author.Tests.{lt-ltb, ltb-true, le-leb, eq-eqb, eqb-true}
 use Rattle.laws.proofs.Tests.{test_ext, fails_of}
 use Rattle.job.specs.Job.{Edge, edge, holds}
-use Rattle.arrivals.specs.declared.answer.EdgeAnswer.TheVariants.{Counted}
 use Rattle.arrivals.specs.Arrivals.{edge_at, is_before, with_edge, without_edge, Lists, lists, edges_of, is_held, relisted, edited, counted, refused, may_add, may_drop, added, dropped}
 use Rattle.arrivals.specs.ArrivalsSay.{Addable, Droppable}
 use Rattle.arrivals.specs.Shifts.{Downward, Cut}
@@ -23,11 +23,6 @@ use Rattle.arrivals.proofs.FitsLaws.{held_parts}
 use Rattle.arrivals.proofs.HeldLaws.{add_at, drop_at}
 use Rattle.arrivals.proofs.EditLaws.{at_place}
 use Rattle.edgecall.specs.Standing.{ends_below, stands_at}
-
--- a test of three fails where the second does
-pub other : (a b c : Bool) → b ≡ false → false ≡ (a && (b && c))
-other true b c h = simp h
-other false b c h = refl
 
 -- ends that are nodes, and ends of which one is none
 pub ends_nodes : (n a b : ℕ) (r : Bool) → r ≡ ends_below n a b → r ≡ true → (a < n) × (b < n)
@@ -90,7 +85,7 @@ module _ (n k a b : ℕ) (l : Lists) where
   pub add_made
       : (es ps ss : List ℕ) → is_held n k l ≡ true → a < n → b < n → k < 2048 → 2 * k + 2 ≤ length l.edges
       → k < length l.predecessors → holds (edges_of k l) a b ≡ false
-      → lists es ps ss ≡ relisted n k (with_edge (edge a b) (edges_of k l)) l → edited (Counted (k + 1)) es ps ss ≡ added n k a b l
+      → lists es ps ss ≡ relisted n k (with_edge (edge a b) (edges_of k l)) l → edited (Ok (k + 1)) es ps ss ≡ added n k a b l
   unfolding added may_add counted
   add_made es ps ss held from to room long more absent left =
       let more_long : leb (k + 1) (length l.predecessors) ≡ true = le-leb (k + 1) (length l.predecessors) (omega arith) in
@@ -125,7 +120,7 @@ module _ (n k a b : ℕ) (l : Lists) where
   -- one that is made answers the count and leaves the other edges with their index
   pub drop_made
       : (es ps ss : List ℕ) → is_held n k l ≡ true → a < n → b < n → holds (edges_of k l) a b ≡ true
-      → lists es ps ss ≡ relisted n k (without_edge (edge a b) (edges_of k l)) l → edited (Counted (k - 1)) es ps ss ≡ dropped n k a b l
+      → lists es ps ss ≡ relisted n k (without_edge (edge a b) (edges_of k l)) l → edited (Ok (k - 1)) es ps ss ≡ dropped n k a b l
   unfolding dropped may_drop counted
   drop_made es ps ss held from to present left =
       let up = ascend_ascending n k l.edges (held_parts n k l held).ascend in

@@ -11,10 +11,14 @@ use lib.Dec.{lit<, eqb, leb, ltb, leb-zero}
 use lib.ListN.{replicate}
 use borrow.Author.Tests.{eq-eqb, eqb-true, le-leb, leb-true, lt-ltb, ltb-true}
 use Rattle.laws.proofs.Tests.{fails_of, test_ext, or_left, or_right, or_passes}
+use Rattle.std.specs.Prelude.{Ok, Err}
+use Rattle.refusal.specs.declared.Refusal.{Refusal}
+use Rattle.refusal.specs.declared.Refusal.TheVariants.{WrongEdge}
+use Rattle.refusal.specs.Refusal.{number_of}
+use Rattle.refusal.proofs.RefusalLaws.{number_some}
 use Rattle.lines.specs.Inner.{DueRead}
 use Rattle.lines.specs.Line.{line_of, at}
 use Rattle.jobfile.specs.File.{ascends, good_edge, edge_line}
-use Rattle.framing.specs.Framing.{collected}
 use Rattle.lines.specs.Places.{numbers_of, status_of}
 use Rattle.jobhead.specs.ReadLines.{before_of, EdgeRead}
 use Rattle.jobfile.specs.Refusal.{EdgeWithin}
@@ -74,22 +78,22 @@ module _ (n next : ℕ) (ns : List ℕ) where
 
 module _ (n next : ℕ) (bytes : List ℕ) where
   -- a refusal
-  refused_as : (k : ℕ) → k ≡ status_of (edge_line n) 0 (before_of next) (line_of 70 2 bytes) → (k ≡ 0 → ⊥) → EdgeRead n next bytes (collected k 0)
-  refused_as k e q = record {
+  refused_as : (k : Refusal) → number_of k ≡ status_of (edge_line n) 0 (before_of next) (line_of 70 2 bytes) → EdgeRead n next bytes (Err k)
+  refused_as k e = record {
     status = e;
     zero = λ z. refl;
-    from = λ z. absurd (q z);
-    to = λ z. absurd (q z);
-    from_below = λ z. absurd (q z);
-    ascends = λ z. absurd (q z);
-    within = λ z. absurd (q z);
+    from = λ z. absurd (number_some k z);
+    to = λ z. absurd (number_some k z);
+    from_below = λ z. absurd (number_some k z);
+    ascends = λ z. absurd (number_some k z);
+    within = λ z. absurd (number_some k z);
     small = lit< tt;
   }
 
   module _ {ns : List ℕ} {r : ℕ} (e : DueRead (line_of 70 2 bytes) 2 (replicate 2 0) ns r) where
     -- nothing, or no line
-    pub edge_stop : (r ≡ 0 → ⊥) → EdgeRead n next bytes (collected r 0)
-    edge_stop q = refused_as r (due_stops (edge_line n) 0 (before_of next) bytes e q) q
+    pub edge_stop : (k : Refusal) → r ≡ number_of k → EdgeRead n next bytes (Err k)
+    edge_stop k i = refused_as k (sym i ∙ due_stops (edge_line n) 0 (before_of next) bytes e (λ z. number_some k (sym i ∙ z)))
 
     module _ (z : r ≡ 0) where
       -- the line's numbers
@@ -97,8 +101,8 @@ module _ (n next : ℕ) (bytes : List ℕ) where
       numbers_are = due_whole (edge_line n) 0 (before_of next) bytes e z refl
 
       -- numbers that do not pass
-      pub edge_fails : EdgeTest n next ns ≡ false → EdgeRead n next bytes (collected 8 0)
-      edge_fails g = refused_as 8 (due_tested (edge_line n) 0 (before_of next) bytes e z false numbers_are g) (λ q. absurd (omega arith))
+      pub edge_fails : EdgeTest n next ns ≡ false → EdgeRead n next bytes (Err WrongEdge)
+      edge_fails g = refused_as WrongEdge (due_tested (edge_line n) 0 (before_of next) bytes e z false numbers_are g)
 
       -- the numbers of a line that passes
       pub edge_limits : n ≤ 512 → EdgeTest n next ns ≡ true → (at ns 0 < n) × (at ns 1 < n) × (next ≤ at ns 0 * 512 + at ns 1)
@@ -107,7 +111,7 @@ module _ (n next : ℕ) (bytes : List ℕ) where
           (w.from, w.to, leb-true next (at ns 0 * 512 + at ns 1) (edge_key n next ns s w.from w.to ∙ g))
 
       -- numbers that pass
-      pub edge_passes : n ≤ 512 → EdgeTest n next ns ≡ true → EdgeRead n next bytes (collected 0 (at ns 0 * 512 + at ns 1))
+      pub edge_passes : n ≤ 512 → EdgeTest n next ns ≡ true → EdgeRead n next bytes (Ok (at ns 0 * 512 + at ns 1))
       edge_passes s g =
           let l = edge_limits s g in
           let a = l.0 in

@@ -6,8 +6,7 @@ ghost use Rattle.jobfile.specs.File.{good_edge};
 ghost use Rattle.jobhead.specs.ReadLines.{before_of, EdgeRead};
 
 use duelines::due_line;
-use framing::refused;
-use lines::line::Collected;
+use refusal::Refusal;
 
 // Whether an F line's numbers are nodes and its key is at least `next`: refusal 8 is that they are not.
 fn is_edge(nodes: u64, next: u64, numbers: &[u64; 2]) -> bool
@@ -25,21 +24,15 @@ fn is_edge(nodes: u64, next: u64, numbers: &[u64; 2]) -> bool
     next <= from * 512 + to
 }
 
-// Reads the F line at `at`, whose key is to be at least `next`: 3, 4 or 8, or its key.
-pub fn edge_line(file: &[u8], at: usize, nodes: u64, next: u64) -> Collected
+// Reads the F line at `at`, whose key is to be at least `next`: `FileEnds`, `WrongLine` or `WrongEdge`, or its key.
+pub fn edge_line(file: &[u8], at: usize, nodes: u64, next: u64) -> Result<u64, Refusal>
     requires { (at ≤ length file.now) × (nodes ≤ 512) }
     ensures { EdgeRead nodes next (drop at file.now) result }
 {
     let mut numbers = [0u64; 2];
-    let status = due_line(file, at, 70, 2, &mut numbers);
-    if status != 0 {
-        return refused(status);
+    due_line(file, at, 70, 2, &mut numbers)?;
+    if !is_edge(nodes, next, &numbers) {
+        return Err(Refusal::WrongEdge);
     }
-    if is_edge(nodes, next, &numbers) {
-        return Collected {
-            status: 0,
-            number: numbers[0] * 512 + numbers[1],
-        };
-    }
-    refused(8)
+    Ok(numbers[0] * 512 + numbers[1])
 }

@@ -13,7 +13,9 @@ use lib.ListN.{length, get_or, drop, length-drop}
 use lib.Seq.{ext_get_or}
 use Rattle.laws.specs.Bytes.{put_number}
 use Rattle.laws.proofs.Bytes.{number_put}
-use Rattle.lines.specs.declared.line.Collected.{Collected}
+use Rattle.std.specs.Prelude.{Result}
+use Rattle.refusal.specs.declared.Refusal.{Refusal}
+use Rattle.refusal.specs.Refusal.{status_in, value_in}
 use Rattle.lines.specs.Line.{line_of, at}
 use Rattle.jobfile.specs.File.{edge_line}
 use Rattle.buffer.specs.Layout.{starts_part, targets_part, pair_part, Lent}
@@ -107,15 +109,15 @@ module _ (l m k w : List ℕ) (done from e v : ℕ) (few : from < 512) (reach : 
       (kept_both l m k starts_part pair_part (starts_part + done * 2) (starts_part + (from + 1) * 2) p x.kept (omega arith) (omega arith))
       put (omega arith) (omega arith)
 
-module _ (n : ℕ) (file : List ℕ) (start : ℕ) (l m : List ℕ) (next done e : ℕ) (r : Collected)
+module _ (n : ℕ) (file : List ℕ) (start : ℕ) (l m : List ℕ) (next done e : ℕ) (r : Result ℕ Refusal)
     (so : EdgesSoFar n (drop start file) l m next done e) (x : EdgeRead n next (drop (start + e * 14) file) r) where
   abbrev bytes : List ℕ
   bytes = drop start file
 
   -- the line's status
-  own_status : r.status ≡ status_at (edge_line n) bytes e
+  own_status : status_in r ≡ status_at (edge_line n) bytes e
   own_status =
-      status_here (edge_line n) file start e 0 (before_of next) r.status
+      status_here (edge_line n) file start e 0 (before_of next) (status_in r)
       (λ ns. ap (λ (b : List ℕ). (edge_line n).good 0 b ns) so.before) x.status
 
   -- its numbers
@@ -123,9 +125,9 @@ module _ (n : ℕ) (file : List ℕ) (start : ℕ) (l m : List ℕ) (next done e
   own_numbers = numbers_here (edge_line n) file start e
 
   -- a line that does not pass
-  pub edges_stop : (c : ℕ) → e < c → (r.status ≡ 0 → ⊥) → EdgesRead n c bytes l m r.status
+  pub edges_stop : (c : ℕ) → e < c → (status_in r ≡ 0 → ⊥) → EdgesRead n c bytes l m (status_in r)
   edges_stop c g q = record {
-    lines = read_stop (edge_line n) bytes c e r.status g (lit< tt) so.passed own_status q;
+    lines = read_stop (edge_line n) bytes c e (status_in r) g (lit< tt) so.passed own_status q;
     targets = λ z. absurd (q z);
     starts = λ z. absurd (q z);
     below = λ z. absurd (q z);
@@ -135,33 +137,33 @@ module _ (n : ℕ) (file : List ℕ) (start : ℕ) (l m : List ℕ) (next done e
   }
 
   -- the starts that are stored reach the line's own
-  pub done_reaches : r.status ≡ 0 → done ≤ r.number / 512 + 1
+  pub done_reaches : status_in r ≡ 0 → done ≤ value_in r / 512 + 1
   done_reaches z = omega (arith, so.reach, x.ascends z)
 
   -- the line is the one before the next
   before_next
-      : status_at (edge_line n) bytes e ≡ 0 → r.number / 512 ≡ source n bytes e → r.number % 512 ≡ at (numbers_at (edge_line n) bytes e) 1
-      → before_of (r.number + 1) ≡ before_at (edge_line n) bytes (e + 1)
+      : status_at (edge_line n) bytes e ≡ 0 → value_in r / 512 ≡ source n bytes e → value_in r % 512 ≡ at (numbers_at (edge_line n) bytes e) 1
+      → before_of (value_in r + 1) ≡ before_at (edge_line n) bytes (e + 1)
   unfolding before_at
   before_next h p q =
-      rw (add-one r.number, add-one e)
-      (two_numbers (numbers_at (edge_line n) bytes e) (r.number / 512) (r.number % 512) (passed_length (edge_line n) bytes e h) p q)
+      rw (add-one (value_in r), add-one e)
+      (two_numbers (numbers_at (edge_line n) bytes e) (value_in r / 512) (value_in r % 512) (passed_length (edge_line n) bytes e h) p q)
 
   -- one line more
   pub Edges-more
-      : (k w : List ℕ) → n ≤ 512 → e < 2048 → Lent l → r.status ≡ 0 → StartsFilled m k done (r.number / 512 + 1) e
-      → w ≡ put_number 2 k (targets_part + e * 2) (r.number % 512)
-      → EdgesSoFar n bytes l w (r.number + 1) (r.number / 512 + 1) (e + 1)
+      : (k w : List ℕ) → n ≤ 512 → e < 2048 → Lent l → status_in r ≡ 0 → StartsFilled m k done (value_in r / 512 + 1) e
+      → w ≡ put_number 2 k (targets_part + e * 2) (value_in r % 512)
+      → EdgesSoFar n bytes l w (value_in r + 1) (value_in r / 512 + 1) (e + 1)
   Edges-more k w hn he long z st y =
-      let from = r.number / 512 in
+      let from = value_in r / 512 in
       let here : status_at (edge_line n) bytes e ≡ 0 = sym own_status ∙ z in
       let is_from : from ≡ source n bytes e = x.from z ∙ ap (λ (ns : List ℕ). at ns 0) own_numbers in
-      let is_to : r.number % 512 ≡ at (numbers_at (edge_line n) bytes e) 1 = x.to z ∙ ap (λ (ns : List ℕ). at ns 1) own_numbers in
+      let is_to : value_in r % 512 ≡ at (numbers_at (edge_line n) bytes e) 1 = x.to z ∙ ap (λ (ns : List ℕ). at ns 1) own_numbers in
       let reaches = done_reaches z in
       let fb = x.from_below z in
       let lm : Lent m = omega (arith, so.kept.long) in
-      let old = old_start l m k w done from e (r.number % 512) (omega arith) reaches he lm st y in
-      let new = new_start l m k w done from e (r.number % 512) (omega arith) reaches he lm st y in
+      let old = old_start l m k w done from e (value_in r % 512) (omega arith) reaches he lm st y in
+      let new = new_start l m k w done from e (value_in r % 512) (omega arith) reaches he lm st y in
       record {
         passed = passed_more (edge_line n) bytes e so.passed here;
         within = omega (arith, x.within z, so.within, length-drop (start + e * 14) file, length-drop start file);
@@ -171,8 +173,8 @@ module _ (n : ℕ) (file : List ℕ) (start : ℕ) (l m : List ℕ) (next done e
         few = omega arith;
         targets = λ i h.
             ⊎_elim
-            (λ (q : i ≡ e). rw q (new_target l m k w done from e (r.number % 512) (omega arith) reaches he lm st y (omega arith) ∙ is_to))
-            (λ (q : i < e). old_target l m k w done from e (r.number % 512) (omega arith) reaches he lm st y i q ∙ so.targets i q)
+            (λ (q : i ≡ e). rw q (new_target l m k w done from e (value_in r % 512) (omega arith) reaches he lm st y (omega arith) ∙ is_to))
+            (λ (q : i < e). old_target l m k w done from e (value_in r % 512) (omega arith) reaches he lm st y i q ∙ so.targets i q)
             (eq-or-lt_of_le (le_of_suc-le-suc (rw (add-one e) at h)));
         starts = λ j h.
             by_cases (dec_lt j done)
@@ -197,7 +199,7 @@ module _ (n : ℕ) (file : List ℕ) (start : ℕ) (l m : List ℕ) (next done e
             (λ (q : i ≡ e). omega (arith, ap (source n bytes) q, is_from))
             (λ (q : i < e). omega (arith, so.sources i q))
             (eq-or-lt_of_le (le_of_suc-le-suc (rw (add-one e) at h)));
-        kept = stores_kept l m k w done from e (r.number % 512) (omega arith) reaches he lm st y so.kept;
+        kept = stores_kept l m k w done from e (value_in r % 512) (omega arith) reaches he lm st y so.kept;
       }
 
 -- a start before those that are filled

@@ -2,19 +2,20 @@
 #![tactic(auto)]
 
 ghost use Rattle.std.specs.Prelude.{◌≡◌};
+ghost use Rattle.refusal.specs.Refusal.{said};
 ghost use Rattle.arrivals.specs.Arrivals.{edge_number};
 ghost use Rattle.edgenumbers.specs.Fits.{EdgesFit};
 
-use arrivals::answer::EdgeAnswer;
 use callnumber::ACCEPTED;
+use refusal::Refusal;
 
 // 2^48 plus the count, or the refusal's number.
-pub fn of_edges(answer: EdgeAnswer) -> u64
-    requires { EdgesFit answer }
-    ensures { result ≡ edge_number answer }
+pub fn of_edges(answer: Result<u64, Refusal>) -> u64
+    requires { EdgesFit (said answer) }
+    ensures { result ≡ edge_number (said answer) }
 {
     match answer {
-        EdgeAnswer::Counted(count) => ACCEPTED + count,
-        EdgeAnswer::Refused(number) => number,
+        Ok(count) => ACCEPTED + count,
+        Err(refusal) => u64::from(refusal),
     }
 }

@@ -1,63 +1,34 @@
--- Laws of the place where a test fails first, found by halving.
+-- Laws of the place where a test fails first, found in a list of what is tested.
 -- Assumes nothing.
-use mathlib.Core.Path.{◌≡◌, sym, ◌∙◌}
-use mathlib.Core.Bool.{Bool, true, false, true≢false}
-use Prim.Native.Nat.{ℕ, ◌+◌, ◌≤◌, ◌<◌}
+use mathlib.Core.Path.{◌≡◌, sym, ap, ◌∙◌}
+use mathlib.Core.Bool.{Bool, true, false}
+use mathlib.Core.List.{List}
+use Prim.Native.Nat.{ℕ, ◌+◌, ◌-◌, ◌≤◌, ◌<◌}
 use native.Mathlib.Omega.{arith}
-use Rattle.laws.proofs.Tests.{fails_of}
+use lib.ListN.{length, get_or}
+use Rattle.std.specs.List.Sorted.{IsPartitionPoint, IsPartitionedBy}
 use Rattle.arrivals.specs.Shifts.{Downward, Cut}
 
--- the test passes from the first place to before `low`, and fails from `high` to before the last
-pub record Halving (f : ℕ → Bool) (first last low high : ℕ) : Type 0 where
-  pub from_first : first ≤ low
-  pub ordered : low ≤ high
-  pub to_last : high ≤ last
-  pub passes : (i : ℕ) → first ≤ i → i < low → f i ≡ true
-  pub fails : (i : ℕ) → high ≤ i → i < last → f i ≡ false
+-- a list of which element i is tested as place first + i is
+module _ {X : Type 0} (xs : List X) (p : X → Bool) (f : ℕ → Bool) (first last : ℕ) (all : first + length xs ≡ last)
+    (same : (i : ℕ) (d : X) → i < length xs → p (get_or xs i d) ≡ f (first + i)) where
+  -- where the test passes at a place, it passes at all before
+  pub parted : Downward f first last → IsPartitionedBy p xs
+  parted down i j d order inside holds =
+      same i d (omega arith)
+      ∙ down (first + i) (first + j) (omega arith) (omega arith) (omega arith) (sym (same j d inside) ∙ holds)
 
--- at first nothing is known
-pub halving_start : (f : ℕ → Bool) (first last : ℕ) → first ≤ last → Halving f first last first last
-halving_start f first last h =
-    record {
-      from_first = omega arith;
-      ordered = h;
-      to_last = omega arith;
-      passes = λ i g k. absurd (omega arith);
-      fails = λ i g k. absurd (omega arith);
-    }
-
--- where it passes at m, it passes at all before
-pub halving_passes
-    : (f : ℕ → Bool) (first last low high m : ℕ) → Downward f first last → Halving f first last low high → low ≤ m → m < high → f m ≡ true
-    → Halving f first last (m + 1) high
-halving_passes f first last low high m down h from to e =
-    record {
-      from_first = omega (arith, h.from_first);
-      ordered = omega arith;
-      to_last = h.to_last;
-      passes = λ i g k. down i m g (omega arith) (omega (arith, h.to_last)) e;
-      fails = h.fails;
-    }
-
--- where it fails at m, it fails at all after
-pub halving_fails
-    : (f : ℕ → Bool) (first last low high m : ℕ) → Downward f first last → Halving f first last low high → low ≤ m → m < high → f m ≡ false
-    → Halving f first last low m
-halving_fails f first last low high m down h from to e =
-    record {
-      from_first = h.from_first;
-      ordered = from;
-      to_last = omega (arith, h.to_last);
-      passes = h.passes;
-      fails = λ i g k. fails_of (f i) (λ q. true≢false (sym (down m i (omega (arith, h.from_first)) g k q) ∙ e));
-    }
-
--- where the two meet is the place
-pub halving_end : (f : ℕ → Bool) (first last low high : ℕ) → Halving f first last low high → high ≤ low → Cut f first last low
-halving_end f first last low high h met =
-    record {
-      from_first = h.from_first;
-      to_last = omega (arith, h.ordered, h.to_last);
-      passes = h.passes;
-      fails = λ i g k. h.fails i (omega arith) k;
-    }
+  -- the point of the list where it fails first is the place
+  pub point_cut
+      : (d : X) (r q : ℕ) → q ≡ first + r → r ≤ length xs → IsPartitionPoint (λ y. p y ≡ true) (λ y. p y ≡ false) xs r → Cut f first last q
+  point_cut d r q e bound point =
+      record {
+        from_first = omega arith;
+        to_last = omega arith;
+        passes = λ i g h.
+            let place : first + (i - first) ≡ i = omega arith in
+            ap f (sym place) ∙ sym (same (i - first) d (omega arith)) ∙ point.0 (i - first) d (omega arith) (omega arith);
+        fails = λ i g h.
+            let place : first + (i - first) ≡ i = omega arith in
+            ap f (sym place) ∙ sym (same (i - first) d (omega arith)) ∙ point.1 (i - first) d (omega arith) (omega arith);
+      }

@@ -11,18 +11,8 @@ pub fn edge_place(edges: &[u16], count: usize, from: u16, to: u16) -> usize
     requires { (2 * count ≤ length edges.now) × Downward (λ i. is_before (edge_at edges.now i) (edge from to)) 0 count }
     ensures { Cut (λ i. is_before (edge_at edges.now i) (edge from to)) 0 count result }
 {
-    let mut low = 0;
-    let mut high = count;
-    while low < high {
-        let middle = low + (high - low) / 2;
-        let start = edges[2 * middle];
-        if start < from || (start == from && edges[2 * middle + 1] < to) {
-            low = middle + 1;
-        } else {
-            high = middle;
-        }
-    }
-    low
+    let (pairs, _) = edges.as_chunks::<2>();
+    pairs[..count].partition_point(|[start, end]| *start < from || (*start == from && *end < to))
 }
 
 // The first place, from `first` to before `last`, of a number that is not below the one given; `last` where there is none.
@@ -30,15 +20,5 @@ pub fn number_place(list: &[u16], first: usize, last: usize, number: u16) -> usi
     requires { (first ≤ last) × (last ≤ length list.now) × Downward (λ i. ltb (get_or list.now i 0) number) first last }
     ensures { Cut (λ i. ltb (get_or list.now i 0) number) first last result }
 {
-    let mut low = first;
-    let mut high = last;
-    while low < high {
-        let middle = low + (high - low) / 2;
-        if list[middle] < number {
-            low = middle + 1;
-        } else {
-            high = middle;
-        }
-    }
-    low
+    first + list[first..last].partition_point(|x| *x < number)
 }

@@ -7,7 +7,7 @@ ghost use Rattle.arrivals.specs.Arrivals.{edges_in, with_edge, without_edge, lis
 ghost use Rattle.edgeput.specs.Ready.{PutReady, TakeReady};
 
 use edgeplace::number_place;
-use edgeshift::{close_one, close_two, lower_starts, open_one, open_two, raise_starts};
+use edgeshift::{close_at, lower_starts, open_at, raise_starts};
 
 // Puts an edge in at its place.
 pub fn put_edge(
@@ -28,8 +28,8 @@ pub fn put_edge(
     let first = starts[node] as usize;
     let last = starts[node + 1] as usize;
     let at = number_place(predecessors, first, last, from);
-    open_two(edges, 2 * place, 2 * count, from, to);
-    open_one(predecessors, at, count, from);
+    open_at(edges, 2 * place, 2 * count, &[from, to]);
+    open_at(predecessors, at, count, &[from]);
     raise_starts(starts, node, nodes);
 }
 
@@ -52,7 +52,7 @@ pub fn take_edge(
     let first = starts[node] as usize;
     let last = starts[node + 1] as usize;
     let at = number_place(predecessors, first, last, from);
-    close_two(edges, 2 * place, 2 * count);
-    close_one(predecessors, at, count);
+    close_at(edges, 2 * place, 2 * count, 2);
+    close_at(predecessors, at, count, 1);
     lower_starts(starts, node, nodes);
 }

@@ -1,15 +1,15 @@
 -- Laws of a list of which a part is replaced, place by place: of numbers moved up, moved down, and changed where they stand.
 -- Assumes nothing.
 use mathlib.Core.Path.{◌≡◌, refl, sym, ap, ◌∙◌}
-use mathlib.Core.Logic.{by_cases}
 use mathlib.Core.Bool.{Bool, true, false, cond, ◌&&◌}
-use mathlib.Core.List.{List, [], ◌∷◌}
-use Prim.Native.Nat.{ℕ, suc, ◌+◌, ◌-◌, ◌≤◌, ◌<◌}
-use native.Mathlib.Decide.{ℕ_discrete}
+use mathlib.Core.List.{List, ◌++◌}
+use Prim.Native.Nat.{ℕ, ◌+◌, ◌-◌, ◌≤◌, ◌<◌}
 use native.Mathlib.Omega.{arith}
 use lib.Dec.{leb, ltb}
-use lib.ListN.{length, get_or, set, length-set, replicate, length-replicate, get_or-replicate}
-use lib.Seq.{get_or-set_same, get_or-set_other, sets}
+use lib.ListN.{length, get_or, take, drop, length-drop, length-append, get_or-append, replicate, length-replicate, get_or-replicate}
+use lib.Seq.{length-take-le, get_or-take, get_or-drop}
+use Rattle.std.proofs.lemmas.List.{get_or-append_right}
+use borrow.Rule.Slice.PartMut.{mid_of, put_mid}
 use borrow.Author.Tests.{ltb-true, ltb-false, leb-true, leb-false}
 use Rattle.laws.specs.Bounded.{tab}
 use Rattle.laws.proofs.Bounded.{fill_done}
@@ -24,40 +24,21 @@ pub record Replaced (l m : List ℕ) (a b : ℕ) (f : ℕ → ℕ) : Type 0 wher
   pub here : (j : ℕ) → a ≤ j → j < b → get_or m j 0 ≡ f j
   pub after : (j : ℕ) → b ≤ j → get_or m j 0 ≡ get_or l j 0
 
--- one store more: the part from c to before d is the one from a to before b, and place p
-replaced_store
-    : (l m : List ℕ) (a b c d p v : ℕ) (f : ℕ → ℕ) → Replaced l m a b f → p < length l → v ≡ f p → c ≤ p → p < d → c ≤ a → b ≤ d
-    → ((j : ℕ) → c ≤ j → j < d → (j ≡ p → ⊥) → (a ≤ j) × (j < b)) → Replaced l (set m p v) c d f
-replaced_store l m a b c d p v f r in_List value low high below above rest =
+-- a part written anew: k is its length, and ys what it holds
+pub replaced_part
+    : (l ys : List ℕ) (a k : ℕ) → a + k ≤ length l → length ys ≡ k → Replaced l (put_mid a k l ys) a (a + k) (λ j. get_or ys (j - a) 0)
+replaced_part l ys a k fits all =
+    let head : length (take a l) ≡ a = length-take-le a l (omega arith) in
+    let tail : List ℕ = drop k (drop a l) in
     record {
-      long = length-set m p v ∙ r.long;
-      before = λ j h. get_or-set_other m p j v 0 (λ q. absurd (omega arith)) ∙ r.before j (omega arith);
+      long = omega (arith, length-append (take a l) (ys ++ tail), length-append ys tail, length-drop k (drop a l), length-drop a l);
+      before = λ j h. get_or-append (take a l) (ys ++ tail) 0 j (omega arith) ∙ get_or-take a l j 0 h;
       here = λ j g h.
-          by_cases (ℕ_discrete j p)
-          (λ (q : j ≡ p). rw q (get_or-set_same m p v 0 (omega (arith, r.long)) ∙ value))
-          (λ other. let within = rest j g h other in get_or-set_other m p j v 0 other ∙ r.here j within.0 within.1);
-      after = λ j h. get_or-set_other m p j v 0 (λ q. absurd (omega arith)) ∙ r.after j (omega arith);
-    }
-
--- numbers stored in turn
-replaced_sets
-    : (l : List ℕ) (i : ℕ) (vs : List ℕ) → i + length vs ≤ length l → Replaced l (sets l i vs) i (i + length vs) (λ j. get_or vs (j - i) 0)
-replaced_sets l i [] h =
-    record { long = refl; before = λ j k. refl; here = λ j g k. absurd (omega arith); after = λ j k. refl }
-replaced_sets l i (v ∷ vs) h =
-    let r = replaced_sets (set l i v) (suc i) vs (omega (arith, length-set l i v)) in
-    record {
-      long = r.long ∙ length-set l i v;
-      before = λ j k. r.before j (omega arith) ∙ get_or-set_other l i j v 0 (λ q. absurd (omega arith));
-      here = λ j g k.
-          by_cases (ℕ_discrete j i)
-          (λ (q : j ≡ i).
-          let first : j - i ≡ 0 = omega arith in
-          r.before j (omega arith) ∙ rw (first, q) (get_or-set_same l i v 0 (omega arith)))
-          (λ other.
-          let next : j - i ≡ suc (j - suc i) = omega arith in
-          r.here j (omega arith) (omega arith) ∙ sym (ap (λ (n : ℕ). get_or (v ∷ vs) n 0) next));
-      after = λ j k. r.after j (omega arith) ∙ get_or-set_other l i j v 0 (λ q. absurd (omega arith));
+          get_or-append_right (take a l) (ys ++ tail) a j 0 head g ∙ get_or-append ys tail 0 (j - a) (omega arith);
+      after = λ j h.
+          get_or-append_right (take a l) (ys ++ tail) a j 0 head (omega arith)
+          ∙ get_or-append_right ys tail k (j - a) 0 all (omega arith) ∙ get_or-drop k (drop a l) (j - a - k) 0
+          ∙ get_or-drop a l (k + (j - a - k)) 0 ∙ ap (λ (n : ℕ). get_or l n 0) (omega arith);
     }
 
 -- what is one value where a test passes, and another where it fails
@@ -73,100 +54,77 @@ told_both false t x y v p q r = q refl
 
 -- ---- numbers moved up
 
--- the numbers of l, w places up
-abbrev pub up : ℕ → List ℕ → ℕ → ℕ
-up w l j = get_or l (j - w) 0
-
--- the number before place i goes to place p, w places up
-pub up_more
-    : (l m : List ℕ) (w end i p : ℕ) → Replaced l m (i + w) (end + w) (up w l) → 0 < i → i ≤ end → end + w ≤ length l → p + 1 ≡ i + w
-    → Replaced l (set m p (get_or m (i - 1) 0)) (i - 1 + w) (end + w) (up w l)
-up_more l m w end i p r some few fits place =
-    let source : i - 1 ≡ p - w = omega arith in
-    replaced_store l m (i + w) (end + w) (i - 1 + w) (end + w) p (get_or m (i - 1) 0) (up w l) r (omega arith)
-    (r.before (i - 1) (omega arith) ∙ ap (λ (n : ℕ). get_or l n 0) source) (omega arith) (omega arith) (omega arith) (omega arith)
-    (λ j g h other. (omega arith, h))
-
--- all from `at` on are moved, and the new ones are stored
+-- the numbers from `at` on are moved up by the length of the new ones, which are stored before them
 pub up_done
-    : (l m : List ℕ) (at end i : ℕ) (new : List ℕ) → Replaced l m (i + length new) (end + length new) (up (length new) l) → i ≡ at → at ≤ end
-    → end + length new ≤ length l → sets m at new ≡ opened at end new l
+    : (l m ys new : List ℕ) (at end w : ℕ) → ys ≡ new → w ≡ length new → at ≤ end → end + length new ≤ length l
+    → Replaced l m (at + length new) (end + length new) (λ j. get_or l (j - length new) 0) → put_mid at w m ys ≡ opened at end new l
 unfolding opened
-up_done l m at end i new r stop few fits =
-    let w = length new in
-    let k = sets m at new in
-    let s = replaced_sets m at new (omega (arith, r.long)) in
+up_done l m ys new at end w e q few fits r =
+    let k = put_mid at w m ys in
+    let s = replaced_part m ys at w (omega (arith, r.long)) (ap length e ∙ sym q) in
     fill_done k (length l) _ 0 (s.long ∙ r.long)
     (λ j h.
     told (ltb j at) _ _ (get_or k j 0) (λ t. s.before j (ltb-true j at t) ∙ r.before j (omega (arith, ltb-true j at t)))
     (λ t.
-    told (ltb j (at + w)) _ _ (get_or k j 0) (λ u. s.here j (ltb-false j at t) (ltb-true j (at + w) u))
+    told (ltb j (at + length new)) _ _ (get_or k j 0)
+    (λ u. s.here j (ltb-false j at t) (omega (arith, ltb-true j (at + length new) u)) ∙ ap (λ (x : List ℕ). get_or x (j - at) 0) e)
     (λ u.
-    let past = ltb-false j (at + w) u in
-    told (ltb j (end + w)) _ _ (get_or k j 0) (λ v. s.after j past ∙ r.here j (omega arith) (ltb-true j (end + w) v))
-    (λ v. s.after j past ∙ r.after j (ltb-false j (end + w) v)))))
+    let past = ltb-false j (at + length new) u in
+    told (ltb j (end + length new)) _ _ (get_or k j 0)
+    (λ v. s.after j (omega arith) ∙ r.here j past (ltb-true j (end + length new) v))
+    (λ v. s.after j (omega arith) ∙ r.after j (ltb-false j (end + length new) v)))))
 
 -- ---- numbers moved down
 
--- the numbers of l, w places down
-abbrev pub down : ℕ → List ℕ → ℕ → ℕ
-down w l j = get_or l (j + w) 0
-
--- the number at place i goes to place p, w places down
-pub down_more
-    : (l m : List ℕ) (w at i p : ℕ) → Replaced l m at (i - w) (down w l) → at + w ≤ i → i < length l → p + w ≡ i
-    → Replaced l (set m p (get_or m i 0)) at (i + 1 - w) (down w l)
-down_more l m w at i p r some fits place =
-    replaced_store l m at (i - w) at (i + 1 - w) p (get_or m i 0) (down w l) r (omega arith)
-    (r.after i (omega arith) ∙ ap (λ (n : ℕ). get_or l n 0) (sym place)) (omega arith) (omega arith) (omega arith) (omega arith)
-    (λ j g h other. (g, omega arith))
-
--- all before `end` are moved, and zeros are stored in the places that are freed
+-- the numbers before `end` are moved down by w places, and zeros are stored in the places that are freed, from `freed` on
 pub down_done
-    : (l m : List ℕ) (w at end i : ℕ) → Replaced l m at (i - w) (down w l) → i ≡ end → at + w ≤ end → end ≤ length l
-    → sets m (end - w) (replicate w 0) ≡ closed at end w l
+    : (l m ys : List ℕ) (w at end freed k : ℕ) → ys ≡ replicate (length (mid_of freed k m)) 0 → k ≡ w → freed + w ≡ end → at ≤ freed → end ≤ length l
+    → Replaced l m at freed (λ j. get_or l (j + w) 0) → put_mid freed k m ys ≡ closed at end w l
 unfolding closed
-down_done l m w at end i r stop some fits =
-    let zeros : List ℕ = replicate w 0 in
-    let all : length zeros ≡ w = length-replicate w 0 in
-    let k = sets m (end - w) zeros in
-    let s = replaced_sets m (end - w) zeros (omega (arith, r.long)) in
-    fill_done k (length l) _ 0 (s.long ∙ r.long)
+down_done l m ys w at end freed k e q place some fits r =
+    let now = put_mid freed k m ys in
+    let long : length (mid_of freed k m) ≡ k = length-take-le k (drop freed m) (omega (arith, r.long, length-drop freed m)) in
+    let s = replaced_part m ys freed k (omega (arith, r.long)) (ap length e ∙ length-replicate _ 0 ∙ long) in
+    fill_done now (length l) _ 0 (s.long ∙ r.long)
     (λ j h.
-    told (ltb j at) _ _ (get_or k j 0) (λ t. s.before j (omega (arith, ltb-true j at t)) ∙ r.before j (ltb-true j at t))
+    told (ltb j at) _ _ (get_or now j 0) (λ t. s.before j (omega (arith, ltb-true j at t)) ∙ r.before j (ltb-true j at t))
     (λ t.
-    told (ltb (j + w) end) _ _ (get_or k j 0)
+    told (ltb (j + w) end) _ _ (get_or now j 0)
     (λ u. let moved = ltb-true (j + w) end u in s.before j (omega arith) ∙ r.here j (ltb-false j at t) (omega arith))
     (λ u.
-    let freed = ltb-false (j + w) end u in
-    told (ltb j end) _ _ (get_or k j 0)
+    let past = ltb-false (j + w) end u in
+    told (ltb j end) _ _ (get_or now j 0)
     (λ v.
     let inside = ltb-true j end v in
-    s.here j (omega arith) (omega arith) ∙ get_or-replicate w (j - (end - w)) 0 0 (omega arith))
+    s.here j (omega arith) (omega arith) ∙ ap (λ (x : List ℕ). get_or x (j - freed) 0) e
+    ∙ get_or-replicate _ (j - freed) 0 0 (omega arith))
     (λ v. let outside = ltb-false j end v in s.after j (omega arith) ∙ r.after j (omega arith)))))
 
 -- ---- numbers changed where they stand
 
--- the numbers of l, each changed by h
-abbrev pub each : (ℕ → ℕ) → List ℕ → ℕ → ℕ
-each h l j = h (get_or l j 0)
+-- of a part, the numbers before place i are changed by h
+pub record Changed (l m : List ℕ) (i : ℕ) (h : ℕ → ℕ) : Type 0 where
+  pub long : length m ≡ length l
+  pub changed : (j : ℕ) → j < i → get_or m j 0 ≡ h (get_or l j 0)
+  pub kept : (j : ℕ) → i ≤ j → get_or m j 0 ≡ get_or l j 0
 
--- the number at place n is changed
-pub each_more
-    : (l m : List ℕ) (b n : ℕ) (h : ℕ → ℕ) → Replaced l m (b + 1) n (each h l) → b < n → n < length l
-    → Replaced l (set m n (h (get_or m n 0))) (b + 1) (n + 1) (each h l)
-each_more l m b n h r past fits =
-    replaced_store l m (b + 1) n (b + 1) (n + 1) n (h (get_or m n 0)) (each h l) r fits (ap h (r.after n (omega arith)))
-    (omega arith) (omega arith) (omega arith) (omega arith) (λ j g k other. (g, omega arith))
-
--- all to place n are changed
-pub each_done
-    : (l m : List ℕ) (b n i : ℕ) (h : ℕ → ℕ) → Replaced l m (b + 1) i (each h l) → i ≡ n + 1
-    → m ≡ tab (length l) (λ j. cond (ltb b j && leb j n) (h (get_or l j 0)) (get_or l j 0))
-each_done l m b n i h r stop =
-    fill_done m (length l) _ 0 r.long
-    (λ j k.
-    told_both (ltb b j) (leb j n) _ _ (get_or m j 0)
-    (λ s t. r.here j (omega (arith, ltb-true b j s)) (omega (arith, leb-true j n t)))
-    (λ s. r.before j (omega (arith, ltb-false b j s)))
-    (λ t. r.after j (omega (arith, leb-false j n t))))
+-- all of the part after place b, to place n, are changed
+pub changed_done
+    : (l m : List ℕ) (b n w i : ℕ) (h : ℕ → ℕ) → b < n → n < length l → w + b ≡ n → w ≤ i → Changed (mid_of (b + 1) w l) m i h
+    → put_mid (b + 1) w l m ≡ tab (length l) (λ j. cond (ltb b j && leb j n) (h (get_or l j 0)) (get_or l j 0))
+changed_done l m b n w i h some fits part all r =
+    let k = put_mid (b + 1) w l m in
+    let long : length m ≡ w = r.long ∙ length-take-le w (drop (b + 1) l) (omega (arith, length-drop (b + 1) l)) in
+    let s = replaced_part l m (b + 1) w (omega arith) long in
+    fill_done k (length l) _ 0 s.long
+    (λ j f.
+    told_both (ltb b j) (leb j n) _ _ (get_or k j 0)
+    (λ u t.
+    let above = ltb-true b j u in
+    let below = leb-true j n t in
+    let place : b + 1 + (j - (b + 1)) ≡ j = omega arith in
+    s.here j (omega arith) (omega arith) ∙ r.changed (j - (b + 1)) (omega arith)
+    ∙ ap h (get_or-take w (drop (b + 1) l) (j - (b + 1)) 0 (omega arith) ∙ get_or-drop (b + 1) l (j - (b + 1)) 0)
+    ∙ ap (λ (i : ℕ). h (get_or l i 0)) place)
+    (λ u. s.before j (omega (arith, ltb-false b j u)))
+    (λ t. s.after j (omega (arith, leb-false j n t))))

@@ -1,5 +1,6 @@
 -- Laws of the event step across the C call: what it reads and writes, and its refusals by their causes.
 -- Assumes nothing.
+use Rattle.std.specs.Prelude.{Result, Ok}
 use mathlib.Core.Path.{◌≡◌, refl, sym, ap, ◌∙◌}
 use mathlib.Core.Logic.{by_cases}
 use mathlib.Core.Bool.{Bool, true, false, cond, true≢false}
@@ -16,14 +17,13 @@ use Rattle.laws.proofs.Bytes.{length_put}
 use Rattle.automaton.specs.Automaton.{Automaton, automaton_of, next, final, well_formed}
 use Rattle.automaton.specs.Table.{table_of}
 use Rattle.automaton.proofs.AutomatonLaws.{not_well_formed, well_formed_says}
-use Rattle.events.specs.Monitor.{reported, max_total, record_after, refused_with, moved_to, taken, report_number, refusal_number}
+use Rattle.events.specs.Monitor.{EventStep, reported, max_total, record_after, refused_with, moved_to, taken, report_number, refusal_number}
 use Rattle.events.specs.declared.Record.{Record}
-use Rattle.events.specs.declared.Taken.{Taken}
-use Rattle.events.specs.declared.Report.{Report}
-use Rattle.events.specs.declared.Report.TheVariants.{Quiet, Alarm}
 use Rattle.events.proofs.MonitorLaws.{taken_13, taken_14, taken_15, TakenCase, no_rule, no_symbol, no_state, moves, taken_moved, taken_case}
 use Rattle.events.proofs.FormLaws.{refuses}
 use Rattle.eventbytes.specs.Event.{rule_in, state_place, total_place, record_size, record_at, no_record, record_in, event_taken, record_bytes, left_by, record_left, refusal_of, refused_by, RefusesEventsInOrder}
+use Rattle.events.specs.declared.Report.{Report}
+use Rattle.events.specs.declared.Report.TheVariants.{Quiet, Alarm}
 
 -- ---- reading
 
@@ -119,7 +119,7 @@ event_length rule s a f c rec e = go (taken_case m c r)
     r : Record
     r = record_in rec
 
-    no_event : {t : Taken} → taken m c r ≡ t → refuses t ≡ true → length rec ≡ record_size
+    no_event : {t : EventStep} → taken m c r ≡ t → refuses t ≡ true → length rec ≡ record_size
     no_event u h = absurd (true≢false (sym h ∙ ap refuses (sym u) ∙ e))
 
     go : TakenCase m c r → length rec ≡ record_size
@@ -130,25 +130,25 @@ event_length rule s a f c rec e = go (taken_case m c r)
 
 -- the number and the bytes of an answer t that reports x, where u is what the definition has
 pub answered
-    : (rec : List ℕ) (t u : Taken) (x : Report) → t ≡ u → t.report ≡ x
+    : (rec : List ℕ) (t u : EventStep) (x : Result Report ℕ) → t ≡ u → t.report ≡ x
     → (report_number x ≡ report_number u.report) × (left_by x rec (record_bytes t.left) ≡ record_left rec u)
 answered rec t u x e r = (
-  ap report_number (sym r ∙ ap (λ (v : Taken). v.report) e),
-  ap (λ (y : Report). left_by y rec (record_bytes t.left)) (sym r) ∙ ap (λ (v : Taken). record_left rec v) e,
+  ap report_number (sym r ∙ ap (λ (v : EventStep). v.report) e),
+  ap (λ (y : Result Report ℕ). left_by y rec (record_bytes t.left)) (sym r) ∙ ap (λ (v : EventStep). record_left rec v) e,
 )
 
 -- an answer that reports an event has the bytes of a record
 pub answered_length
-    : (rule : List ℕ) (s a f c : ℕ) (rec : List ℕ) (t : Taken) (x : Report) → t ≡ event_taken rule s a f c rec → t.report ≡ x
+    : (rule : List ℕ) (s a f c : ℕ) (rec : List ℕ) (t : EventStep) (x : Result Report ℕ) → t ≡ event_taken rule s a f c rec → t.report ≡ x
     → refusal_number (report_number x) ≡ false → length rec ≡ record_size
-answered_length rule s a f c rec t x e r h = event_length rule s a f c rec (ap refuses (sym e) ∙ ap (λ (y : Report). refusal_number (report_number y)) r ∙ h)
+answered_length rule s a f c rec t x e r h = event_length rule s a f c rec (ap refuses (sym e) ∙ ap (λ (y : Result Report ℕ). refusal_number (report_number y)) r ∙ h)
 
 -- a move is refused by nothing
 moved_unrefused : (m : Automaton) (q : ℕ) (r : Record) → refused_by (moved_to m q r).report ≡ 0
 unfolding moved_to
 moved_unrefused m q r = go (final m q)
   where
-    go : (b : Bool) → refused_by (cond b (reported (record_after q true r) Alarm) (reported (record_after q false r) Quiet)).report ≡ 0
+    go : (b : Bool) → refused_by (cond b (reported (record_after q true r) (Ok Alarm)) (reported (record_after q false r) (Ok Quiet))).report ≡ 0
     go true = refl
     go false = refl
 
@@ -158,12 +158,12 @@ refuses_case
     → refused_by (taken (automaton_of (table_of rule) s a f) symbol (record_in rec)).report ≡ refusal_of rule s a f symbol rec
 unfolding refusal_of
 refuses_case rule s a f symbol rec e (no_rule w) =
-    ap (λ (t : Taken). refused_by t.report) (taken_13 _ symbol (record_in rec) w) ∙ sym (simp (eq-eqb (length rule) 256 e, w))
+    ap (λ (t : EventStep). refused_by t.report) (taken_13 _ symbol (record_in rec) w) ∙ sym (simp (eq-eqb (length rule) 256 e, w))
 refuses_case rule s a f symbol rec e (no_symbol w h) =
-    ap (λ (t : Taken). refused_by t.report) (taken_14 _ symbol (record_in rec) w h)
+    ap (λ (t : EventStep). refused_by t.report) (taken_14 _ symbol (record_in rec) w h)
     ∙ sym (simp (eq-eqb (length rule) 256 e, w, le-ltb symbol a h))
 refuses_case rule s a f symbol rec e (no_state w h k) =
-    ap (λ (t : Taken). refused_by t.report) (taken_15 _ symbol (record_in rec) w h k)
+    ap (λ (t : EventStep). refused_by t.report) (taken_15 _ symbol (record_in rec) w h k)
     ∙ sym
     (by_cases (ℕ_discrete (length rec) record_size)
     (λ (g : length rec ≡ record_size).
@@ -180,7 +180,7 @@ refuses_case rule s a f symbol rec e (moves w h k) =
     let r = record_in rec in
     let q = next m r.state symbol in
     let g : length rec ≡ record_size = state_length rec s k ((well_formed_says m).0 w).few_states in
-    ap (λ (t : Taken). refused_by t.report) (taken_moved m symbol r q w h k refl)
+    ap (λ (t : EventStep). refused_by t.report) (taken_moved m symbol r q w h k refl)
     ∙ moved_unrefused m q r
     ∙ sym
     (simp (
@@ -201,8 +201,8 @@ pub refuses_events_in_order : RefusesEventsInOrder
 refuses_events_in_order rule s a f symbol rec =
     by_cases (ℕ_discrete (length rule) 256)
     (λ (e : length rule ≡ 256).
-    ap (λ (t : Taken). refused_by t.report) (sym (event_taken_lem rule s a f symbol rec (table_of rule) e refl))
+    ap (λ (t : EventStep). refused_by t.report) (sym (event_taken_lem rule s a f symbol rec (table_of rule) e refl))
     ∙ refuses_case rule s a f symbol rec e (taken_case (automaton_of (table_of rule) s a f) symbol (record_in rec)))
     (λ e.
-    ap (λ (t : Taken). refused_by t.report) (sym (event_no_rule rule s a f symbol rec e))
+    ap (λ (t : EventStep). refused_by t.report) (sym (event_no_rule rule s a f symbol rec e))
     ∙ sym (refusal_no_rule rule s a f symbol rec e))

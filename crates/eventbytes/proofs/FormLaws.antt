@@ -2,6 +2,7 @@
 -- call of an event is the move of the step on values; it puts the new record in place of the old one, and the bytes around it stay. A
 -- refused call, which may be lent any part of the bytes held, leaves all of them.
 -- Assumes nothing.
+use Rattle.std.specs.Prelude.{Result, Ok, Err}
 use mathlib.Core.Path.{◌≡◌, refl, sym, ap, ap₂, ◌∙◌, subst}
 use mathlib.Core.Logic.{inl}
 use mathlib.Core.Bool.{Bool, true, false, cond, true≢false}
@@ -13,18 +14,17 @@ use lib.Seq.{take_at, drop_at}
 use Rattle.laws.specs.Bytes.{number_at, bytes_of, put_number}
 use Rattle.laws.proofs.Bytes.{length_put, number_put, number_put_other}
 use Rattle.automaton.specs.Automaton.{Automaton, next, final, WellFormed}
-use Rattle.events.specs.Monitor.{RecordIs, reported, max_total, record_after, moved_to, report_number, refusal_number}
+use Rattle.events.specs.Monitor.{EventStep, RecordIs, reported, max_total, record_after, moved_to, report_number, refusal_number}
 use Rattle.events.specs.Form.{RefusalKeeps, EventTaken, FormMoves}
 use Rattle.events.specs.Run.{RefusedStandApart}
 use Rattle.events.specs.declared.Record.{Record}
-use Rattle.events.specs.declared.Taken.{Taken}
-use Rattle.events.specs.declared.Report.{Report}
-use Rattle.events.specs.declared.Report.TheVariants.{Quiet, Alarm, Refused}
 use Rattle.events.proofs.FormLaws.{refuses, alarmed, moved_accepted, moved_alarmed, left_counted, given_moves}
 use Rattle.events.proofs.RunLaws.{refused_stand_apart}
 use Rattle.eventbytes.specs.Event.{rule_in, state_place, total_place, record_size, record_in, event_taken, record_bytes, left_by, record_left}
 use Rattle.eventbytes.specs.Form.{BytesHold, HeldBytes, record_among, ByteCall, ByteCallIs, lent, taken_on, bytes_left, call_form}
 use Rattle.eventbytes.proofs.EventLaws.{record_read, length_bytes, record_put}
+use Rattle.events.specs.declared.Report.{Report}
+use Rattle.events.specs.declared.Report.TheVariants.{Quiet, Alarm}
 
 -- ---- the record's bytes
 
@@ -80,8 +80,8 @@ moved_bytes : (m : Automaton) (q : ℕ) (r : Record) (old : List ℕ) → record
 unfolding moved_to
 moved_bytes m q r old = go (final m q)
   where
-    moved : Bool → Taken
-    moved b = cond b (reported (record_after q true r) Alarm) (reported (record_after q false r) Quiet)
+    moved : Bool → EventStep
+    moved b = cond b (reported (record_after q true r) (Ok Alarm)) (reported (record_after q false r) (Ok Quiet))
 
     go : (b : Bool) → record_left old (moved b) ≡ record_bytes (moved b).left
     go true = refl
@@ -150,10 +150,10 @@ module _ (m : Automaton) (a q n : ℕ) (c : ByteCall) (h : HeldBytes) (wf : Well
 -- ---- a refused call
 
 -- a refusal leaves the bytes that it is lent
-left_refused : (x : Report) (old new : List ℕ) → refusal_number (report_number x) ≡ true → left_by x old new ≡ old
-left_refused Quiet old new e = absurd (true≢false (sym e))
-left_refused Alarm old new e = absurd (true≢false (sym e))
-left_refused (Refused k) old new e = refl
+left_refused : (x : Result Report ℕ) (old new : List ℕ) → refusal_number (report_number x) ≡ true → left_by x old new ≡ old
+left_refused (Ok Quiet) old new e = absurd (true≢false (sym e))
+left_refused (Ok Alarm) old new e = absurd (true≢false (sym e))
+left_refused (Err k) old new e = refl
 
 -- and all others
 bytes_kept : (c : ByteCall) (l : List ℕ) → refuses (taken_on c l) ≡ true → bytes_left c l ≡ l

@@ -1,14 +1,13 @@
 -- The event step across the C call (document 01, "The job file": C-style calls on numbers and byte slices).
 -- Assumes nothing.
-use Rattle.std.specs.Prelude.{◌≡◌, cond, ◌&&◌, List, ◌++◌, ℕ, ◌+◌, eqb, ltb, length}
+use Rattle.std.specs.Prelude.{Result, Ok, Err, ◌≡◌, cond, ◌&&◌, List, ◌++◌, ℕ, ◌+◌, eqb, ltb, length}
 use Rattle.laws.specs.Bytes.{number_at, bytes_of}
 use Rattle.automaton.specs.Automaton.{Automaton, automaton_of, well_formed}
 use Rattle.automaton.specs.Table.{table_of}
-use Rattle.events.specs.Monitor.{record_of, max_total, taken}
+use Rattle.events.specs.Monitor.{EventStep, record_of, max_total, taken}
 use Rattle.events.specs.declared.Record.{Record}
-use Rattle.events.specs.declared.Taken.{Taken}
 use Rattle.events.specs.declared.Report.{Report}
-use Rattle.events.specs.declared.Report.TheVariants.{Quiet, Alarm, Refused}
+use Rattle.events.specs.declared.Report.TheVariants.{Quiet, Alarm}
 
 -- "the rule's rows are 256 bytes in row order, beside S, A and the final set"; any other length is a rule without states,
 -- which the event step refuses as 13
@@ -38,7 +37,7 @@ unfoldable pub record_in : List ℕ → Record
 record_in bytes = cond (eqb (length bytes) record_size) (record_at bytes) no_record
 
 -- what the call reports and leaves
-unfoldable pub event_taken : List ℕ → ℕ → ℕ → ℕ → ℕ → List ℕ → Taken
+unfoldable pub event_taken : List ℕ → ℕ → ℕ → ℕ → ℕ → List ℕ → EventStep
 event_taken rule s a f symbol rec = taken (rule_in rule s a f) symbol (record_in rec)
 
 -- a record as its bytes
@@ -46,13 +45,13 @@ unfoldable pub record_bytes : Record → List ℕ
 record_bytes r = bytes_of 8 r.state ++ bytes_of 8 r.alarms
 
 -- the record's bytes after a call, by what it reports: "a refusal leaves the record unchanged"
-abbrev pub left_by : Report → List ℕ → List ℕ → List ℕ
-left_by Quiet old new = new
-left_by Alarm old new = new
-left_by (Refused k) old new = old
+abbrev pub left_by : Result Report ℕ → List ℕ → List ℕ → List ℕ
+left_by (Ok Quiet) old new = new
+left_by (Ok Alarm) old new = new
+left_by (Err k) old new = old
 
 -- the same of what a call reports and leaves
-abbrev pub record_left : List ℕ → Taken → List ℕ
+abbrev pub record_left : List ℕ → EventStep → List ℕ
 record_left old t = left_by t.report old (record_bytes t.left)
 
 -- the refusals read off the bytes, 0 for none: 13, 14 and 15 in that order, a wrong length of the rule as 13 and of the record as 15
@@ -63,10 +62,10 @@ refusal_of rule s a f symbol rec =
     13
 
 -- the number of a refusal, 0 for an event
-abbrev pub refused_by : Report → ℕ
-refused_by Quiet = 0
-refused_by Alarm = 0
-refused_by (Refused k) = k
+abbrev pub refused_by : Result Report ℕ → ℕ
+refused_by (Ok Quiet) = 0
+refused_by (Ok Alarm) = 0
+refused_by (Err k) = k
 
 -- the statement: the call refuses what `refusal_of` says, and nothing else
 abbrev pub RefusesEventsInOrder : Type 0

@@ -3,10 +3,9 @@
 use Rattle.std.specs.Prelude.{◌≡◌, List, ◌++◌, ℕ, ◌^◌, ◌<◌, take, drop}
 use Rattle.laws.specs.Bytes.{AreBytes, number_at}
 use Rattle.automaton.specs.Automaton.{Automaton, SameRule}
-use Rattle.events.specs.Monitor.{RecordIs, report_number, alarm_number, refusal_number}
+use Rattle.events.specs.Monitor.{EventStep, RecordIs, report_number, alarm_number, refusal_number}
 use Rattle.events.specs.Form.{EventForm}
 use Rattle.events.specs.declared.Record.{Record}
-use Rattle.events.specs.declared.Taken.{Taken}
 use Rattle.eventbytes.specs.Event.{rule_in, total_place, record_size, event_taken, record_bytes, record_left}
 
 -- the bytes of a record in state q and with total n
@@ -55,7 +54,7 @@ abbrev pub lent : ByteCall → List ℕ → List ℕ
 lent c bytes = take c.count (drop c.start bytes)
 
 -- what the call reports and leaves of them
-abbrev pub taken_on : ByteCall → List ℕ → Taken
+abbrev pub taken_on : ByteCall → List ℕ → EventStep
 taken_on c bytes = event_taken c.rule c.states c.symbols c.finals c.symbol (lent c bytes)
 
 -- the bytes after a call: those that are not lent stay

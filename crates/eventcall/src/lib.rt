@@ -3,10 +3,12 @@
 
 ghost use Rattle.std.specs.Prelude.{◌≡◌};
 ghost use Rattle.events.specs.Monitor.{report_number};
-ghost use Rattle.eventbytes.specs.Event.{event_taken, record_left};
+ghost use Rattle.events.specs.Answer.{step_of};
+ghost use Rattle.eventbytes.specs.Event.{event_taken, record_in, record_left};
 
 use callnumber::ACCEPTED;
 use events::{Report, Taken};
+use refusal::Refusal;
 
 // What the call returns for a quiet event, and for an alarm.
 const QUIET: u64 = ACCEPTED;
@@ -14,18 +16,22 @@ const QUIET: u64 = ACCEPTED;
 const ALARM: u64 = ACCEPTED + 1;
 
 // What an event call on these bytes reports and leaves.
-fn take(rule: &[u8], states: u64, symbols: u64, finals: u64, symbol: u64, rec: &[u8]) -> Taken
-    ensures { result ≡ event_taken rule.now states symbols finals symbol rec.now }
+fn take(
+    rule: &[u8],
+    states: u64,
+    symbols: u64,
+    finals: u64,
+    symbol: u64,
+    rec: &[u8],
+) -> Result<Taken, Refusal>
+    ensures { step_of (record_in rec.now) result ≡ event_taken rule.now states symbols finals symbol rec.now }
 {
-    let r = recordbytes::read_record(rec);
     if rule.len() == 256 {
+        let r = recordbytes::read_record(rec);
         let table = ruletable::table_of(rule);
         return lent::take_event_on(table, states, symbols, finals, symbol, r);
     }
-    Taken {
-        left: r,
-        report: Report::Refused(13),
-    }
+    Err(Refusal::WrongRule)
 }
 
 // Takes one event on the record's bytes and returns 2^48 for quiet, 2^48 + 1 for alarm, or the refusal's number.
@@ -40,18 +46,14 @@ pub fn event(
     ensures { (result ≡ report_number (event_taken rule.now states symbols finals symbol rec.old).report)
         × (rec.new ≡ record_left rec.old (event_taken rule.now states symbols finals symbol rec.old)) }
 {
-    let t = take(rule, states, symbols, finals, symbol, rec);
-    let left = t.left;
-    let report = t.report;
-    match report {
-        Report::Quiet => {
-            recordbytes::write_record(rec, left);
-            QUIET
+    match take(rule, states, symbols, finals, symbol, rec) {
+        Ok(taken) => {
+            recordbytes::write_record(rec, taken.left);
+            match taken.report {
+                Report::Quiet => QUIET,
+                Report::Alarm => ALARM,
+            }
         }
-        Report::Alarm => {
-            recordbytes::write_record(rec, left);
-            ALARM
-        }
-        Report::Refused(number) => number,
+        Err(refusal) => u64::from(refusal),
     }
 }

@@ -1,31 +1,31 @@
 -- The event step on values and on a lent record takes events as any form must: with the job's rule and a symbol below A, in a state below S,
 -- a call is the move, and the number of its report says whether it alarms; a number below 2^48 is a refusal, which leaves the record.
 -- Assumes nothing.
+use Rattle.std.specs.Prelude.{Ok}
 use mathlib.Core.Path.{◌≡◌, refl, sym, ap, ◌∙◌}
 use mathlib.Core.Bool.{Bool, true, false, cond, true≢false}
 use Prim.Native.Nat.{ℕ, ◌<◌}
 use native.Mathlib.Omega.{arith}
 use Rattle.automaton.specs.Automaton.{Automaton, next, final, WellFormed, SameRule}
 use Rattle.automaton.proofs.AutomatonLaws.{well_formed_says}
-use Rattle.events.specs.Monitor.{RecordIs, reported, counted, record_after, moved_to, taken, report_number, alarm_number, refusal_number}
+use Rattle.events.specs.Monitor.{EventStep, RecordIs, reported, counted, record_after, moved_to, taken, report_number, alarm_number, refusal_number}
 use Rattle.events.specs.Form.{EventTaken, FormMoves, Given, GivenIs, value_form, lent_form}
 use Rattle.events.specs.declared.Record.{Record}
-use Rattle.events.specs.declared.Taken.{Taken}
-use Rattle.events.specs.declared.Report.TheVariants.{Quiet, Alarm}
 use Rattle.events.proofs.MonitorLaws.{TakenCase, no_rule, no_symbol, no_state, moves, taken_case, taken_13, taken_14, taken_15, taken_moved, taken_same}
+use Rattle.events.specs.declared.Report.TheVariants.{Quiet, Alarm}
 
 -- the answer is a refusal, or an alarm, by the number of its report
-abbrev pub refuses : Taken → Bool
+abbrev pub refuses : EventStep → Bool
 refuses t = refusal_number (report_number t.report)
 
-abbrev pub alarmed : Taken → Bool
+abbrev pub alarmed : EventStep → Bool
 alarmed t = alarm_number (report_number t.report)
 
 -- ---- a move
 
 -- both its cases
-moved_by : Bool → ℕ → Record → Taken
-moved_by b q r = cond b (reported (record_after q true r) Alarm) (reported (record_after q false r) Quiet)
+moved_by : Bool → ℕ → Record → EventStep
+moved_by b q r = cond b (reported (record_after q true r) (Ok Alarm)) (reported (record_after q false r) (Ok Quiet))
 
 -- it is no refusal
 pub moved_accepted : (m : Automaton) (q : ℕ) (r : Record) → refuses (moved_to m q r) ≡ false
@@ -56,12 +56,12 @@ moved_left m q r = go (final m q)
 
 -- so does a call t that is the move of a record with total n
 pub left_counted
-    : (m : Automaton) (q n : ℕ) (r : Record) (t : Taken) → t ≡ moved_to m q r → r.alarms ≡ n → RecordIs q (counted (final m q) n) t.left
+    : (m : Automaton) (q n : ℕ) (r : Record) (t : EventStep) → t ≡ moved_to m q r → r.alarms ≡ n → RecordIs q (counted (final m q) n) t.left
 left_counted m q n r t e d =
     let left = moved_left m q r in
     record {
-      state = ap (λ (x : Taken). x.left.state) e ∙ left.state;
-      total = ap (λ (x : Taken). x.left.alarms) e ∙ left.total ∙ ap (counted (final m q)) d;
+      state = ap (λ (x : EventStep). x.left.state) e ∙ left.state;
+      total = ap (λ (x : EventStep). x.left.alarms) e ∙ left.total ∙ ap (counted (final m q)) d;
     }
 
 -- ---- a call
@@ -79,8 +79,8 @@ given_moves m o a b q r wf h k same e d =
 pub refused_keeps : (m : Automaton) (a : ℕ) (r : Record) → refuses (taken m a r) ≡ true → (taken m a r).left ≡ r
 refused_keeps m a r e = go (taken_case m a r)
   where
-    kept : {t : Taken} → taken m a r ≡ t → (taken m a r).left ≡ t.left
-    kept u = ap (λ (t : Taken). t.left) u
+    kept : {t : EventStep} → taken m a r ≡ t → (taken m a r).left ≡ t.left
+    kept u = ap (λ (t : EventStep). t.left) u
 
     go : TakenCase m a r → (taken m a r).left ≡ r
     go (no_rule w) = kept (taken_13 m a r w)

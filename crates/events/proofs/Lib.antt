@@ -2,4 +2,5 @@
 -- Assumes nothing.
 pub mod MonitorLaws
 pub mod FormLaws
+pub mod AnswerLaws
 pub mod RunLaws

@@ -1,5 +1,6 @@
 -- Laws of the event step: its four cases, and that it looks at no cell past S or A.
 -- Assumes nothing.
+use Rattle.std.specs.Prelude.{Ok}
 use mathlib.Core.Path.{◌≡◌, refl, sym, ap, ◌∙◌, subst}
 use mathlib.Core.Bool.{Bool, true, false, cond}
 use mathlib.Core.Logic.{⊎_elim, by_cases}
@@ -12,9 +13,8 @@ use Rattle.laws.specs.Bits.{has}
 use Rattle.laws.proofs.Tests.{passes_or_fails}
 use Rattle.automaton.specs.Automaton.{Automaton, next, final, well_formed}
 use Rattle.automaton.proofs.AutomatonLaws.{well_formed_same}
-use Rattle.events.specs.Monitor.{record_of, RecordIs, reported, max_total, raised, counted, record_after, refused_with, moved_to, taken, report_number, report_read, LooksAtNoOtherCell, ReportByNumber}
+use Rattle.events.specs.Monitor.{EventStep, record_of, RecordIs, reported, max_total, raised, counted, record_after, refused_with, moved_to, taken, report_number, report_read, LooksAtNoOtherCell, ReportByNumber}
 use Rattle.events.specs.declared.Record.{Record}
-use Rattle.events.specs.declared.Taken.{Taken}
 use Rattle.events.specs.declared.Report.TheVariants.{Quiet, Alarm}
 
 -- there is a record in every state and with every total
@@ -59,11 +59,11 @@ unfolding taken
 taken_moved m a r q w h k e = simp (w, lt-ltb a m.symbols h, lt-ltb r.state m.states k, ← e)
 
 -- a move to a final state alarms, and any other is quiet
-pub moved_alarm : (m : Automaton) (q : ℕ) (r : Record) → final m q ≡ true → moved_to m q r ≡ reported (record_after q true r) Alarm
+pub moved_alarm : (m : Automaton) (q : ℕ) (r : Record) → final m q ≡ true → moved_to m q r ≡ reported (record_after q true r) (Ok Alarm)
 unfolding moved_to
 moved_alarm m q r f = simp f
 
-pub moved_quiet : (m : Automaton) (q : ℕ) (r : Record) → final m q ≡ false → moved_to m q r ≡ reported (record_after q false r) Quiet
+pub moved_quiet : (m : Automaton) (q : ℕ) (r : Record) → final m q ≡ false → moved_to m q r ≡ reported (record_after q false r) (Ok Quiet)
 unfolding moved_to
 moved_quiet m q r f = simp f
 
@@ -86,7 +86,7 @@ taken_case m a r =
 -- the move looks at the final states alone
 moved_same : (m n : Automaton) (q : ℕ) (r : Record) → m.finals ≡ n.finals → moved_to m q r ≡ moved_to n q r
 unfolding moved_to
-moved_same m n q r e = ap (λ (f : ℕ). cond (has f q) (reported (record_after q true r) Alarm) (reported (record_after q false r) Quiet)) e
+moved_same m n q r e = ap (λ (f : ℕ). cond (has f q) (reported (record_after q true r) (Ok Alarm)) (reported (record_after q false r) (Ok Quiet))) e
 
 -- the event step looks at no cell past S or A
 pub taken_same : LooksAtNoOtherCell
@@ -111,8 +111,8 @@ moved_read m q r = go (final m q)
   where
     go
         : (b : Bool)
-        → report_read (report_number (cond b (reported (record_after q true r) Alarm) (reported (record_after q false r) Quiet)).report)
-        ≡ (cond b (reported (record_after q true r) Alarm) (reported (record_after q false r) Quiet)).report
+        → report_read (report_number (cond b (reported (record_after q true r) (Ok Alarm)) (reported (record_after q false r) (Ok Quiet))).report)
+        ≡ (cond b (reported (record_after q true r) (Ok Alarm)) (reported (record_after q false r) (Ok Quiet))).report
     go true = refl
     go false = refl
 
@@ -120,9 +120,9 @@ moved_read m q r = go (final m q)
 pub report_by_number : ReportByNumber
 report_by_number m a r = go (taken_case m a r)
   where
-    read : {t : Taken} → taken m a r ≡ t → report_read (report_number t.report) ≡ t.report
+    read : {t : EventStep} → taken m a r ≡ t → report_read (report_number t.report) ≡ t.report
         → report_read (report_number (taken m a r).report) ≡ (taken m a r).report
-    read e h = subst (λ (t : Taken). report_read (report_number t.report) ≡ t.report) (sym e) h
+    read e h = subst (λ (t : EventStep). report_read (report_number t.report) ≡ t.report) (sym e) h
 
     go : TakenCase m a r → report_read (report_number (taken m a r).report) ≡ (taken m a r).report
     go (no_rule w) = read (taken_13 m a r w) refl

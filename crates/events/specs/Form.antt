@@ -1,11 +1,10 @@
 -- The forms of the event step (document 01, "The rule and the monitor" and "Two monitors on one walk"): what any form is, what must hold of
 -- it, and the two on records. The paper's number of a report decides which answers are alarms and which refusals.
 -- Assumes nothing.
-use Rattle.std.specs.Prelude.{◌≡◌, Bool, true, false, [], ℕ, ◌^◌, ◌<◌, ◌≤◌, length, get_or}
+use Rattle.std.specs.Prelude.{Result, ◌≡◌, Bool, true, false, [], ℕ, ◌^◌, ◌<◌, ◌≤◌, length, get_or}
 use Rattle.automaton.specs.Automaton.{Automaton, cell, next, final, WellFormed, SameRule}
-use Rattle.events.specs.Monitor.{RecordIs, max_total, counted, taken, report_number, alarm_number, refusal_number}
+use Rattle.events.specs.Monitor.{EventStep, RecordIs, max_total, counted, taken, report_number, alarm_number, refusal_number}
 use Rattle.events.specs.declared.Record.{Record}
-use Rattle.events.specs.declared.Taken.{Taken}
 use Rattle.events.specs.declared.Report.{Report}
 
 -- a form: what a call is given beside its record, what is held of the record, what the caller is answered, and what is left; which answers
@@ -73,7 +72,7 @@ value_form =
     record {
       Call = Given;
       Held = Record;
-      Answer = Taken;
+      Answer = EventStep;
       answer = λ c r. taken c.rule c.symbol r;
       left = λ c r. (taken c.rule c.symbol r).left;
       alarm = λ t. alarm_number (report_number t.report);
@@ -90,7 +89,7 @@ lent_form =
     record {
       Call = Given;
       Held = Record;
-      Answer = Report;
+      Answer = Result Report ℕ;
       answer = λ c held. (taken c.rule c.symbol held).report;
       left = λ c held. (taken c.rule c.symbol held).left;
       alarm = λ x. alarm_number (report_number x);

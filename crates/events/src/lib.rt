@@ -1,15 +1,13 @@
-// The running monitor: its record, and what an event call reports and leaves.
+// The running monitor: its record, and what an event that is taken reports and leaves.
 #![tactic(auto)]
 
-// What an event call reports.
-#[derive(Drop)]
+// What an event reports.
+#[derive(Clone, Copy, Debug, PartialEq, Eq)]
 pub enum Report {
     // The state moved to is not final.
     Quiet,
     // The state moved to is final.
     Alarm,
-    // The call is turned back, by number.
-    Refused(u64),
 }
 
 // A running monitor: its state, and how often it alarmed.
@@ -19,8 +17,8 @@ pub struct Record {
     pub alarms: u64,
 }
 
-// What an event call leaves: the record, and what is reported.
-#[derive(Drop)]
+// What an event leaves: the record, and what is reported.
+#[derive(Clone, Copy)]
 pub struct Taken {
     pub left: Record,
     pub report: Report,

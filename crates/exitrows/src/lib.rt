@@ -56,10 +56,8 @@ fn join_past_rows(
     ensures { PastGathered table.now finals work.now rows.old rows.new n result }
 {
     let mut any = 0;
-    let mut p = 0;
-    while p < 16 {
-        any = any | join_past(rows, work, table, finals, n, p);
-        p += 1;
+    for p in 0..16 {
+        any |= join_past(rows, work, table, finals, n, p);
     }
     any
 }
@@ -86,10 +84,8 @@ pub fn exit_rows(work: &[u8], table: &[[u8; 16]; 16], finals: u16, nodes: usize)
     ensures { ExitRows table.now finals nodes work.now result }
 {
     let mut rows: [u16; 16] = [0; 16];
-    let mut n = 0;
-    while n < nodes {
+    for n in 0..nodes {
         join_ended(&mut rows, work, table, finals, n);
-        n += 1;
     }
     rows
 }

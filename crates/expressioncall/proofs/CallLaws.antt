@@ -1,14 +1,14 @@
 -- The ways out of the call for an expression, in the shape of its code: what is read is within or outside, and the cells of a finished search are
 -- the rule's bytes.
 -- Assumes nothing.
+use Rattle.std.specs.Prelude.{Result, Ok, Err}
 use mathlib.Core.Path.{◌≡◌, refl, sym, ◌∙◌, subst}
 use mathlib.Core.Logic.{inl, inr, by_cases}
 use mathlib.Core.List.{List}
-use Prim.Native.Nat.{ℕ, ◌+◌, ◌-◌, ◌*◌, ◌≤◌, ◌<◌}
+use Prim.Native.Nat.{ℕ, ◌+◌, ◌*◌, ◌≤◌, ◌<◌}
 use native.Mathlib.Decide.{dec_lt}
 use native.Mathlib.Omega.{arith}
 use lib.ListN.{length, get_or, replicate, length-replicate}
-use lib.Seq.{ext_get_or}
 use Rattle.automaton.specs.Automaton.{Automaton, cell}
 use Rattle.automaton.specs.Table.{table_of, cell_byte, rule_bytes}
 use Rattle.automaton.specs.Made.{Made, makes, refuses, made_after}
@@ -17,26 +17,19 @@ use Rattle.automaton.proofs.RuleBytesLaws.{cell_byte_at, cell_byte_past, bytes_a
 use Rattle.lines.proofs.LinesLaws.{zeros_at}
 use Rattle.expression.specs.Expression.{Expr}
 use Rattle.expression.specs.Grammar.{choice, Spells, TextOf}
-use Rattle.expression.specs.Masks.{last}
 use Rattle.expression.proofs.GrammarLaws.{grammar_says}
 use Rattle.expressionparts.specs.declared.part.Part.{Part}
 use Rattle.expressionparts.specs.Reading.{Shown}
-use Rattle.expressionrule.specs.declared.answer.ExpressionAnswer.{ExpressionAnswer}
-use Rattle.expressionrule.specs.declared.answer.ExpressionAnswer.TheVariants.{Accepted, Refused}
-use Rattle.expressionrule.specs.declared.answer.ExpressionRule.{ExpressionRule}
+use Rattle.rulevalue.specs.declared.WithTable.{WithTable}
 use Rattle.expressionrule.specs.ExpressionRule.{Outside, Within, ExpressionMakes, other_length, outside, many, made, expression_answer, expression_value, AnswersExpression, ValuesExpression}
 use Rattle.expressionrule.specs.Numbering.{Growing, ReadAs, AllDone, FinalsOf}
 use Rattle.expressionrule.proofs.GrowLaws.{growing_none}
 use Rattle.expressionrule.proofs.DoneLaws.{rule_of_cells, cells_same, done_rule, many_states}
 use Rattle.expressionrule.proofs.MadeBy.{within, made_by, made_by_lem}
 use Rattle.expressioncall.specs.Inner.{NumbersAs, too_many, numbered, Numbers}
+use Rattle.expressionrule.specs.declared.answer.Met.{Met}
 
 -- ---- the rule buffer
-
--- a rule buffer with every cell is the cells
-pub cells_copied
-    : (cells rule : List ℕ) → length cells ≡ 256 → length rule ≡ 256 → ((k : ℕ) → k < 256 → get_or rule k 0 ≡ get_or cells k 0) → rule ≡ cells
-cells_copied cells rule long size each = ext_get_or 0 rule cells (size ∙ sym long) (λ k h. each k (omega (arith, h, size)))
 
 -- the cells of a finished search are the rule's bytes: they are zero past S or A
 cells_are_bytes
@@ -70,13 +63,13 @@ module _ (a : ℕ) (t f : List ℕ) (firsts lasts : ℕ) (before sets cells : Li
       (zeros_at 256)
 
   -- a seventeenth state
-  pub numbers_many : n ≡ 17 → Numbers a t f firsts lasts before before (Refused 21)
+  pub numbers_many : n ≡ 17 → Numbers a t f firsts lasts before before (Err 21)
   numbers_many h e read ends = too_many (many_states a t e read.spelt (d.many e read (begun e) h)) refl
 
   -- the rule
   pub numbers_rule
       : (n ≡ 17 → ⊥) → (finals : ℕ) → FinalsOf lasts sets n finals → (after : List ℕ) → after ≡ cells
-      → Numbers a t f firsts lasts before after (Accepted (record { states = n; finals = finals }))
+      → Numbers a t f firsts lasts before after (Ok (record { states = n; finals = finals }))
   numbers_rule h finals final after copied e read ends =
       let g = d.grown e read (begun e) (omega (arith, h, d.most)) in
       numbered {m = rule_of_cells cells n a finals}
@@ -87,17 +80,17 @@ module _ (a : ℕ) (t f : List ℕ) (firsts lasts : ℕ) (before sets cells : Li
 
 module _ (t : List ℕ) (a : ℕ) (before : List ℕ) where
   -- 13
-  pub takes_other_length : (length before ≡ 256 → ⊥) → AnswersExpression t a before before (Refused 13)
+  pub takes_other_length : (length before ≡ 256 → ⊥) → AnswersExpression t a before before (Err 13)
   takes_other_length h = record { made = refuses 13; makes = other_length h; answer = refl; buffer = refl }
 
   module _ (same : length before ≡ 256) where
     -- 20
-    pub takes_outside : Outside t a → AnswersExpression t a before before (Refused 20)
+    pub takes_outside : Outside t a → AnswersExpression t a before before (Err 20)
     takes_outside o = record { made = refuses 20; makes = outside same o; answer = refl; buffer = refl }
 
     module _ (some : 1 ≤ a) (few : a ≤ 16) (short : length t ≤ 64) where
       -- one that spells none is outside
-      pub takes_nothing : ((e : Expr) → TextOf a t e → ⊥) → AnswersExpression t a before before (Refused 20)
+      pub takes_nothing : ((e : Expr) → TextOf a t e → ⊥) → AnswersExpression t a before before (Err 20)
       takes_nothing none = takes_outside (go (made_by t a 256) (made_by_lem t a 256))
         where
           spelt : (e : Expr) → Within t a e → TextOf a t e
@@ -123,12 +116,12 @@ module _ (t : List ℕ) (a : ℕ) (before : List ℕ) where
 
       -- the rule, or 21
       pub takes_read
-          : (f₀ f : List ℕ) (d : Part) → length t ≤ length f → Shown a t choice 0 f₀ f d → d.end ≡ length t → (after : List ℕ) (r : ExpressionAnswer)
+          : (f₀ f : List ℕ) (d : Part) → length t ≤ length f → Shown a t choice 0 f₀ f d → d.end ≡ length t → (after : List ℕ) (r : Result Met ℕ)
           → Numbers a t f d.first d.last before after r → AnswersExpression t a before after r
       takes_read f₀ f d room s ends after r numbers =
           go (numbers s.expr (read_as f₀ f d room s ends) s.lasts)
         where
-          go : {x : ExpressionAnswer} → NumbersAs a t s.expr before after x → AnswersExpression t a before after x
+          go : {x : Result Met ℕ} → NumbersAs a t s.expr before after x → AnswersExpression t a before after x
           go (too_many y b) =
               record { made = refuses 21; makes = many same (within t a s.expr some few short (read_as f₀ f d room s ends).spelt) y; answer = refl; buffer = b }
           go (numbered {m = m} y b) =
@@ -138,7 +131,7 @@ module _ (t : List ℕ) (a : ℕ) (before : List ℕ) where
 
 -- the rule buffer is a table of zeros before the call
 pub value_of_lem
-    : (t table : List ℕ) (a : ℕ) (r : ExpressionAnswer) → AnswersExpression t a (replicate 256 0) table r
+    : (t table : List ℕ) (a : ℕ) (r : Result Met ℕ) → AnswersExpression t a (replicate 256 0) table r
     → ValuesExpression t a (record { answer = r; table = table })
 value_of_lem t table a r x =
     record {
@@ -147,6 +140,6 @@ value_of_lem t table a r x =
       value = is x.made x.answer x.buffer;
     }
   where
-    is : (y : Made) → r ≡ expression_answer y → table ≡ made_after y (replicate 256 0) → ◌≡◌ {A = ExpressionRule} (record { answer = r; table = table }) (expression_value y)
+    is : (y : Made) → r ≡ expression_answer y → table ≡ made_after y (replicate 256 0) → ◌≡◌ {A = WithTable (Result Met ℕ)} (record { answer = r; table = table }) (expression_value y)
     is (makes m) e b = rw (e, b) refl
     is (refuses k) e b = rw (e, b) refl

@@ -1,13 +1,15 @@
 // Rules as expressions: a text and the number of symbols in; the rule's 256 bytes with its states and final set, or a refusal out.
 #![tactic(auto)]
 
-ghost use Rattle.std.specs.Prelude.{◌≡◌, length};
+ghost use Rattle.refusal.specs.Refusal.{said};
+ghost use Rattle.rulevalue.specs.Value.{said_beside};
 ghost use Rattle.expressionrule.specs.ExpressionRule.{AnswersExpression, ValuesExpression};
 ghost use Rattle.expressioncall.specs.Inner.{ReadReady, Numbers};
 
-use expressionparts::part::Read;
 use expressionread::read_text;
-use expressionrule::answer::{ExpressionAnswer, ExpressionRule, Met};
+use expressionrule::answer::Met;
+use refusal::Refusal;
+use rulevalue::WithTable;
 use statenumbers::{final_states, number_states};
 
 // The length of a rule buffer.
@@ -16,17 +18,8 @@ const ROOM: usize = 256;
 // The length of the longest text.
 const LONGEST: usize = 64;
 
-// Copies the cells to the rule buffer.
-fn copy_cells(cells: &[u8], rule: &mut [u8])
-    requires { (length cells.now ≡ 256) × (length rule.old ≡ 256) }
-    ensures { rule.new ≡ cells.now }
-{
-    let mut i = 0;
-    while i < 256 {
-        rule[i] = cells[i];
-        i += 1;
-    }
-}
+// The most symbols.
+const MOST: u64 = 16;
 
 // Makes the rule of the expression that was read. A refusal leaves the rule buffer.
 fn number_rule(
@@ -36,62 +29,52 @@ fn number_rule(
     lasts: u64,
     symbols: u64,
     rule: &mut [u8],
-) -> ExpressionAnswer
+) -> Result<Met, Refusal>
     requires { ReadReady symbols text.now follow.now rule.old }
-    ensures { Numbers symbols text.now follow.now firsts lasts rule.old rule.new result }
+    ensures { Numbers symbols text.now follow.now firsts lasts rule.old rule.new (said result) }
 {
     let mut sets = [0u64; 16];
     let mut cells = [0u8; 256];
-    let states = number_states(
+    let Some(states) = number_states(
         text,
         follow,
         firsts,
         symbols as usize,
         &mut sets,
         &mut cells,
-    );
-    if states == 17 {
-        return ExpressionAnswer::Refused(21);
-    }
+    ) else {
+        return Err(Refusal::ManyStates);
+    };
     let finals = final_states(&sets, states, lasts);
-    copy_cells(&cells, rule);
-    ExpressionAnswer::Accepted(Met {
+    rule.copy_from_slice(&cells);
+    Ok(Met {
         states: states as u64,
-        finals: finals,
+        finals,
     })
 }
 
 // Makes a rule of an expression. A refusal leaves the rule buffer.
-pub fn take_expression(text: &[u8], symbols: u64, rule: &mut [u8]) -> ExpressionAnswer
-    ensures { AnswersExpression text.now symbols rule.old rule.new result }
+pub fn take_expression(text: &[u8], symbols: u64, rule: &mut [u8]) -> Result<Met, Refusal>
+    ensures { AnswersExpression text.now symbols rule.old rule.new (said result) }
 {
     if rule.len() != ROOM {
-        return ExpressionAnswer::Refused(13);
+        return Err(Refusal::WrongRule);
     }
-    if symbols < 1 {
-        return ExpressionAnswer::Refused(20);
-    }
-    if 16 < symbols {
-        return ExpressionAnswer::Refused(20);
-    }
-    if LONGEST < text.len() {
-        return ExpressionAnswer::Refused(20);
+    if symbols < 1 || MOST < symbols || LONGEST < text.len() {
+        return Err(Refusal::WrongExpression);
     }
     let mut follow = [0u64; 64];
     match read_text(text, symbols as u8, &mut follow) {
-        Read::Found(d) => number_rule(text, &follow, d.first, d.last, symbols, rule),
-        Read::Nothing => ExpressionAnswer::Refused(20),
+        Some(d) => number_rule(text, &follow, d.first, d.last, symbols, rule),
+        None => Err(Refusal::WrongExpression),
     }
 }
 
 // The rule of an expression by value, with its table beside the answer.
-pub fn expression_rule(text: &[u8], symbols: u64) -> ExpressionRule
-    ensures { ValuesExpression text.now symbols result }
+pub fn expression_rule(text: &[u8], symbols: u64) -> WithTable<Result<Met, Refusal>>
+    ensures { ValuesExpression text.now symbols (said_beside result) }
 {
     let mut table = [0u8; 256];
     let answer = take_expression(text, symbols, &mut table);
-    ExpressionRule {
-        answer: answer,
-        table: table,
-    }
+    WithTable { answer, table }
 }

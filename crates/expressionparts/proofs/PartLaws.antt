@@ -1,9 +1,9 @@
 -- How the parts that are read are put together.
 -- Assumes nothing.
 use mathlib.Core.Path.{◌≡◌, refl, sym, ap, subst, ◌∙◌}
-use mathlib.Core.Bool.{Bool, true, false, ◌&&◌, ◌||◌}
+use mathlib.Core.Bool.{Bool, true, false, ◌||◌}
 use mathlib.Core.List.{List}
-use Prim.Native.Nat.{ℕ, suc, ◌+◌, ◌^◌, ◌≤◌, ◌<◌}
+use Prim.Native.Nat.{ℕ, suc, ◌+◌, ◌≤◌, ◌<◌}
 use native.Mathlib.Nat.{le_refl}
 use native.Mathlib.Numerals.{add-one}
 use native.Mathlib.Omega.{arith}
@@ -239,21 +239,6 @@ module _ {a : ℕ} {t : List ℕ} where
       there q (of_left h) =
           follow_front (get_or f₂ q 0) spread spread' apart h (r.kept q (omega (arith, (in_between spread h).to)) ∙ s.follows q h)
       there q (of_right h) = follow_back (get_or f₂ q 0) spread spread' apart h (r.follows q h)
-
--- ---- parts by their fields
-
-pub letter_fields : (i n : ℕ) → n ≡ 2 ^ i → ◌≡◌ {A = Part} (record { end = i + 1; nullable = false; first = n; last = n }) (letter_part i)
-letter_fields i n h = cc h
-
-pub followed_fields
-    : (d e : Part) (n : Bool) (x y : ℕ) → n ≡ (d.nullable && e.nullable) → x ≡ when d.nullable e.first → y ≡ when e.nullable d.last
-    → ◌≡◌ {A = Part} (record { end = e.end; nullable = n; first = bit_or d.first x; last = bit_or e.last y }) (followed d e)
-followed_fields d e n x y h k l = cc (h, k, l)
-
-pub either_fields
-    : (d e : Part) (n : Bool) → n ≡ (d.nullable || e.nullable)
-    → ◌≡◌ {A = Part} (record { end = e.end; nullable = n; first = bit_or d.first e.first; last = bit_or d.last e.last }) (either_part d e)
-either_fields d e n h = cc h
 
 -- ---- stars
 

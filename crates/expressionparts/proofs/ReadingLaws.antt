@@ -1,53 +1,21 @@
--- Laws of the characters of a text, of the tests on them, and of positions that follow one another.
+-- Laws of positions that follow one another.
 -- Assumes nothing.
 use mathlib.Core.Path.{◌≡◌, refl, sym, ap, ◌∙◌}
 use mathlib.Core.Logic.{by_cases, ◌≢◌}
-use mathlib.Core.Bool.{Bool, true, false, true≢false, false≢true}
+use mathlib.Core.Bool.{Bool, false}
 use mathlib.Core.List.{List}
 use Prim.Native.Nat.{ℕ, ◌+◌, ◌-◌, ◌^◌, ◌≤◌, ◌<◌}
 use native.Mathlib.Nat.{not-suc-le-zero}
 use native.Mathlib.Decide.{dec_lt, ℕ_discrete}
 use native.Mathlib.Omega.{arith}
-use lib.Dec.{eqb, ltb}
 use lib.Bits.{bit_or, bit_and, or_zero_r}
 use lib.Count.{count_trailing_zeros}
 use lib.ListN.{length, get_or, set, length-set}
 use lib.Seq.{get_or-set_same, get_or-set_other}
-use borrow.Author.Tests.{eqb-true, eqb-false, ltb-true, ltb-false}
 use Rattle.laws.specs.Bits.{has}
 use Rattle.laws.proofs.Walk.{Rest, rest_start, rest_from, rest_low, rest_lt, rest_none, rest_next, rest_done}
-use Rattle.expression.specs.Grammar.{At, IsLetter}
 use Rattle.expression.specs.Masks.{when}
-use Rattle.expression.specs.Stops.{Begins, by_letter, by_group}
-use Rattle.expressionparts.specs.Reading.{Tells, Linked}
-
--- ---- tests
-
--- a character is at a position or is not
-pub tells_at : (t : List ℕ) (i c d : ℕ) → c ≡ get_or t i 0 → Tells (eqb c d) (At t i d)
-tells_at t i c d e = record { yes_so = λ h. sym e ∙ eqb-true c d h; not_so = λ h p. eqb-false c d h (e ∙ p) }
-
--- a character before the letters, and one from `a` on
-pub tells_low : (a : ℕ) (t : List ℕ) (i c : ℕ) → c ≡ get_or t i 0 → c < 97 → Tells false (IsLetter a t i)
-tells_low a t i c e l = record { yes_so = λ h. absurd (false≢true h); not_so = λ h p. omega (arith, p.low, e, l) }
-
-pub tells_high : (a : ℕ) (t : List ℕ) (i c : ℕ) → c ≡ get_or t i 0 → 97 ≤ c → Tells (ltb c (97 + a)) (IsLetter a t i)
-tells_high a t i c e l =
-    record {
-      yes_so = λ h. record { low = omega (arith, e, l); high = omega (arith, e, ltb-true c (97 + a) h) };
-      not_so = λ h p. omega (arith, e, p.high, ltb-false c (97 + a) h);
-    }
-
--- a piece begins with a parenthesis, or else with a letter
-pub tells_group : (a : ℕ) (t : List ℕ) (i : ℕ) → At t i 40 → Tells true (Begins a t i)
-tells_group a t i p = record { yes_so = λ h. by_group p; not_so = λ h b. true≢false h }
-
-pub tells_begins : (a : ℕ) (t : List ℕ) (i : ℕ) (b : Bool) → (At t i 40 → ⊥) → Tells b (IsLetter a t i) → Tells b (Begins a t i)
-tells_begins a t i b n h = record { yes_so = λ e. by_letter (h.yes_so e); not_so = go }
-  where
-    go : b ≡ false → Begins a t i → ⊥
-    go e (by_letter x) = h.not_so e x
-    go e (by_group x) = n x
+use Rattle.expressionparts.specs.Reading.{Linked}
 
 -- ---- linking
 

@@ -1,7 +1,7 @@
 -- What the reader of an expression answers.
 -- Inner contracts: what functions ask of and leave to each other. No promise is stated in them; a reader need not believe them.
 -- Assumes nothing.
-use Rattle.std.specs.Prelude.{◌≡◌, Bool, true, false, ◌&&◌, ◌||◌, List, ℕ, ◌+◌, ◌^◌, ◌≤◌, ◌<◌, length, get_or}
+use Rattle.std.specs.Prelude.{◌≡◌, Bool, true, false, ◌&&◌, ◌||◌, Option, Some, None, List, ℕ, ◌+◌, ◌^◌, ◌≤◌, ◌<◌, length, get_or}
 use Rattle.std.specs.Int.Bits.{bit_or}
 use Rattle.laws.specs.Bits.{has}
 use Rattle.expression.specs.Expression.{Expr}
@@ -9,8 +9,6 @@ use Rattle.expression.specs.Grammar.{Level, piece, choice, Spells, TextOf}
 use Rattle.expression.specs.Stops.{StopAt}
 use Rattle.expression.specs.Masks.{In, nullable, when, first, last, follow}
 use Rattle.expressionparts.specs.declared.part.Part.{Part}
-use Rattle.expressionparts.specs.declared.part.Read.{Read}
-use Rattle.expressionparts.specs.declared.part.Read.TheVariants.{Found, Nothing}
 
 -- what is read from position i on: an expression, its sets, and in the lent buffer what follows each of its positions; positions before i are as
 -- they were
@@ -30,9 +28,9 @@ pub record Whole (a : ℕ) (t : List ℕ) (l : Level) (i : ℕ) (f₀ f : List �
   pub stops : StopAt a t l r.end
 
 -- the reader's answer at a level, from position i on
-abbrev pub Answer : ℕ → List ℕ → Level → ℕ → List ℕ → List ℕ → Read → Type 0
-Answer a t l i f₀ f (Found r) = Whole a t l i f₀ f r
-Answer a t l i f₀ f Nothing = (j : ℕ) (e : Expr) → Spells a t l i j e → StopAt a t l j → ⊥
+abbrev pub Answer : ℕ → List ℕ → Level → ℕ → List ℕ → List ℕ → Option Part → Type 0
+Answer a t l i f₀ f (Some r) = Whole a t l i f₀ f r
+Answer a t l i f₀ f None = (j : ℕ) (e : Expr) → Spells a t l i j e → StopAt a t l j → ⊥
 
 -- a test says whether
 pub record Tells (b : Bool) (P : Type 0) : Type 0 where
@@ -75,6 +73,6 @@ pub record Ready (a : ℕ) (t f : List ℕ) : Type 0 where
   pub fits : length f ≡ 64
 
 -- the reader's answer for a whole text
-abbrev pub TextAnswer : ℕ → List ℕ → List ℕ → List ℕ → Read → Type 0
-TextAnswer a t f₀ f (Found d) = Shown a t choice 0 f₀ f d × (d.end ≡ length t)
-TextAnswer a t f₀ f Nothing = (e : Expr) → TextOf a t e → ⊥
+abbrev pub TextAnswer : ℕ → List ℕ → List ℕ → List ℕ → Option Part → Type 0
+TextAnswer a t f₀ f (Some d) = Shown a t choice 0 f₀ f d × (d.end ≡ length t)
+TextAnswer a t f₀ f None = (e : Expr) → TextOf a t e → ⊥

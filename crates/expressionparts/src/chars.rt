@@ -8,7 +8,7 @@ ghost use Rattle.expressionparts.specs.Reading.{Tells};
 fn char_at(text: &[u8], i: usize) -> u8
     ensures { result ≡ get_or text.now i 0 }
 {
-    if i < text.len() { text[i] } else { 0 }
+    text.get(i).copied().unwrap_or(0)
 }
 
 // Whether one of the first letters stands at a position.
@@ -17,7 +17,7 @@ pub fn is_letter(text: &[u8], letters: u8, i: usize) -> bool
     ensures { Tells result (IsLetter letters text.now i) }
 {
     let c = char_at(text, i);
-    if c < 97 { false } else { c < 97 + letters }
+    97 <= c && c < 97 + letters
 }
 
 // Whether a character stands at a position.
@@ -32,9 +32,5 @@ pub fn begins(text: &[u8], letters: u8, i: usize) -> bool
     requires { letters ≤ 16 }
     ensures { Tells result (Begins letters text.now i) }
 {
-    if is_at(text, i, 40) {
-        true
-    } else {
-        is_letter(text, letters, i)
-    }
+    is_at(text, i, 40) || is_letter(text, letters, i)
 }

@@ -12,9 +12,9 @@ pub fn link(follow: &mut [u64], lasts: u64, firsts: u64)
 {
     let mut rest = lasts;
     while rest != 0 {
-        let q = u64::trailing_zeros(rest) as usize;
-        follow[q] = follow[q] | firsts;
-        rest = rest & (rest - 1);
+        let q = rest.trailing_zeros() as usize;
+        follow[q] |= firsts;
+        rest &= rest - 1;
     }
 }
 

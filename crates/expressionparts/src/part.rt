@@ -1,5 +1,5 @@
 // A part of the text that was read, and how parts are put together.
-ghost use Rattle.std.specs.Prelude.{◌≡◌, ◌&&◌, ◌||◌, ◌<◌};
+ghost use Rattle.std.specs.Prelude.{◌≡◌, ◌<◌};
 ghost use Rattle.expression.specs.Masks.{when};
 ghost use Rattle.expressionparts.specs.Reading.{letter_part, followed, either_part, up_to};
 
@@ -12,32 +12,11 @@ pub struct Part {
     pub last: u64,
 }
 
-// The longest part from a position on, or none.
-#[derive(Drop)]
-pub enum Read {
-    Found(Part),
-    Nothing,
-}
-
 // A set, or none.
 pub fn set_when(b: bool, s: u64) -> u64
     ensures { result ≡ when b s }
 {
     if b { s } else { 0 }
-}
-
-// Whether both hold.
-fn both(a: bool, b: bool) -> bool
-    ensures { result ≡ (a && b) }
-{
-    if a { b } else { false }
-}
-
-// Whether one of the two holds.
-fn one_of(a: bool, b: bool) -> bool
-    ensures { result ≡ (a || b) }
-{
-    if a { true } else { b }
 }
 
 // The part of a letter.
@@ -60,7 +39,7 @@ pub fn follow_on(d: Part, e: Part) -> Part
 {
     Part {
         end: e.end,
-        nullable: both(d.nullable, e.nullable),
+        nullable: d.nullable && e.nullable,
         first: d.first | set_when(d.nullable, e.first),
         last: e.last | set_when(e.nullable, d.last),
     }
@@ -72,7 +51,7 @@ pub fn choose(d: Part, e: Part) -> Part
 {
     Part {
         end: e.end,
-        nullable: one_of(d.nullable, e.nullable),
+        nullable: d.nullable || e.nullable,
         first: d.first | e.first,
         last: d.last | e.last,
     }
@@ -83,8 +62,8 @@ pub fn up_to(d: Part, end: usize, nullable: bool) -> Part
     ensures { result ≡ up_to d end nullable }
 {
     Part {
-        end: end,
-        nullable: nullable,
+        end,
+        nullable,
         first: d.first,
         last: d.last,
     }

@@ -12,24 +12,12 @@ use Rattle.expression.specs.Stops.{Begins}
 use Rattle.expression.proofs.Linear.{spread_le}
 use Rattle.expression.proofs.Unique.{choice_unique, spells_spread}
 use Rattle.expressionparts.specs.declared.part.Part.{Part}
-use Rattle.expressionparts.specs.declared.part.Read.{Read}
-use Rattle.expressionparts.specs.declared.part.Read.TheVariants.{Found, Nothing}
-use Rattle.expressionparts.specs.Reading.{Shown, Whole, Answer, Linked, followed, either_part, Ready}
+use Rattle.expressionparts.specs.Reading.{Shown, Whole, Linked, followed, either_part, Ready}
 use Rattle.expression.proofs.GrammarLaws.{stop_end}
 use Rattle.expression.proofs.NoneLaws.{NoneAt, group_none, group_open, row_none_after, choice_none_after}
 use Rattle.expressionparts.proofs.PartLaws.{then_shown, or_shown}
 
 -- ---- answers
-
--- an answer that is known to be a part, or none
-pub found
-    : (a : ℕ) (t : List ℕ) (l : Level) (i : ℕ) (f₀ f : List ℕ) (r : Read) (d : Part) → r ≡ Found d → Answer a t l i f₀ f r
-    → Whole a t l i f₀ f d
-found a t l i f₀ f r d e h = subst (λ (x : Read). Answer a t l i f₀ f x) e h
-
-pub nothing
-    : (a : ℕ) (t : List ℕ) (l : Level) (i : ℕ) (f₀ f : List ℕ) (r : Read) → r ≡ Nothing → Answer a t l i f₀ f r → NoneAt a t l i
-nothing a t l i f₀ f r e h = subst (λ (x : Read). Answer a t l i f₀ f x) e h
 
 -- what a function gives is another name for a part
 pub renamed
@@ -124,10 +112,7 @@ module _ {a : ℕ} {t : List ℕ} where
 
   -- ---- the whole text
 
-  -- the longest choice ends before the text does, or there is none
+  -- the longest choice ends before the text does
   pub text_longer
       : {f₀ f : List ℕ} {d : Part} → a ≤ 16 → Whole a t choice 0 f₀ f d → (d.end ≡ length t → ⊥) → (e : Expr) → TextOf a t e → ⊥
   text_longer few w h e s = h (choice_unique few w.shown.spelt s w.stops (stop_end a t)).end
-
-  pub text_none : NoneAt a t choice 0 → (e : Expr) → TextOf a t e → ⊥
-  text_none h e s = h (length t) e s (stop_end a t)

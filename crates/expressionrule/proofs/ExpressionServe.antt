@@ -1,6 +1,7 @@
 -- The rule of an expression is one as any other: it is well formed, it alarms at the words on the event step's own definition, its bytes are those
 -- of a rule, 13 does not turn it back, and its R lines are read back as that rule. What is answered is seen by the number.
 -- Assumes nothing.
+use Rattle.std.specs.Prelude.{Result, Ok}
 use mathlib.Core.Path.{◌≡◌, refl, sym, ap, ◌∙◌, subst}
 use mathlib.Core.Logic.{◌≢◌, ◌↔◌, ⊎_elim}
 use mathlib.Core.Bool.{true, false}
@@ -19,24 +20,22 @@ use Rattle.automaton.specs.Made.{Made, makes, refuses, made_after}
 use Rattle.automaton.proofs.AutomatonLaws.{well_formed_says, well_formed_same}
 use Rattle.automaton.proofs.RuleBytesLaws.{rule_bytes_same}
 use Rattle.automaton.proofs.MadeLaws.{made_says}
-use Rattle.events.specs.Monitor.{taken, moved_to}
+use Rattle.events.specs.Monitor.{EventStep, taken, moved_to}
 use Rattle.events.specs.declared.Record.{Record}
-use Rattle.events.specs.declared.Taken.{Taken}
-use Rattle.events.specs.declared.Report.{Report}
-use Rattle.events.specs.declared.Report.TheVariants.{Quiet, Alarm}
 use Rattle.events.proofs.MonitorLaws.{taken_moved, moved_alarm, moved_quiet}
 use Rattle.jobfile.specs.File.{accepted}
 use Rattle.jobfile.specs.RuleLines.{trimmed}
 use Rattle.jobfile.proofs.RuleLinesLaws.{trimmed_exact, rule_lines_say}
 use Rattle.expression.specs.Expression.{Expr}
 use Rattle.expression.specs.Positions.{Accepts, Events, no_event, event}
-use Rattle.expressionrule.specs.declared.answer.ExpressionAnswer.{ExpressionAnswer}
-use Rattle.expressionrule.specs.declared.answer.ExpressionAnswer.TheVariants.{Accepted}
 use Rattle.expressionrule.specs.ExpressionRule.{run, RuleOf, Within, ExpressionMakes, other_length, outside, many, made, expression_answer}
 use Rattle.expressionrule.specs.ExpressionSay.{taken_all, ExpressionRuleSays, ExpressionLeft, written, unchanged, ExpressionBytesSay, rule_left, ExpressionValueSays, expression_seen, ExpressionByNumber, ExpressionRuleServes}
 use Rattle.expression.proofs.Reach.{snoc_not_nil}
 use Rattle.expressionrule.proofs.DoneLaws.{events_snoc}
 use Rattle.expressionrule.proofs.OneRule.{run_snoc, run_below, led_to}
+use Rattle.events.specs.declared.Report.{Report}
+use Rattle.events.specs.declared.Report.TheVariants.{Quiet, Alarm}
+use Rattle.expressionrule.specs.declared.answer.Met.{Met}
 
 -- ---- the rule
 
@@ -63,8 +62,8 @@ module _ (t : List ℕ) (a : ℕ) (e : Expr) (m : Automaton) (w : Within t a e) 
   -- and moves the record
   moved_state : (q : ℕ) (x : Record) → (moved_to m q x).left.state ≡ q
   moved_state q x =
-      ⊎_elim (λ (f : final m q ≡ true). ap (λ (y : Taken). y.left.state) (moved_alarm m q x f))
-      (λ (f : final m q ≡ false). ap (λ (y : Taken). y.left.state) (moved_quiet m q x f)) (passes_or_fails (final m q))
+      ⊎_elim (λ (f : final m q ≡ true). ap (λ (y : EventStep). y.left.state) (moved_alarm m q x f))
+      (λ (f : final m q ≡ false). ap (λ (y : EventStep). y.left.state) (moved_quiet m q x f)) (passes_or_fails (final m q))
 
   -- so a list of events leads the record where it leads the rule
   led : (v : List ℕ) (x : Record) → x.state < m.states → Events a v → (taken_all m v x).state ≡ run m x.state v
@@ -72,7 +71,7 @@ module _ (t : List ℕ) (a : ℕ) (e : Expr) (m : Automaton) (w : Within t a e) 
   led [] x h no_event = refl
   led (s ∷ v) x h (event l es) =
       let y = (taken m s x).left in
-      let to : y.state ≡ next m x.state s = ap (λ (z : Taken). z.left.state) (moves s x l h) ∙ moved_state (next m x.state s) x in
+      let to : y.state ≡ next m x.state s = ap (λ (z : EventStep). z.left.state) (moves s x l h) ∙ moved_state (next m x.state s) x in
       led v y (omega (arith, to, r.below x.state s h l)) es ∙ ap (λ (q : ℕ). run m q v) to
 
   front : (v : List ℕ) (s : ℕ) → Events a (v ++ (s ∷ [])) → Events a v
@@ -98,18 +97,18 @@ module _ (t : List ℕ) (a : ℕ) (e : Expr) (m : Automaton) (w : Within t a e) 
       ∙ ap (λ (q : ℕ). moved_to m q (taken_all m v x)) (ap (λ (q : ℕ). next m q s) to ∙ sym (run_snoc m 0 v s))
 
   module _ (v : List ℕ) (s : ℕ) (x : Record) (z : x.state ≡ 0) (es : Events a (v ++ (s ∷ []))) where
-    alarms : final m (run m 0 (v ++ (s ∷ []))) ≡ true → (taken m s (taken_all m v x)).report ≡ Alarm
+    alarms : final m (run m 0 (v ++ (s ∷ []))) ≡ true → (taken m s (taken_all m v x)).report ≡ Ok Alarm
     alarms f =
-        ap (λ (y : Taken). y.report) (last_event v s x z es ∙ moved_alarm m (run m 0 (v ++ (s ∷ []))) (taken_all m v x) f)
+        ap (λ (y : EventStep). y.report) (last_event v s x z es ∙ moved_alarm m (run m 0 (v ++ (s ∷ []))) (taken_all m v x) f)
 
-    quiets : final m (run m 0 (v ++ (s ∷ []))) ≡ false → (taken m s (taken_all m v x)).report ≡ Quiet
+    quiets : final m (run m 0 (v ++ (s ∷ []))) ≡ false → (taken m s (taken_all m v x)).report ≡ Ok Quiet
     quiets f =
-        ap (λ (y : Taken). y.report) (last_event v s x z es ∙ moved_quiet m (run m 0 (v ++ (s ∷ []))) (taken_all m v x) f)
+        ap (λ (y : EventStep). y.report) (last_event v s x z es ∙ moved_quiet m (run m 0 (v ++ (s ∷ []))) (taken_all m v x) f)
 
-    not_both : (taken m s (taken_all m v x)).report ≡ Alarm → (taken m s (taken_all m v x)).report ≡ Quiet → ⊥
-    not_both i j = let k : ◌≡◌ {A = Report} Alarm Quiet = sym i ∙ j in let n : ◌≡◌ {A = ℕ} 0 1 = cc in omega arith
+    not_both : (taken m s (taken_all m v x)).report ≡ Ok Alarm → (taken m s (taken_all m v x)).report ≡ Ok Quiet → ⊥
+    not_both i j = let k : ◌≡◌ {A = Result Report ℕ} (Ok Alarm) (Ok Quiet) = sym i ∙ j in let n : ◌≡◌ {A = ℕ} 0 1 = cc in omega arith
 
-    alarm_says : ((taken m s (taken_all m v x)).report ≡ Alarm) ↔ Accepts t e (v ++ (s ∷ []))
+    alarm_says : ((taken m s (taken_all m v x)).report ≡ Ok Alarm) ↔ Accepts t e (v ++ (s ∷ []))
     alarm_says = (
       λ i. ⊎_elim (λ (f : final m (run m 0 (v ++ (s ∷ []))) ≡ true). (at_words v s es).0 f)
           (λ (f : final m (run m 0 (v ++ (s ∷ []))) ≡ false). absurd (not_both i (quiets f)))
@@ -117,7 +116,7 @@ module _ (t : List ℕ) (a : ℕ) (e : Expr) (m : Automaton) (w : Within t a e) 
       λ i. alarms ((at_words v s es).1 i),
     )
 
-    quiet_says : ((taken m s (taken_all m v x)).report ≡ Quiet) ↔ (Accepts t e (v ++ (s ∷ [])) → ⊥)
+    quiet_says : ((taken m s (taken_all m v x)).report ≡ Ok Quiet) ↔ (Accepts t e (v ++ (s ∷ [])) → ⊥)
     quiet_says = (
       λ i j. not_both (alarms ((at_words v s es).1 j)) i,
       λ i. ⊎_elim (λ (f : final m (run m 0 (v ++ (s ∷ []))) ≡ true). absurd (i ((at_words v s es).0 f)))
@@ -203,10 +202,10 @@ expression_bytes_say t before after a r x = go x.made x.makes x.answer x.buffer
         : (y : Made) → ExpressionMakes t a (length before) y → r ≡ expression_answer y → after ≡ made_after y before
         → ExpressionLeft before after y r
     go (makes m) z e b =
-        subst (λ (k : ExpressionAnswer). ExpressionLeft before after (makes m) k) (sym e)
+        subst (λ (k : Result Met ℕ). ExpressionLeft before after (makes m) k) (sym e)
         (written (subst (RuleWritten m) (sym b) (made_says.written m before (made_well_formed t a (length before) m z))))
     go (refuses k) z e b =
-        subst (λ (i : ExpressionAnswer). ExpressionLeft before after (refuses k) i) (sym e) (unchanged b)
+        subst (λ (i : Result Met ℕ). ExpressionLeft before after (refuses k) i) (sym e) (unchanged b)
 
 -- by value
 pub expression_value_says : ExpressionValueSays
@@ -238,7 +237,7 @@ expression_by_number t a rule (refuses k) x = simp (lt-ltb k accepted_from (omeg
 expression_by_number t a rule (makes m) x =
     read_back m.states m.finals (made_fits t a rule m x).1
   where
-    read_back : (s f : ℕ) → f < 2 ^ 16 → expression_seen (accepted_from + s * 2 ^ 16 + f) ≡ Accepted (record { states = s; finals = f })
+    read_back : (s f : ℕ) → f < 2 ^ 16 → expression_seen (accepted_from + s * 2 ^ 16 + f) ≡ Ok (record { states = s; finals = f })
     read_back s f small =
         let big : ltb (accepted_from + s * 2 ^ 16 + f) accepted_from ≡ false =
         le-ltb (accepted_from + s * 2 ^ 16 + f) accepted_from (omega arith) in

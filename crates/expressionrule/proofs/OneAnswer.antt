@@ -1,6 +1,7 @@
 -- Just one is made for every text, A and rule buffer, so the contract of the call fixes every number and byte.
 -- Why: what 20 turns back and what it does not exclude each other, a text spells one expression, and that has one rule or more than 16 states.
 -- Assumes nothing.
+use Rattle.std.specs.Prelude.{Result}
 use mathlib.Core.Path.{◌≡◌, refl, sym, ap, ◌∙◌, subst}
 use mathlib.Core.List.{List}
 use Prim.Native.Nat.{ℕ}
@@ -11,11 +12,11 @@ use Rattle.automaton.specs.Table.{rule_size}
 use Rattle.automaton.specs.Made.{Made, makes, made_after}
 use Rattle.expression.specs.Expression.{Expr}
 use Rattle.expression.proofs.GrammarLaws.{grammar_says}
-use Rattle.expressionrule.specs.declared.answer.ExpressionAnswer.{ExpressionAnswer}
 use Rattle.expressionrule.specs.ExpressionRule.{RuleOf, ManyStates, Outside, no_symbol, many_symbols, too_long, not_spelt, letter_past, Within, ExpressionMakes, other_length, outside, many, made, expression_answer, expression_number, expression_value, AnswersExpression}
 use Rattle.expressionrule.specs.ExpressionSay.{JustOne, ManySays}
 use Rattle.expressionrule.proofs.OneRule.{one_rule, many_no_rule}
 use Rattle.expressionrule.proofs.MadeBy.{made_by, made_by_lem}
+use Rattle.expressionrule.specs.declared.answer.Met.{Met}
 
 -- what 20 turns back is not within
 pub not_within : {t : List ℕ} {a : ℕ} {e : Expr} → Outside t a → Within t a e → ⊥
@@ -73,13 +74,13 @@ just_one =
     }
   where
     some_answer
-        : (t : List ℕ) (a : ℕ) (before : List ℕ) → (after : List ℕ) × (r : ExpressionAnswer) × AnswersExpression t a before after r
+        : (t : List ℕ) (a : ℕ) (before : List ℕ) → (after : List ℕ) × (r : Result Met ℕ) × AnswersExpression t a before after r
     some_answer t a before =
         let x = made_by t a (length before) in
         (made_after x before, expression_answer x, record { made = x; makes = made_by_lem t a (length before); answer = refl; buffer = refl })
 
     one_answer
-        : (t : List ℕ) (a : ℕ) (before after other : List ℕ) (r s : ExpressionAnswer) → AnswersExpression t a before after r
+        : (t : List ℕ) (a : ℕ) (before after other : List ℕ) (r s : Result Met ℕ) → AnswersExpression t a before after r
         → AnswersExpression t a before other s → (r ≡ s) × (after ≡ other)
     one_answer t a before after other r s p q =
         let same = both t a (length before) p.makes q.makes in (

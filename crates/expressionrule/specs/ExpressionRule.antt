@@ -1,7 +1,7 @@
 -- The rule made from an expression (document 02, request 6): its states, its alarms and its numbering, what is refused, and the call's answer.
 -- Nothing here searches or reads: each is said of lists of events and of what the text spells.
 -- Assumes nothing.
-use Rattle.std.specs.Prelude.{◌≡◌, ◌≢◌, ◌↔◌, true, false, List, [], ◌∷◌, ℕ, ◌+◌, ◌*◌, ◌^◌, ◌≤◌, ◌<◌, length, get_or}
+use Rattle.std.specs.Prelude.{Result, Ok, Err, ◌≡◌, ◌≢◌, ◌↔◌, true, false, List, [], ◌∷◌, ℕ, ◌+◌, ◌*◌, ◌^◌, ◌≤◌, ◌<◌, length, get_or}
 use Rattle.callnumber.specs.CallNumber.{accepted_from}
 use Rattle.automaton.specs.Automaton.{Automaton, next, final}
 use Rattle.automaton.specs.Table.{rule_size}
@@ -10,9 +10,7 @@ use Rattle.expression.specs.Expression.{Expr}
 use Rattle.expression.specs.Grammar.{IsLetter, Text}
 use Rattle.expression.specs.Positions.{symbol_at, Accepts, Events, SameState}
 use Rattle.expressionrule.specs.declared.answer.Met.{Met}
-use Rattle.expressionrule.specs.declared.answer.ExpressionAnswer.{ExpressionAnswer}
-use Rattle.expressionrule.specs.declared.answer.ExpressionAnswer.TheVariants.{Accepted, Refused}
-use Rattle.expressionrule.specs.declared.answer.ExpressionRule.{ExpressionRule}
+use Rattle.rulevalue.specs.declared.WithTable.{WithTable}
 
 -- ---- the rule
 
@@ -98,21 +96,21 @@ abbrev pub met_of : Automaton → Met
 met_of m = record { states = m.states; finals = m.finals }
 
 -- what the call answers
-abbrev pub expression_answer : Made → ExpressionAnswer
-expression_answer (makes m) = Accepted (met_of m)
-expression_answer (refuses k) = Refused k
+abbrev pub expression_answer : Made → Result Met ℕ
+expression_answer (makes m) = Ok (met_of m)
+expression_answer (refuses k) = Err k
 
 -- by value
-abbrev pub expression_value : Made → ExpressionRule
+abbrev pub expression_value : Made → WithTable (Result Met ℕ)
 expression_value x = record { answer = expression_answer x; table = made_table x }
 
 -- across the C call: 2^48 plus states times 2^16 and the final set; a refusal is its number
-abbrev pub expression_number : ExpressionAnswer → ℕ
-expression_number (Accepted x) = accepted_from + x.states * 2 ^ 16 + x.finals
-expression_number (Refused k) = k
+abbrev pub expression_number : Result Met ℕ → ℕ
+expression_number (Ok x) = accepted_from + x.states * 2 ^ 16 + x.finals
+expression_number (Err k) = k
 
 -- the answer and the rule buffer after the call are those of what is made; by `JustOne` there is one such answer, and one content of the buffer
-pub record AnswersExpression (t : List ℕ) (a : ℕ) (before after : List ℕ) (r : ExpressionAnswer) : Type 0 where
+pub record AnswersExpression (t : List ℕ) (a : ℕ) (before after : List ℕ) (r : Result Met ℕ) : Type 0 where
   pub made : Made
   pub makes : ExpressionMakes t a (length before) made
   pub answer : r ≡ expression_answer made
@@ -120,12 +118,12 @@ pub record AnswersExpression (t : List ℕ) (a : ℕ) (before after : List ℕ) 
 
 -- the same across the C call
 pub record NumbersExpression (t : List ℕ) (a : ℕ) (before after : List ℕ) (n : ℕ) : Type 0 where
-  pub answer : ExpressionAnswer
+  pub answer : Result Met ℕ
   pub answers : AnswersExpression t a before after answer
   pub number : n ≡ expression_number answer
 
 -- and by value
-pub record ValuesExpression (t : List ℕ) (a : ℕ) (r : ExpressionRule) : Type 0 where
+pub record ValuesExpression (t : List ℕ) (a : ℕ) (r : WithTable (Result Met ℕ)) : Type 0 where
   pub made : Made
   pub makes : ExpressionMakes t a rule_size made
   pub value : r ≡ expression_value made

@@ -1,14 +1,13 @@
 -- What the answers of the call for an expression say (document 02, request 6): that there is just one for every text and A, the bytes that are
 -- left, the number, the alarms on the event step's own definition, and the rule as any other. Statements, with a theorem for each in `proofs/`.
 -- Assumes nothing.
-use Rattle.std.specs.Prelude.{◌≡◌, ◌≢◌, ◌↔◌, true, cond, List, [], ◌∷◌, ◌++◌, ℕ, ◌-◌, ◌/◌, ◌%◌, ◌^◌, ◌<◌, ltb, length, replicate}
+use Rattle.std.specs.Prelude.{Result, Err, Ok, ◌≡◌, ◌≢◌, ◌↔◌, true, cond, List, [], ◌∷◌, ◌++◌, ℕ, ◌-◌, ◌/◌, ◌%◌, ◌^◌, ◌<◌, ltb, length, replicate}
 use Rattle.callnumber.specs.CallNumber.{accepted_from}
 use Rattle.automaton.specs.Automaton.{Automaton, automaton_of, next, well_formed, WellFormed, SameRule}
 use Rattle.automaton.specs.Table.{rule_size, table_of, RuleWritten}
 use Rattle.automaton.specs.Made.{Made, makes, refuses, made_after}
 use Rattle.events.specs.Monitor.{taken}
 use Rattle.events.specs.declared.Record.{Record}
-use Rattle.events.specs.declared.Report.TheVariants.{Quiet, Alarm}
 use Rattle.job.specs.Job.{Job}
 use Rattle.lines.specs.Lines.{lines, lines_of}
 use Rattle.jobfile.specs.File.{rule_line, rule_of, accepted, read_job}
@@ -17,10 +16,10 @@ use Rattle.jobfile.specs.Spellable.{Spellable}
 use Rattle.jobfile.specs.RuleLines.{rule_text, with_rule_text}
 use Rattle.expression.specs.Expression.{Expr}
 use Rattle.expression.specs.Positions.{Accepts, Events}
-use Rattle.expressionrule.specs.declared.answer.ExpressionAnswer.{ExpressionAnswer}
-use Rattle.expressionrule.specs.declared.answer.ExpressionAnswer.TheVariants.{Accepted, Refused}
-use Rattle.expressionrule.specs.declared.answer.ExpressionRule.{ExpressionRule}
+use Rattle.rulevalue.specs.declared.WithTable.{WithTable}
 use Rattle.expressionrule.specs.ExpressionRule.{run, RuleOf, ManyStates, Within, ExpressionMakes, met_of, expression_answer, expression_value, expression_number, AnswersExpression, NumbersExpression, ValuesExpression}
+use Rattle.events.specs.declared.Report.TheVariants.{Quiet, Alarm}
+use Rattle.expressionrule.specs.declared.answer.Met.{Met}
 
 -- ---- just one
 
@@ -30,16 +29,16 @@ pub record JustOne : Type 0 where
   pub some : (t : List ℕ) (a rule : ℕ) → (x : Made) × ExpressionMakes t a rule x
   pub only : (t : List ℕ) (a rule : ℕ) (x y : Made) → ExpressionMakes t a rule x → ExpressionMakes t a rule y → x ≡ y
   pub some_answer
-      : (t : List ℕ) (a : ℕ) (before : List ℕ) → (after : List ℕ) × (r : ExpressionAnswer) × AnswersExpression t a before after r
+      : (t : List ℕ) (a : ℕ) (before : List ℕ) → (after : List ℕ) × (r : Result Met ℕ) × AnswersExpression t a before after r
   pub some_number : (t : List ℕ) (a : ℕ) (before : List ℕ) → (after : List ℕ) × (n : ℕ) × NumbersExpression t a before after n
-  pub some_value : (t : List ℕ) (a : ℕ) → (r : ExpressionRule) × ValuesExpression t a r
+  pub some_value : (t : List ℕ) (a : ℕ) → (r : WithTable (Result Met ℕ)) × ValuesExpression t a r
   pub one_answer
-      : (t : List ℕ) (a : ℕ) (before after other : List ℕ) (r s : ExpressionAnswer) → AnswersExpression t a before after r
+      : (t : List ℕ) (a : ℕ) (before after other : List ℕ) (r s : Result Met ℕ) → AnswersExpression t a before after r
       → AnswersExpression t a before other s → (r ≡ s) × (after ≡ other)
   pub one_number
       : (t : List ℕ) (a : ℕ) (before after other : List ℕ) (k n : ℕ) → NumbersExpression t a before after k
       → NumbersExpression t a before other n → (k ≡ n) × (after ≡ other)
-  pub one_value : (t : List ℕ) (a : ℕ) (r s : ExpressionRule) → ValuesExpression t a r → ValuesExpression t a s → r ≡ s
+  pub one_value : (t : List ℕ) (a : ℕ) (r s : WithTable (Result Met ℕ)) → ValuesExpression t a r → ValuesExpression t a s → r ≡ s
 
 -- the statement: 21 is for an expression that has no rule of at most 16 states
 abbrev pub ManySays : Type 0
@@ -57,10 +56,10 @@ taken_all m (s ∷ w) r = taken_all m w (taken m s r).left
 pub record RuleSays (a : ℕ) (t : List ℕ) (e : Expr) (m : Automaton) : Type 0 where
   pub alarm
       : (w : List ℕ) (s : ℕ) (r : Record) → r.state ≡ 0 → Events a (w ++ (s ∷ []))
-      → ((taken m s (taken_all m w r)).report ≡ Alarm) ↔ Accepts t e (w ++ (s ∷ []))
+      → ((taken m s (taken_all m w r)).report ≡ Ok Alarm) ↔ Accepts t e (w ++ (s ∷ []))
   pub quiet
       : (w : List ℕ) (s : ℕ) (r : Record) → r.state ≡ 0 → Events a (w ++ (s ∷ []))
-      → ((taken m s (taken_all m w r)).report ≡ Quiet) ↔ (Accepts t e (w ++ (s ∷ [])) → ⊥)
+      → ((taken m s (taken_all m w r)).report ≡ Ok Quiet) ↔ (Accepts t e (w ++ (s ∷ [])) → ⊥)
   pub start_apart : (q s : ℕ) → q < m.states → s < a → next m q s ≢ 0
   pub led_to : (q : ℕ) → q < m.states → (w : List ℕ) × Events a w × (run m 0 w ≡ q)
   pub well_formed_holds : WellFormed m
@@ -72,14 +71,14 @@ ExpressionRuleSays = (t : List ℕ) (a : ℕ) (e : Expr) (m : Automaton) → Wit
 -- ---- the bytes
 
 -- the rule buffer after the call: the rule's bytes beside S and the final set; or as it was, beside the refusal's number
-pub data ExpressionLeft (before after : List ℕ) : Made → ExpressionAnswer → Type 0 where
-  written : {m : Automaton} → RuleWritten m after → ExpressionLeft before after (makes m) (Accepted (met_of m))
-  unchanged : {k : ℕ} → after ≡ before → ExpressionLeft before after (refuses k) (Refused k)
+pub data ExpressionLeft (before after : List ℕ) : Made → Result Met ℕ → Type 0 where
+  written : {m : Automaton} → RuleWritten m after → ExpressionLeft before after (makes m) (Ok (met_of m))
+  unchanged : {k : ℕ} → after ≡ before → ExpressionLeft before after (refuses k) (Err k)
 
 -- the statement: the bytes that are left, and the answer, are those
 abbrev pub ExpressionBytesSay : Type 0
 ExpressionBytesSay =
-    (t before after : List ℕ) (a : ℕ) (r : ExpressionAnswer) (x : AnswersExpression t a before after r)
+    (t before after : List ℕ) (a : ℕ) (r : Result Met ℕ) (x : AnswersExpression t a before after r)
     → ExpressionLeft before after x.made r
 
 -- the rule that bytes are, beside S, A and the final set
@@ -101,10 +100,10 @@ pub record ExpressionValueSays : Type 0 where
 -- ---- the number
 
 -- the answer that a number tells: below 2^48 a refusal, else states and final set
-abbrev pub expression_seen : ℕ → ExpressionAnswer
+abbrev pub expression_seen : ℕ → Result Met ℕ
 expression_seen n =
-    cond (ltb n accepted_from) (Refused n)
-    (Accepted (record { states = (n - accepted_from) / 2 ^ 16; finals = (n - accepted_from) % 2 ^ 16 }))
+    cond (ltb n accepted_from) (Err n)
+    (Ok (record { states = (n - accepted_from) / 2 ^ 16; finals = (n - accepted_from) % 2 ^ 16 }))
 
 -- the statement: a caller reads the answer back from the number
 abbrev pub ExpressionByNumber : Type 0

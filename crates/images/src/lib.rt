@@ -47,9 +47,7 @@ pub fn preimage_under(table: &[[u8; 16]; 16], states: usize, a: usize, s: u16) -
     ensures { result ≡ preimage_of table.now states a s }
 {
     let mut out = 0;
-    let mut q = states;
-    while q != 0 {
-        q -= 1;
+    for q in (0..states).rev() {
         let to = next_state(table, q, a);
         out = (out << 1) | ((s >> to) & 1);
     }

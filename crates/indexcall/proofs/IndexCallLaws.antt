@@ -1,11 +1,11 @@
 -- What the call that makes the index afresh answers and leaves, test by test.
 -- Assumes nothing.
+use Rattle.std.specs.Prelude.{Ok}
 use mathlib.Core.Path.{◌≡◌, sym, ap, ◌∙◌}
 use mathlib.Core.Bool.{true, false}
 use mathlib.Core.List.{List}
 use Prim.Native.Nat.{ℕ, ◌+◌, ◌*◌}
 use native.Mathlib.Nat.{le_refl}
-use Rattle.arrivals.specs.declared.answer.EdgeAnswer.TheVariants.{Counted}
 use Rattle.arrivals.specs.Arrivals.{numbers_of, arrivals, starts_of, ascend_below, Lists, edges_of, fits, becomes, relisted, edited, counted, refused, indexed}
 use Rattle.arrivals.proofs.PlacedLaws.{length_edges_in}
 use Rattle.arrivals.proofs.NumbersLaws.{numbers_first}
@@ -27,7 +27,7 @@ index_unordered n k l h o = simp (h, o)
 pub index_made
     : (n k : ℕ) (l : Lists) (ps ss : List ℕ) → fits n k l ≡ true → ascend_below n k l.edges ≡ true
     → ps ≡ becomes k (arrivals (edges_of k l) n) l.predecessors → ss ≡ becomes (n + 1) (starts_of (edges_of k l) n) l.starts
-    → edited (Counted k) l.edges ps ss ≡ indexed n k l
+    → edited (Ok k) l.edges ps ss ≡ indexed n k l
 unfolding indexed counted relisted
 index_made n k l ps ss h o p s =
     let same : becomes (2 * k) (numbers_of (edges_of k l)) l.edges ≡ l.edges =

@@ -8,7 +8,9 @@ use Prim.Native.Nat.{ℕ, zero, suc, ◌+◌, ◌≤◌, ◌<◌}
 use native.Mathlib.Numerals.{add-one}
 use native.Mathlib.Omega.{arith}
 use lib.Dec.{eqb, ltb}
-use lib.ListN.{length, get_or, set, length-set}
+use lib.ListN.{length, get_or, set, take, drop, length-set, length-drop}
+use lib.Pointwise.{pointwise, bytes_decides}
+use lib.Seq.{length-take-le, get_or-take, get_or-drop, ext_get_or}
 use borrow.Author.Tests.{ltb-true, eqb-true, lt-ltb, eq-eqb, ne_eqb}
 use Rattle.laws.specs.Bounded.{all_below}
 use Rattle.laws.proofs.Bounded.{all_none, all_more, all_end, all_fails, all_at, all_of}
@@ -91,21 +93,32 @@ meets_first n s c h = sym (ap (λ (b : Bool). b && all_below n (meets_at s c)) (
 meets_others : (n : ℕ) (s c : List ℕ) → get_or s 0 0 ≡ 0 → meets n s c ≡ all_below n (meets_at s c)
 meets_others n s c h = ap (λ (b : Bool). b && all_below n (meets_at s c)) (eq-eqb (get_or s 0 0) 0 h)
 
--- a cursor does not stand at the next start
-pub meets_stops
-    : (n : ℕ) (s c : List ℕ) (m : ℕ) → get_or s 0 0 ≡ 0 → m < n → (get_or c m 0 ≡ get_or s (m + 1) 0 → ⊥) → false ≡ meets n s c
-meets_stops n s c m z b h =
-    sym (meets_others n s c z ∙ all_fails n (meets_at s c) m b (ne_eqb (get_or c m 0) (get_or s (m + 1) 0) h))
-
--- one cursor more
-pub meets_more
-    : (s c : List ℕ) (m : ℕ) → all_below m (meets_at s c) ≡ true → get_or c m 0 ≡ get_or s (m + 1) 0 → all_below (m + 1) (meets_at s c) ≡ true
-meets_more s c m h e = all_more m (meets_at s c) h (eq-eqb (get_or c m 0) (get_or s (m + 1) 0) e)
-
--- all are tested
-pub meets_all
-    : (n : ℕ) (s c : List ℕ) (m : ℕ) → get_or s 0 0 ≡ 0 → n ≤ m → all_below m (meets_at s c) ≡ true → true ≡ meets n s c
-meets_all n s c m z b h = sym (meets_others n s c z ∙ all_end n m (meets_at s c) h b)
+-- they are tested as two parts that are the same
+pub meets_parts
+    : (n k : ℕ) (s c : List ℕ) → k ≡ n → n + 1 ≤ length s → n ≤ length c → get_or s 0 0 ≡ 0
+    → pointwise eqb (take n c) (take k (drop 1 s)) ≡ meets n s c
+meets_parts n k s c q fits room z =
+    let xs = take n c in
+    let ys = take k (drop 1 s) in
+    let left = length-take-le n c room in
+    let right = length-take-le k (drop 1 s) (omega (arith, length-drop 1 s)) in
+    let next : (m : ℕ) → m < n → get_or ys m 0 ≡ get_or s (m + 1) 0 = λ m b.
+    get_or-take k (drop 1 s) m 0 (omega arith) ∙ get_or-drop 1 s m 0 ∙ ap (λ (i : ℕ). get_or s i 0) (omega arith) in
+    test_ext (pointwise eqb xs ys) (all_below n (meets_at s c))
+    (λ h.
+    let e = (bytes_decides xs ys).0 h in
+    all_of n (meets_at s c)
+    (λ m b.
+    eq-eqb (get_or c m 0) (get_or s (m + 1) 0)
+    (sym (get_or-take n c m 0 b) ∙ ap (λ (l : List ℕ). get_or l m 0) e ∙ next m b)))
+    (λ h.
+    (bytes_decides xs ys).1
+    (ext_get_or 0 xs ys (left ∙ sym (right ∙ q))
+    (λ m b.
+    let below : m < n = omega arith in
+    get_or-take n c m 0 below ∙ eqb-true (get_or c m 0) (get_or s (m + 1) 0) (all_at n (meets_at s c) h m below)
+    ∙ sym (next m below))))
+    ∙ sym (meets_others n s c z)
 
 -- ---- what a fresh index is
 

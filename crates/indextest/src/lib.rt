@@ -10,23 +10,17 @@ pub fn is_ascending(edges: &[u16], nodes: usize, count: usize) -> bool
     requires { 2 * count ≤ length edges.now }
     ensures { result ≡ ascend_below nodes count edges.now }
 {
+    let (pairs, _) = edges.as_chunks::<2>();
     let mut least: u64 = 0;
-    let mut i = 0;
-    while i < count {
-        let from = edges[2 * i] as usize;
-        let to = edges[2 * i + 1] as usize;
-        if nodes <= from {
+    for [from, to] in &pairs[..count] {
+        if nodes <= *from as usize || nodes <= *to as usize {
             return false;
         }
-        if nodes <= to {
-            return false;
-        }
-        let key = from as u64 * 65536 + to as u64;
+        let key = *from as u64 * 65536 + *to as u64;
         if key < least {
             return false;
         }
         least = key + 1;
-        i += 1;
     }
     true
 }
@@ -36,11 +30,7 @@ fn copy_starts(starts: &[u16], next: &mut [u16], nodes: usize)
     requires { (nodes ≤ length starts.now) × (nodes ≤ length next.old) }
     ensures { Copied nodes starts.now next.new }
 {
-    let mut n = 0;
-    while n < nodes {
-        next[n] = starts[n];
-        n += 1;
-    }
+    next[..nodes].copy_from_slice(&starts[..nodes]);
 }
 
 // Each edge's from stands at the cursor of its to, which moves past it.
@@ -48,19 +38,14 @@ fn arrive_all(edges: &[u16], predecessors: &[u16], next: &mut [u16], count: usiz
     requires { (Walkable edges.now next.old count) × (count ≤ length predecessors.now) }
     ensures { Arrived edges.now predecessors.now next.old next.new count result }
 {
-    let mut i = 0;
-    while i < count {
-        let from = edges[2 * i];
-        let to = edges[2 * i + 1] as usize;
-        let at = next[to];
-        if count <= at as usize {
+    let (pairs, _) = edges.as_chunks::<2>();
+    for [from, to] in &pairs[..count] {
+        let node = *to as usize;
+        let at = next[node];
+        if count <= at as usize || predecessors[at as usize] != *from {
             return false;
         }
-        if predecessors[at as usize] != from {
-            return false;
-        }
-        next[to] = at + 1;
-        i += 1;
+        next[node] = at + 1;
     }
     true
 }
@@ -70,17 +55,7 @@ fn all_met(starts: &[u16], next: &[u16], nodes: usize) -> bool
     requires { (nodes + 1 ≤ length starts.now) × (nodes ≤ length next.now) }
     ensures { result ≡ meets nodes starts.now next.now }
 {
-    if starts[0] != 0 {
-        return false;
-    }
-    let mut n = 0;
-    while n < nodes {
-        if next[n] != starts[n + 1] {
-            return false;
-        }
-        n += 1;
-    }
-    true
+    starts[0] == 0 && next[..nodes] == starts[1..=nodes]
 }
 
 // The index is that of the edges.
@@ -96,8 +71,5 @@ pub fn is_fresh(
 {
     let mut next = [0u16; 512];
     copy_starts(starts, &mut next, nodes);
-    if arrive_all(edges, predecessors, &mut next, count) {
-        return all_met(starts, &next, nodes);
-    }
-    false
+    arrive_all(edges, predecessors, &mut next, count) && all_met(starts, &next, nodes)
 }

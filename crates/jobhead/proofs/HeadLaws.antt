@@ -9,12 +9,11 @@ use native.Mathlib.Nat.{not-suc-le-zero}
 use lib.Dec.{lit<}
 use lib.ListN.{length}
 use Rattle.laws.specs.Bounded.{tab_from, tab}
-use Rattle.jobhead.specs.declared.head.Head.{Head}
 use Rattle.lines.specs.Inner.{DueRead}
 use Rattle.lines.specs.Line.{line_of}
 use Rattle.jobfile.specs.File.{good_head, head_line}
 use Rattle.lines.specs.Places.{numbers_of, due_at, numbers_at, before_at, status_at}
-use Rattle.jobhead.specs.ReadLines.{refused_head}
+use Rattle.jobhead.specs.Numbers.{refused_head}
 use Rattle.jobhead.specs.ReadLines.{head_numbers, head_in, HeadRead}
 use Rattle.jobfile.proofs.WithinLaws.{head_says}
 use Rattle.lines.proofs.LinesLaws.{lines_all, lines_stop, due_stops, due_tested, due_whole, due_long}
@@ -37,9 +36,9 @@ head_refused file k e q =
 
 module _ (file : List ℕ) {l ns : List ℕ} {r : ℕ} (e : DueRead (line_of 74 4 file) 4 l ns r) where
   -- nothing, or no line
-  pub head_stop : (h : Head) → (r ≡ 0 → ⊥) → h ≡ refused_head r → HeadRead file h
+  pub head_stop : (r ≡ 0 → ⊥) → HeadRead file (refused_head r)
   unfolding status_at due_at before_at
-  head_stop h q is = rw is (head_refused file r (due_stops head_line 0 [] file e q) q)
+  head_stop q = head_refused file r (due_stops head_line 0 [] file e q) q
 
   module _ (z : r ≡ 0) (four : length l ≡ 4) where
     -- the line's numbers
@@ -52,8 +51,8 @@ module _ (file : List ℕ) {l ns : List ℕ} {r : ℕ} (e : DueRead (line_of 74 
     head_tested t g = due_tested head_line 0 [] file e z t numbers_are g
 
     -- numbers outside their limits
-    pub head_fails : (h : Head) → good_head 0 [] ns ≡ false → h ≡ refused_head 5 → HeadRead file h
-    head_fails h g is = rw is (head_refused file 5 (head_tested false g) (λ q. absurd (omega arith)))
+    pub head_fails : good_head 0 [] ns ≡ false → HeadRead file (refused_head 5)
+    head_fails g = head_refused file 5 (head_tested false g) (λ q. absurd (omega arith))
 
     -- numbers within them
     pub head_found : good_head 0 [] ns ≡ true → HeadRead file (head_numbers ns)

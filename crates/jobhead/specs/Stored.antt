@@ -9,10 +9,10 @@ use Rattle.lines.specs.Line.{at}
 use Rattle.buffer.specs.Layout.{node_place, starts_part, rule_part, marks_part}
 use Rattle.buffer.specs.Views.{node_in, start_in, edges_from, cell_in, table_in}
 use Rattle.buffer.specs.Kept.{SameOutside}
-use Rattle.jobhead.specs.declared.head.Head.{Head}
+use Rattle.jobhead.specs.Numbers.{HeadNumbers}
 
 -- the job of a buffer, with the numbers beside it
-abbrev pub job_in : List ℕ → Head → Job
+abbrev pub job_in : List ℕ → HeadNumbers → Job
 job_in work h = record {
   rule = automaton_of (table_in work h.states h.symbols) h.states h.symbols h.finals;
   nodes = tab h.nodes (node_in work);

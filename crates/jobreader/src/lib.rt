@@ -2,26 +2,24 @@
 #![tactic(auto)]
 
 ghost use Rattle.buffer.specs.Layout.{Lent};
+ghost use Rattle.jobhead.specs.Numbers.{numbers_in};
 ghost use Rattle.jobhead.specs.Reading.{FileRead};
 
-use jobhead::head::{Head, head_line, turned_back};
+use jobhead::head::{Head, head_line};
+use refusal::Refusal;
 use restlines::read_rest;
 
 // The bytes of the longest file.
 pub const LONGEST: usize = 49914;
 
-// Reads a job file: 1 or 3 to 10 beside zeros, or 0 beside the job's numbers, and the buffer holds the job.
-pub fn read_job(file: &[u8], work: &mut [u8]) -> Head
+// Reads a job file: `LongFile`, the first refusal of its lines, or the job's numbers, and the buffer holds the job.
+pub fn read_job(file: &[u8], work: &mut [u8]) -> Result<Head, Refusal>
     requires { Lent work.old }
-    ensures { FileRead file.now work.old work.new result }
+    ensures { FileRead file.now work.old work.new (numbers_in result) }
 {
     if LONGEST < file.len() {
-        return turned_back(1);
+        return Err(Refusal::LongFile);
     }
-    let head = head_line(file);
-    let refusal = head.refusal;
-    if refusal != 0 {
-        return turned_back(refusal);
-    }
+    let head = head_line(file)?;
     read_rest(file, work, head)
 }

@@ -4,8 +4,11 @@
 ghost use Rattle.std.specs.Prelude.{◌≡◌};
 ghost use Rattle.automaton.specs.Automaton.{automaton_of};
 ghost use Rattle.events.specs.Monitor.{reported, taken};
+ghost use Rattle.events.specs.Answer.{step_of};
+ghost use Rattle.refusal.specs.Refusal.{said};
 
 use events::{Record, Report, Taken};
+use refusal::Refusal;
 use step::step;
 
 // Takes one event on the lent record. A refusal leaves it as it was.
@@ -16,12 +19,12 @@ pub fn take_event(
     symbols: u64,
     finals: u64,
     symbol: u64,
-) -> Report
-    ensures { reported r.new result ≡ taken (automaton_of table states symbols finals) symbol r.old }
+) -> Result<Report, Refusal>
+    ensures { reported r.new (said result) ≡ taken (automaton_of table states symbols finals) symbol r.old }
 {
-    let t = step(table, states, symbols, finals, symbol, *r);
-    *r = t.left;
-    t.report
+    let taken = step(table, states, symbols, finals, symbol, *r)?;
+    *r = taken.left;
+    Ok(taken.report)
 }
 
 // Lends a record to the call that takes an event, and gives it back with the report.
@@ -32,13 +35,13 @@ pub fn take_event_on(
     finals: u64,
     symbol: u64,
     r: Record,
-) -> Taken
-    ensures { result ≡ taken (automaton_of table states symbols finals) symbol r }
+) -> Result<Taken, Refusal>
+    ensures { step_of r result ≡ taken (automaton_of table states symbols finals) symbol r }
 {
     let mut held = r;
-    let report = take_event(&mut held, table, states, symbols, finals, symbol);
-    Taken {
+    let report = take_event(&mut held, table, states, symbols, finals, symbol)?;
+    Ok(Taken {
         left: held,
         report: report,
-    }
+    })
 }

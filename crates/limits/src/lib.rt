@@ -8,17 +8,5 @@ ghost use Rattle.automaton.specs.Automaton.{numbers_fit};
 pub fn do_numbers_fit(states: u64, symbols: u64, finals: u64) -> bool
     ensures { result ≡ numbers_fit states symbols finals }
 {
-    if states < 1 {
-        return false;
-    }
-    if 16 < states {
-        return false;
-    }
-    if symbols < 1 {
-        return false;
-    }
-    if 16 < symbols {
-        return false;
-    }
-    finals >> states == 0
+    1 <= states && states <= 16 && 1 <= symbols && symbols <= 16 && finals >> states == 0
 }

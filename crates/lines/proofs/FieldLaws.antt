@@ -1,5 +1,6 @@
 -- Laws of fields, in the shape of the code that reads them.
 -- Assumes nothing.
+use Rattle.std.specs.Prelude.{Option, Some, None}
 use mathlib.Core.Path.{◌≡◌, sym, ap, ◌∙◌}
 use mathlib.Core.Logic.{by_cases}
 use mathlib.Core.List.{List, [], ◌∷◌}
@@ -12,8 +13,6 @@ use native.Mathlib.Omega.{arith}
 use lib.ListN.{length, take, drop, get_or}
 use lib.Seq.{slice, slice_empty, slice-cons, take-nil}
 use borrow.Author.Tests.{le-leb, lt-leb, ne_eqb}
-use Rattle.lines.specs.declared.field.Field.{Field}
-use Rattle.lines.specs.declared.field.Field.TheVariants.{Number, Malformed}
 use Rattle.lines.specs.Line.{digits_of, field_of}
 
 -- the columns from f up to f + n are the first n of those from f on
@@ -60,23 +59,23 @@ unfolding digits_of
 digit_first v b bs h k = simp (le-leb 48 b h, le-leb b 57 k)
 
 -- a byte below the digits is none
-low_first : (v b : ℕ) (bs : List ℕ) → b < 48 → digits_of v (b ∷ bs) ≡ Malformed
+low_first : (v b : ℕ) (bs : List ℕ) → b < 48 → digits_of v (b ∷ bs) ≡ None
 unfolding digits_of
 low_first v b bs h = simp (lt-leb 48 b h)
 
 -- a byte above them is none
-high_first : (v b : ℕ) (bs : List ℕ) → 48 ≤ b → 57 < b → digits_of v (b ∷ bs) ≡ Malformed
+high_first : (v b : ℕ) (bs : List ℕ) → 48 ≤ b → 57 < b → digits_of v (b ∷ bs) ≡ None
 unfolding digits_of
 high_first v b bs h k = simp (le-leb 48 b h, lt-leb b 57 k)
 
 -- no column is left
 pub digits_end
-    : (l : List ℕ) (at i v : ℕ) (f : Field) → i ≡ 6 → f ≡ digits_of v (slice (at + i) (at + 6) l) → Number v ≡ f
+    : (l : List ℕ) (at i v : ℕ) (f : Option ℕ) → i ≡ 6 → f ≡ digits_of v (slice (at + i) (at + 6) l) → Some v ≡ f
 unfolding digits_of
 digits_end l at i v f e same = sym (same ∙ rw (e, slice_empty (at + 6) l))
 
 -- column i is next, and d is what the code makes of it
-module _ (l : List ℕ) (at i v d : ℕ) (f : Field) (h : i < 6) (k : at + 6 ≤ length l) (is : (d + 48) % 256 ≡ get_or l (at + i) 0) (low : d < 256)
+module _ (l : List ℕ) (at i v d : ℕ) (f : Option ℕ) (h : i < 6) (k : at + 6 ≤ length l) (is : (d + 48) % 256 ≡ get_or l (at + i) 0) (low : d < 256)
     (same : f ≡ digits_of v (slice (at + i) (at + 6) l)) where
   -- the columns from there on
   here : f ≡ digits_of v (get_or l (at + i) 0 ∷ slice (at + (i + 1)) (at + 6) l)
@@ -90,7 +89,7 @@ module _ (l : List ℕ) (at i v d : ℕ) (f : Field) (h : i < 6) (k : at + 6 ≤
       ∙ ap (λ (x : ℕ). digits_of (v * 10 + x) (slice (at + (i + 1)) (at + 6) l)) counts
 
   -- any other byte
-  pub digits_none : 9 < d → Malformed ≡ f
+  pub digits_none : 9 < d → None ≡ f
   digits_none p =
       by_cases (dec_lt (get_or l (at + i) 0) 48)
       (λ (m : get_or l (at + i) 0 < 48). sym (here ∙ low_first v (get_or l (at + i) 0) (slice (at + (i + 1)) (at + 6) l) m))
@@ -124,7 +123,7 @@ first_column l at = ap field_of (sym (slice_part at 6 l) ∙ ap (λ (p : ℕ). s
 -- nothing but spaces
 pub field_spaces
     : (l : List ℕ) (at r : ℕ) → r ≡ 6 → field_of (slice (at + 0) (at + 6) l) ≡ field_of (slice (at + r) (at + 6) l)
-    → Malformed ≡ field_of (take 6 (drop at l))
+    → None ≡ field_of (take 6 (drop at l))
 unfolding field_of
 field_spaces l at r e same = sym (first_column l at ∙ same ∙ rw (e, slice_empty (at + 6) l))
 

@@ -1,5 +1,6 @@
 -- Laws of lines, in the shape of the code that reads them.
 -- Assumes nothing.
+use Rattle.std.specs.Prelude.{Option, Some, None}
 use mathlib.Core.Path.{◌≡◌, refl, sym, ap, subst, ◌∙◌}
 use mathlib.Core.Bool.{Bool, true, false, ◌&&◌}
 use mathlib.Core.Logic.{⊎_elim}
@@ -13,15 +14,13 @@ use lib.ListN.{length, take, drop, get_or, set, length-set, length-drop, take-ap
 use Rattle.lines.proofs.FieldLaws.{slice_part}
 use lib.Seq.{length-take-le, take-take, drop-drop, drop-cons, drop-set-lt, get_or-take, get_or-set_same, get_or-set_other}
 use borrow.Author.Tests.{eq-eqb, ne_eqb, le-leb, lt-leb}
-use Rattle.lines.specs.declared.field.Field.{Field}
-use Rattle.lines.specs.declared.field.Field.TheVariants.{Number, Malformed}
 use Rattle.lines.specs.Inner.{due_status, Framed, DueRead}
 use Rattle.lines.specs.Line.{field_of, Numbers, numbers, no_numbers, cons_field, fields_of, found_in, line_of}
 
 -- ---- fields, by their places
 
 -- a line's field k
-abbrev pub field_at : List ℕ → ℕ → Field
+abbrev pub field_at : List ℕ → ℕ → Option ℕ
 field_at l k = field_of (take 6 (drop (k * 6 + 1) l))
 
 -- the bytes past a field
@@ -30,7 +29,7 @@ past_field l i = let e : i * 6 + 1 + 6 ≡ suc i * 6 + 1 = omega arith in drop-d
 
 -- fields that are all numbers, those of a list from its place i on
 pub fields_from
-    : (l ns : List ℕ) (c i : ℕ) → i + c ≤ length ns → ((k : ℕ) → i ≤ k → k < i + c → field_at l k ≡ Number (get_or ns k 0))
+    : (l ns : List ℕ) (c i : ℕ) → i + c ≤ length ns → ((k : ℕ) → i ≤ k → k < i + c → field_at l k ≡ Some (get_or ns k 0))
     → fields_of c (drop (i * 6 + 1) l) ≡ numbers (take c (drop i ns))
 unfolding fields_of
 fields_from l ns zero i m h = refl
@@ -43,18 +42,18 @@ fields_from l ns (suc c) i m h =
     )
 
 -- a field that is none, before any others
-cons_malformed : (ns : Numbers) → cons_field Malformed ns ≡ no_numbers
+cons_malformed : (ns : Numbers) → cons_field None ns ≡ no_numbers
 cons_malformed (numbers ns) = refl
 cons_malformed no_numbers = refl
 
 -- any field before one that is none
-cons_none : (f : Field) → cons_field f no_numbers ≡ no_numbers
-cons_none (Number n) = refl
-cons_none Malformed = refl
+cons_none : (f : Option ℕ) → cons_field f no_numbers ≡ no_numbers
+cons_none (Some n) = refl
+cons_none None = refl
 
 -- fields of which one is none
 fields_none_from
-    : (l : List ℕ) (c i k : ℕ) → i ≤ k → k < i + c → field_at l k ≡ Malformed → fields_of c (drop (i * 6 + 1) l) ≡ no_numbers
+    : (l : List ℕ) (c i k : ℕ) → i ≤ k → k < i + c → field_at l k ≡ None → fields_of c (drop (i * 6 + 1) l) ≡ no_numbers
 unfolding fields_of
 fields_none_from l zero i k h m e = absurd (omega arith)
 fields_none_from l (suc c) i k h m e =
@@ -67,7 +66,7 @@ fields_none_from l (suc c) i k h m e =
 
 -- the first k fields are read into the numbers l, which now are m
 pub record FieldsRead (line l m : List ℕ) (k : ℕ) : Type 0 where
-  pub exact : (j : ℕ) → j < k → field_at line j ≡ Number (get_or m j 0)
+  pub exact : (j : ℕ) → j < k → field_at line j ≡ Some (get_or m j 0)
   pub rest : drop k m ≡ drop k l
   pub long : length m ≡ length l
 
@@ -77,7 +76,7 @@ fields_start line l = record { exact = λ j h. absurd (not-suc-le-zero h); rest 
 
 -- one field more
 pub fields_more
-    : (line l m : List ℕ) (k n : ℕ) (f : Field) → k < length l → FieldsRead line l m k → f ≡ field_at line k → f ≡ Number n
+    : (line l m : List ℕ) (k n : ℕ) (f : Option ℕ) → k < length l → FieldsRead line l m k → f ≡ field_at line k → f ≡ Some n
     → FieldsRead line l (set m k n) (k + 1)
 fields_more line l m k n f h r e q = record {
   exact = λ j s.
@@ -91,7 +90,7 @@ fields_more line l m k n f h r e q = record {
 
 -- a field that is no number
 pub fields_stop
-    : (line l m : List ℕ) (k count : ℕ) → k < count → field_at line k ≡ Malformed → DueRead (found_in (fields_of count (drop 1 line))) count l m 4
+    : (line l m : List ℕ) (k count : ℕ) → k < count → field_at line k ≡ None → DueRead (found_in (fields_of count (drop 1 line))) count l m 4
 fields_stop line l m k count h e =
     rw (fields_none_from line count 0 k (omega arith) (omega arith) e) (record { status = refl; numbers = λ z. absurd (omega arith) })
 

@@ -1,5 +1,6 @@
 -- Laws of lines in turn: all of them pass, or the first that does not gives the number.
 -- Assumes nothing.
+use Rattle.std.specs.Prelude.{Option, Some, None}
 use mathlib.Core.Path.{◌≡◌, refl, sym, ap, ◌∙◌}
 use mathlib.Core.Bool.{Bool, true, false, cond, ◌&&◌}
 use mathlib.Core.Logic.{⊎_elim}
@@ -13,8 +14,6 @@ use borrow.Author.Tests.{leb-true}
 use lib.ListN.{length, drop, get_or, take, replicate, drop_of_length-le}
 use lib.Seq.{drop-drop, get_or-drop}
 use Rattle.laws.specs.Bounded.{tab_from, tab}
-use Rattle.lines.specs.declared.field.Field.{Field}
-use Rattle.lines.specs.declared.field.Field.TheVariants.{Number, Malformed}
 use Rattle.lines.specs.Inner.{due_status, DueRead}
 use Rattle.lines.specs.Line.{field_of, Numbers, numbers, no_numbers, cons_field, fields_of, Due, ends, no_line, found, found_in, line_length, line_of}
 use Rattle.lines.specs.Lines.{LineKind, Lines, lines, refused, cons_line, on_due, lines_of}
@@ -260,11 +259,11 @@ abbrev Long : Numbers → ℕ → Type 0
 Long (numbers ns) k = length ns ≡ k
 Long no_numbers k = ◌≡◌ {A = ℕ} 0 0
 
-cons_long : (f : Field) (m : Numbers) (k : ℕ) → Long m k → Long (cons_field f m) (suc k)
-cons_long (Number n) (numbers ns) k h = ap suc h
-cons_long (Number n) no_numbers k h = refl
-cons_long Malformed (numbers ns) k h = refl
-cons_long Malformed no_numbers k h = refl
+cons_long : (f : Option ℕ) (m : Numbers) (k : ℕ) → Long m k → Long (cons_field f m) (suc k)
+cons_long (Some n) (numbers ns) k h = ap suc h
+cons_long (Some n) no_numbers k h = refl
+cons_long None (numbers ns) k h = refl
+cons_long None no_numbers k h = refl
 
 fields_long : (k : ℕ) (bytes : List ℕ) → Long (fields_of k bytes) k
 unfolding fields_of

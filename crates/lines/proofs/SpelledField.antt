@@ -1,6 +1,7 @@
 -- A field is six columns: it is read as a number exactly where it holds that number, spaces, zeros and the number's digits; and the field
 -- written of a number is the one without zeros. Both ways go digit by digit, from the number's last digit to its first.
 -- Assumes nothing.
+use Rattle.std.specs.Prelude.{Some, None}
 use Prim.Native.Nat.{ℕ, zero, suc, ◌+◌, ◌-◌, ◌*◌, ◌/◌, ◌%◌, ◌^◌, ◌≤◌, ◌<◌}
 use mathlib.Core.Path.{◌≡◌, refl, sym, ap, ◌∙◌}
 use mathlib.Core.Logic.{◌≢◌, by_cases}
@@ -12,7 +13,6 @@ use native.Mathlib.Omega.{arith}
 use lib.Dec.{eqb}
 use lib.ListN.{length, replicate, length-append, length-replicate}
 use borrow.Author.Tests.{lt-ltb, le-ltb, le-leb, leb-true, eqb-true}
-use Rattle.lines.specs.declared.field.Field.TheVariants.{Number as number, Malformed as no_number}
 use Rattle.lines.specs.Line.{decimal, field, is_digit, digits_of, field_of}
 use Rattle.lines.specs.Written.{Holds, NoZeros, FieldSays}
 use Rattle.lines.proofs.FieldLaws.{digit_leads}
@@ -127,7 +127,7 @@ unfolding field
 field_form n = refl
 
 -- columns that hold a number are read as it
-pub holds_read : (l : List ℕ) (n : ℕ) → Holds l n → field_of l ≡ number n
+pub holds_read : (l : List ℕ) (n : ℕ) → Holds l n → field_of l ≡ Some n
 unfolding digits_of
 holds_read l n h =
     ap field_of h.spelled ∙ spaces_read h.spaces (replicate h.zeros 48 ++ decimal 6 n [])
@@ -145,20 +145,20 @@ field_length n = simp (field_form n, length-append, length-replicate) (omega (ar
 
 -- a byte that is read as a digit
 digit_exact
-    : (v n b : ℕ) (bs : List ℕ) → digits_of v (b ∷ bs) ≡ number n
-    → (48 ≤ b) × (b ≤ 57) × (digits_of (v * 10 + (b - 48)) bs ≡ number n)
+    : (v n b : ℕ) (bs : List ℕ) → digits_of v (b ∷ bs) ≡ Some n
+    → (48 ≤ b) × (b ≤ 57) × (digits_of (v * 10 + (b - 48)) bs ≡ Some n)
 unfolding digits_of
 digit_exact v n b bs e = go (is_digit b) refl e
   where
     go
-        : (t : Bool) → is_digit b ≡ t → cond t (digits_of (v * 10 + (b - 48)) bs) no_number ≡ number n
-        → (48 ≤ b) × (b ≤ 57) × (digits_of (v * 10 + (b - 48)) bs ≡ number n)
+        : (t : Bool) → is_digit b ≡ t → cond t (digits_of (v * 10 + (b - 48)) bs) None ≡ Some n
+        → (48 ≤ b) × (b ≤ 57) × (digits_of (v * 10 + (b - 48)) bs ≡ Some n)
     go true t d = let both = (and-eq-true_iff _ _).0 t in (leb-true 48 b both.0, leb-true b 57 both.1, d)
     go false t d = let z : ◌≡◌ {A = ℕ} 0 1 = cc in absurd (omega arith)
 
 -- digits that are read after those of v are the last digits of the number
 digits_exact
-    : (k m v n : ℕ) (bs rest : List ℕ) → m ≡ k + length bs → 0 < v → v < 10 ^ k → digits_of v bs ≡ number n
+    : (k m v n : ℕ) (bs rest : List ℕ) → m ≡ k + length bs → 0 < v → v < 10 ^ k → digits_of v bs ≡ Some n
     → (n < 10 ^ m) × (decimal m n rest ≡ decimal k v (bs ++ rest))
 unfolding digits_of
 digits_exact k m v n [] rest q p h e =
@@ -181,7 +181,7 @@ record Spelled (l : List ℕ) (n : ℕ) : Type 0 where
   written : l ≡ replicate spaces 32 ++ (replicate zeros 48 ++ decimal (length l) n [])
 
 -- a space more
-spelled_space : (l : List ℕ) (n : ℕ) → field_of l ≡ number n → Spelled l n → Spelled (32 ∷ l) n
+spelled_space : (l : List ℕ) (n : ℕ) → field_of l ≡ Some n → Spelled l n → Spelled (32 ∷ l) n
 unfolding field_of
 spelled_space [] n e s = let z : ◌≡◌ {A = ℕ} 0 1 = cc in absurd (omega arith)
 spelled_space (b ∷ bs) n e s =
@@ -203,7 +203,7 @@ record SpelledDigits (l : List ℕ) (n : ℕ) : Type 0 where
   written : l ≡ replicate zeros 48 ++ decimal (length l) n []
 
 -- a zero alone
-zero_alone : (n : ℕ) → digits_of 0 (48 ∷ []) ≡ number n → SpelledDigits (48 ∷ []) n
+zero_alone : (n : ℕ) → digits_of 0 (48 ∷ []) ≡ Some n → SpelledDigits (48 ∷ []) n
 unfolding digits_of decimal
 zero_alone n e = let none : 0 ≡ n = cc in rw (← none) (record { small = omega arith; zeros = 0; written = refl })
 
@@ -219,7 +219,7 @@ zero_more b bs n s =
     }
 
 -- digits that begin with another
-other_digit : (b : ℕ) (bs : List ℕ) (n : ℕ) → b ≢ 48 → digits_of 0 (b ∷ bs) ≡ number n → SpelledDigits (b ∷ bs) n
+other_digit : (b : ℕ) (bs : List ℕ) (n : ℕ) → b ≢ 48 → digits_of 0 (b ∷ bs) ≡ Some n → SpelledDigits (b ∷ bs) n
 other_digit b bs n ne e =
     let (low, high, d) = digit_exact 0 n b bs e in
     let v : ℕ = 0 * 10 + (b - 48) in
@@ -233,7 +233,7 @@ other_digit b bs n ne e =
     }
 
 -- digits
-spelled_digits : (b : ℕ) (bs : List ℕ) (n : ℕ) → digits_of 0 (b ∷ bs) ≡ number n → SpelledDigits (b ∷ bs) n
+spelled_digits : (b : ℕ) (bs : List ℕ) (n : ℕ) → digits_of 0 (b ∷ bs) ≡ Some n → SpelledDigits (b ∷ bs) n
 unfolding digits_of
 spelled_digits b [] n e =
     by_cases (ℕ_discrete b 48) (λ (z : b ≡ 48). rw z (zero_alone n (rw z at e))) (λ (ne : b ≢ 48). other_digit b [] n ne e)
@@ -243,20 +243,20 @@ spelled_digits b (c ∷ cs) n e =
     (λ (ne : b ≢ 48). other_digit b (c ∷ cs) n ne e)
 
 -- columns that are read as a number
-spelled : (l : List ℕ) (n : ℕ) → field_of l ≡ number n → Spelled l n
+spelled : (l : List ℕ) (n : ℕ) → field_of l ≡ Some n → Spelled l n
 unfolding field_of
 spelled [] n e = let z : ◌≡◌ {A = ℕ} 0 1 = cc in absurd (omega arith)
 spelled (b ∷ bs) n e = first (spelled bs n) (eqb b 32) refl e
   where
     first
-        : (field_of bs ≡ number n → Spelled bs n) → (t : Bool) → eqb b 32 ≡ t
-        → cond t (field_of bs) (digits_of 0 (b ∷ bs)) ≡ number n → Spelled (b ∷ bs) n
+        : (field_of bs ≡ Some n → Spelled bs n) → (t : Bool) → eqb b 32 ≡ t
+        → cond t (field_of bs) (digits_of 0 (b ∷ bs)) ≡ Some n → Spelled (b ∷ bs) n
     first more true t d = rw (eqb-true b 32 t) (spelled_space bs n d (more d))
     first more false t d =
         let s = spelled_digits b bs n d in record { small = s.small; spaces = 0; zeros = s.zeros; written = s.written }
 
 -- six columns that are read as a number hold it
-pub field_exact : (l : List ℕ) (n : ℕ) → length l ≡ 6 → field_of l ≡ number n → Holds l n
+pub field_exact : (l : List ℕ) (n : ℕ) → length l ≡ 6 → field_of l ≡ Some n → Holds l n
 field_exact l n six e =
     let s = spelled l n e in
     record {

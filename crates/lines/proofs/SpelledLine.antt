@@ -2,6 +2,7 @@
 -- the other. The line written of some numbers stands where it is written, and of all that stand with these numbers it is the one whose
 -- fields have no zeros.
 -- Assumes nothing.
+use Rattle.std.specs.Prelude.{Option, Some, None}
 use Prim.Native.Nat.{ℕ, zero, suc, ◌+◌, ◌*◌, ◌≤◌, ◌<◌}
 use mathlib.Core.Path.{◌≡◌, refl, sym, ap, ◌∙◌}
 use mathlib.Core.Logic.{◌↔◌, by_cases}
@@ -14,8 +15,6 @@ use lib.Dec.{eqb, leb}
 use lib.ListN.{length, take, drop, get_or, length-append, length-drop, take-append-drop, get_or-eq_default}
 use lib.Seq.{length-take-le, take-length, drop-drop, drop-cons, take_at, drop_at}
 use borrow.Author.Tests.{le-leb, eq-eqb, leb-true, eqb-true}
-use Rattle.lines.specs.declared.field.Field.{Field}
-use Rattle.lines.specs.declared.field.Field.TheVariants.{Number as number, Malformed as no_number}
 use Rattle.lines.specs.Line.{field, fields, line, at, field_of, Numbers, numbers, no_numbers, cons_field, fields_of, ends, no_line, found, found_in, line_length, line_of}
 use Rattle.lines.specs.Written.{Fits, columns_of, LineAt, NoZeros, LineSays}
 use Rattle.lines.proofs.LineLaws.{fields_from}
@@ -83,17 +82,17 @@ fields_whole (suc k) bytes (n ∷ ns) c h =
 
 -- what a field before some fields is
 cons_found
-    : (f : Field) (r : Numbers) (ns : List ℕ) → cons_field f r ≡ numbers ns
-    → (m : ℕ) × (ms : List ℕ) × (f ≡ number m) × (r ≡ numbers ms) × (ns ≡ m ∷ ms)
-cons_found (number m) (numbers ms) ns e = (m, ms, refl, refl, cc)
-cons_found (number m) no_numbers ns e = let z : ◌≡◌ {A = ℕ} 0 1 = cc in absurd (omega arith)
-cons_found no_number (numbers ms) ns e = let z : ◌≡◌ {A = ℕ} 0 1 = cc in absurd (omega arith)
-cons_found no_number no_numbers ns e = let z : ◌≡◌ {A = ℕ} 0 1 = cc in absurd (omega arith)
+    : (f : Option ℕ) (r : Numbers) (ns : List ℕ) → cons_field f r ≡ numbers ns
+    → (m : ℕ) × (ms : List ℕ) × (f ≡ Some m) × (r ≡ numbers ms) × (ns ≡ m ∷ ms)
+cons_found (Some m) (numbers ms) ns e = (m, ms, refl, refl, cc)
+cons_found (Some m) no_numbers ns e = let z : ◌≡◌ {A = ℕ} 0 1 = cc in absurd (omega arith)
+cons_found None (numbers ms) ns e = let z : ◌≡◌ {A = ℕ} 0 1 = cc in absurd (omega arith)
+cons_found None no_numbers ns e = let z : ◌≡◌ {A = ℕ} 0 1 = cc in absurd (omega arith)
 
 -- k fields that are read as numbers, one by one
 fields_exact
     : (k : ℕ) (bytes ns : List ℕ) → fields_of k bytes ≡ numbers ns
-    → (length ns ≡ k) × ((i : ℕ) → i < k → field_of (take 6 (drop (i * 6) bytes)) ≡ number (at ns i))
+    → (length ns ≡ k) × ((i : ℕ) → i < k → field_of (take 6 (drop (i * 6) bytes)) ≡ Some (at ns i))
 unfolding fields_of
 fields_exact zero bytes ns e = let none : ns ≡ [] = cc in rw none (refl, λ i h. absurd (omega arith))
 fields_exact (suc k) bytes ns e =
@@ -102,9 +101,9 @@ fields_exact (suc k) bytes ns e =
     rw eq (ap suc count, go m ms f each)
   where
     go
-        : (m : ℕ) (ms : List ℕ) → field_of (take 6 bytes) ≡ number m
-        → ((i : ℕ) → i < k → field_of (take 6 (drop (i * 6) (drop 6 bytes))) ≡ number (at ms i))
-        → (i : ℕ) → i < suc k → field_of (take 6 (drop (i * 6) bytes)) ≡ number (at (m ∷ ms) i)
+        : (m : ℕ) (ms : List ℕ) → field_of (take 6 bytes) ≡ Some m
+        → ((i : ℕ) → i < k → field_of (take 6 (drop (i * 6) (drop 6 bytes))) ≡ Some (at ms i))
+        → (i : ℕ) → i < suc k → field_of (take 6 (drop (i * 6) bytes)) ≡ Some (at (m ∷ ms) i)
     go m ms f each zero h = f
     go m ms f each (suc i) h =
         let places : 6 + i * 6 ≡ suc i * 6 = omega arith in

@@ -1,11 +1,9 @@
 -- Fields with what they hold (document 02, request 5).
 -- That they are read so, `AllFields field_trials`, is a theorem of `proofs/`.
 -- Assumes nothing.
-use Rattle.std.specs.Prelude.{◌≡◌, List, [], ◌∷◌, ℕ}
+use Rattle.std.specs.Prelude.{◌≡◌, List, [], ◌∷◌, ℕ, Option, Some, None}
 use Prim.Native.Char.{code}
 use Prim.Native.String.{String, [] as no_text, ◌∷◌ as ◌then◌}
-use Rattle.lines.specs.declared.field.Field.{Field}
-use Rattle.lines.specs.declared.field.Field.TheVariants.{Number, Malformed}
 use Rattle.lines.specs.Line.{field_of}
 
 -- the bytes of a text in ASCII
@@ -16,10 +14,10 @@ bytes_in (◌then◌ c cs) = code c ∷ bytes_in cs
 -- six columns and what they hold
 pub record FieldTrial : Type 0 where
   pub columns : String
-  pub says : Field
+  pub says : Option ℕ
 
 -- a row of the table
-abbrev pub reads : String → Field → FieldTrial
+abbrev pub reads : String → Option ℕ → FieldTrial
 reads columns says = record { columns = columns; says = says }
 
 infixr 5 ◌and◌
@@ -32,32 +30,32 @@ pub data AllFields : List FieldTrial → Type 0 where
 unfoldable pub field_trials : List FieldTrial
 field_trials =
     -- zeros before the digits, in place of spaces or after them; octal digits and others
-    reads "    12" (Number 12)
-    ∷ reads "  0012" (Number 12)
-    ∷ reads "000012" (Number 12)
-    ∷ reads " 00019" (Number 19)
-    ∷ reads "000100" (Number 100)
-    ∷ reads "123456" (Number 123456)
-    ∷ reads "099999" (Number 99999)
-    ∷ reads "999999" (Number 999999)
+    reads "    12" (Some 12)
+    ∷ reads "  0012" (Some 12)
+    ∷ reads "000012" (Some 12)
+    ∷ reads " 00019" (Some 19)
+    ∷ reads "000100" (Some 100)
+    ∷ reads "123456" (Some 123456)
+    ∷ reads "099999" (Some 99999)
+    ∷ reads "999999" (Some 999999)
     -- zero
-    ∷ reads "     0" (Number 0)
-    ∷ reads "    00" (Number 0)
-    ∷ reads "000000" (Number 0)
+    ∷ reads "     0" (Some 0)
+    ∷ reads "    00" (Some 0)
+    ∷ reads "000000" (Some 0)
     -- no digit; a space after a zero, between zeros, between digits, at the end
-    ∷ reads "      " Malformed
-    ∷ reads "0   12" Malformed
-    ∷ reads " 0   0" Malformed
-    ∷ reads "00 012" Malformed
-    ∷ reads "   5 3" Malformed
-    ∷ reads "0005 3" Malformed
-    ∷ reads "00012 " Malformed
-    ∷ reads "0     " Malformed
+    ∷ reads "      " None
+    ∷ reads "0   12" None
+    ∷ reads " 0   0" None
+    ∷ reads "00 012" None
+    ∷ reads "   5 3" None
+    ∷ reads "0005 3" None
+    ∷ reads "00012 " None
+    ∷ reads "0     " None
     -- a sign, a point, a letter, a tab
-    ∷ reads "   +12" Malformed
-    ∷ reads "00-012" Malformed
-    ∷ reads "0001.2" Malformed
-    ∷ reads "0x0012" Malformed
-    ∷ reads "\t   12" Malformed
-    ∷ reads "00012\t" Malformed
+    ∷ reads "   +12" None
+    ∷ reads "00-012" None
+    ∷ reads "0001.2" None
+    ∷ reads "0x0012" None
+    ∷ reads "\t   12" None
+    ∷ reads "00012\t" None
     ∷ []

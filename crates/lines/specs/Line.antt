@@ -1,8 +1,6 @@
 -- Fields and lines (document 01, "The job file").
 -- Assumes nothing.
-use Rattle.std.specs.Prelude.{Bool, cond, ◌&&◌, List, [], ◌∷◌, ◌++◌, ℕ, zero, suc, ◌+◌, ◌-◌, ◌*◌, ◌/◌, ◌%◌, eqb, leb, ltb, length, take, drop, get_or, replicate}
-use Rattle.lines.specs.declared.field.Field.{Field}
-use Rattle.lines.specs.declared.field.Field.TheVariants.{Number, Malformed}
+use Rattle.std.specs.Prelude.{Bool, cond, ◌&&◌, List, [], ◌∷◌, ◌++◌, ℕ, zero, suc, ◌+◌, ◌-◌, ◌*◌, ◌/◌, ◌%◌, eqb, leb, ltb, length, take, drop, get_or, replicate, Option, Some, None}
 
 -- ---- writing
 
@@ -41,16 +39,16 @@ at ns i = get_or ns i 0
 abbrev pub is_digit : ℕ → Bool
 is_digit b = leb 48 b && leb b 57
 
--- digits to the end, after those whose value is v
-unfoldable pub digits_of : ℕ → List ℕ → Field
-digits_of v [] = Number v
-digits_of v (b ∷ bs) = cond (is_digit b) (digits_of (v * 10 + (b - 48)) bs) Malformed
+-- the number of digits to the end, after those whose value is v; nothing where another byte stands
+unfoldable pub digits_of : ℕ → List ℕ → Option ℕ
+digits_of v [] = Some v
+digits_of v (b ∷ bs) = cond (is_digit b) (digits_of (v * 10 + (b - 48)) bs) None
 
 -- a field is spaces, then one digit or more: "a field's number may now carry zeros before its digits instead of spaces, or after the
 -- spaces" (document 02, request 5)
-unfoldable pub field_of : List ℕ → Field
+unfoldable pub field_of : List ℕ → Option ℕ
 unfolding digits_of
-field_of [] = Malformed
+field_of [] = None
 field_of (b ∷ bs) = cond (eqb b 32) (field_of bs) (digits_of 0 (b ∷ bs))
 
 -- the numbers of k fields, or that one of them is none
@@ -59,11 +57,11 @@ pub data Numbers : Type 0 where
   no_numbers : Numbers
 
 -- a field before those that follow
-abbrev pub cons_field : Field → Numbers → Numbers
-cons_field (Number n) (numbers ns) = numbers (n ∷ ns)
-cons_field (Number n) no_numbers = no_numbers
-cons_field Malformed (numbers ns) = no_numbers
-cons_field Malformed no_numbers = no_numbers
+abbrev pub cons_field : Option ℕ → Numbers → Numbers
+cons_field (Some n) (numbers ns) = numbers (n ∷ ns)
+cons_field (Some n) no_numbers = no_numbers
+cons_field None (numbers ns) = no_numbers
+cons_field None no_numbers = no_numbers
 
 -- the fields at the start of the bytes, six columns each
 unfoldable pub fields_of : ℕ → List ℕ → Numbers

@@ -1,8 +1,7 @@
 -- Fields and lines as they stand in bytes: which columns hold a number, which bytes begin with lines of a kind, and the first line that is
 -- turned back. Only the statements at the end speak of reading.
 -- Assumes nothing.
-use Rattle.std.specs.Prelude.{◌≡◌, ◌≢◌, ◌↔◌, true, false, List, [], ◌∷◌, ◌++◌, ℕ, suc, ◌+◌, ◌*◌, ◌<◌, length, take, drop, replicate}
-use Rattle.lines.specs.declared.field.Field.TheVariants.{Number}
+use Rattle.std.specs.Prelude.{◌≡◌, ◌≢◌, ◌↔◌, true, false, List, [], ◌∷◌, ◌++◌, ℕ, suc, ◌+◌, ◌*◌, ◌<◌, length, take, drop, replicate, Some}
 use Rattle.lines.specs.Line.{decimal, field, line, at, field_of, found, line_length, line_of}
 use Rattle.lines.specs.Lines.{LineKind}
 
@@ -82,7 +81,7 @@ NoZeros l = (m b : ℕ) (bs : List ℕ) → l ≡ replicate m 32 ++ (48 ∷ b �
 -- the statement: columns hold a number if and only if they are six and are read as it; the field written of a number has no zeros before its
 -- digits, and of all columns that hold the number it is the only one without zeros
 pub record FieldSays : Type 0 where
-  pub holds : (l : List ℕ) (n : ℕ) → ((length l ≡ 6) × (field_of l ≡ Number n)) ↔ Holds l n
+  pub holds : (l : List ℕ) (n : ℕ) → ((length l ≡ 6) × (field_of l ≡ Some n)) ↔ Holds l n
   pub written : (n : ℕ) → n < 1000000 → Holds (field n) n × NoZeros (field n)
   pub only : (l : List ℕ) (n : ℕ) → Holds l n → NoZeros l → l ≡ field n
 

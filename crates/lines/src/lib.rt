@@ -1,5 +1,2 @@
 // Lines of a file: one letter, then fields of six columns, then byte 10.
 #![tactic(auto)]
-
-pub mod field;
-pub mod line;

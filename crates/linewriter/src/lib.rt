@@ -29,11 +29,9 @@ pub fn write_field(out: &mut [u8], at: usize, value: u64)
     ensures { out.new ≡ sets out.old at (field value) }
 {
     let mut rest = value / 10;
-    let mut k = 5;
-    while 0 < k {
-        k -= 1;
+    for k in (0..5).rev() {
         out[at + k] = column(rest);
-        rest = rest / 10;
+        rest /= 10;
     }
     out[at + 5] = digit(value);
 }
@@ -43,10 +41,8 @@ fn write_fields(out: &mut [u8], at: usize, numbers: &[u64])
     requires { (at + length numbers.now * 6 ≤ length out.old) × EachFits numbers.now }
     ensures { out.new ≡ sets out.old at (fields numbers.now) }
 {
-    let mut k = 0;
-    while k < numbers.len() {
-        write_field(out, at + k * 6, numbers[k]);
-        k += 1;
+    for (k, number) in numbers.iter().enumerate() {
+        write_field(out, at + k * 6, *number);
     }
 }
 

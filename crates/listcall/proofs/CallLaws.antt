@@ -1,5 +1,6 @@
 -- The ways out of listing as a call, in the shape of its code.
 -- Assumes nothing.
+use Rattle.std.specs.Prelude.{Result, Ok, Err}
 use mathlib.Core.Path.{◌≡◌, sym, ap, ◌∙◌}
 use mathlib.Core.Bool.{true≢false}
 use mathlib.Core.List.{List}
@@ -9,25 +10,23 @@ use lib.ListN.{length}
 use borrow.Author.Tests.{ltb-false}
 use Rattle.laws.proofs.Tests.{fails_of, or_right}
 use Rattle.buffer.specs.Buffer.{work_size, cleared}
-use Rattle.jobhead.specs.declared.head.Head.{Head}
+use Rattle.jobhead.specs.Numbers.{HeadNumbers}
 use Rattle.buffer.specs.Views.{rule_rows_in}
 use Rattle.tables.specs.Held.{Usable}
 use Rattle.admission.specs.Admitted.{Admitted}
 use Rattle.admission.proofs.AdmissionLaws.{admitted_reads}
 use Rattle.admission.proofs.CallLaws.{Ends, ends_refused, ends_accepted}
-use Rattle.listoutcome.specs.declared.list.Listed.{Listed}
-use Rattle.listoutcome.specs.declared.list.Listed.TheVariants.{Length, Refused}
 use Rattle.listoutcome.specs.ListCall.{listing_size, list_answer, listed_of, listing_after}
 use Rattle.listheld.specs.Held.{SomeJob, ListedHeld}
 
 module _ (file work listing : List ℕ) where
   -- what the call answers, and leaves of the work buffer and of the listing buffer
-  abbrev pub ListEnds : Listed → List ℕ → List ℕ → Type 0
+  abbrev pub ListEnds : Result ℕ ℕ → List ℕ → List ℕ → Type 0
   ListEnds = Ends listed_of listing_after (list_answer file (length work) (length listing)) work listing
 
-  module _ (m : List ℕ) (r : Head) (a : Admitted (list_answer file (length work) (length listing)) work m r) where
+  module _ (m : List ℕ) (r : HeadNumbers) (a : Admitted (list_answer file (length work) (length listing)) work m r) where
     -- a refusal
-    pub list_refused : (r.refusal ≡ 0 → ⊥) → ListEnds (Refused r.refusal) m listing
+    pub list_refused : (r.refusal ≡ 0 → ⊥) → ListEnds (Err r.refusal) m listing
     list_refused h = ends_refused listed_of listing_after listing a h
 
     module _ (h : r.refusal ≡ 0) where
@@ -48,7 +47,7 @@ module _ (file work listing : List ℕ) where
       -- its listing
       pub list_accepted
           : (k after : List ℕ) (long : ℕ) → ListedHeld (rule_rows_in m) r.finals r.states r.nodes m k listing after long
-          → ListEnds (Length long) (cleared k) after
+          → ListEnds (Ok long) (cleared k) after
       list_accepted k after long g =
-          ends_accepted listed_of listing_after listing a h k (Length long) after g.kept
-          (λ j held. let due = g.exact j held in (ap Length due.0, due.1))
+          ends_accepted listed_of listing_after listing a h k (Ok long) after g.kept
+          (λ j held. let due = g.exact j held in (ap Ok due.0, due.1))

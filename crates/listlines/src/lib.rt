@@ -23,10 +23,8 @@ fn write_points(
     ensures { PointsWritten table.now finals states nodes work.now out.old out.new result }
 {
     let mut at = 0;
-    let mut n = 0;
-    while n < nodes {
+    for n in 0..nodes {
         at = write_point(work, table, out, at, finals, states, n);
-        n += 1;
     }
     at
 }

@@ -1,5 +1,6 @@
 -- What a caller of listing has: the lines in its buffer, and the answer read back from the number.
 -- Assumes nothing.
+use Rattle.std.specs.Prelude.{Ok, Err}
 use mathlib.Core.Path.{◌≡◌, refl, sym, ◌∙◌}
 use mathlib.Core.Bool.{Bool, true≢false, ◌||◌}
 use mathlib.Core.List.{List}
@@ -17,7 +18,6 @@ use Rattle.buffer.specs.Buffer.{work_size}
 use Rattle.admission.specs.Admission.{admitted}
 use Rattle.admission.proofs.AdmissionLaws.{admitted_spells, admitted_reads, admitted_small}
 use Rattle.admission.proofs.CallLaws.{written_first}
-use Rattle.listoutcome.specs.declared.list.Listed.TheVariants.{Length, Refused}
 use Rattle.listoutcome.specs.ListCall.{listing_size, list_answer, bytes_for, listed_of, listing_after, list_number}
 use Rattle.listoutcome.specs.ListSays.{ListingLeft, listed, unchanged, ListingBytesSay, listed_read, ListedByNumber}
 
@@ -36,23 +36,23 @@ listing_bytes_say file listing work = go (list_answer file work (length listing)
     go (turned k) e = unchanged refl
 
 -- the length that is returned is one within the buffer
-pub length_few : (file : List ℕ) (short : Bool) (n : ℕ) → Length n ≡ listed_of (admitted file short) → n ≤ listing_size
+pub length_few : (file : List ℕ) (short : Bool) (n : ℕ) → Ok n ≡ listed_of (admitted file short) → n ≤ listing_size
 length_few file short n e = go (admitted file short) refl e
   where
-    go : (a : Answer) → admitted file short ≡ a → Length n ≡ listed_of a → n ≤ listing_size
+    go : (a : Answer) → admitted file short ≡ a → Ok n ≡ listed_of a → n ≤ listing_size
     go (accepted j) is e =
         let same : n ≡ length (bytes_for j) = cc e in
         omega (arith, listing_in_buffer j (read_written file j (admitted_spells file short j is)).1.few_nodes)
     go (turned k) is e = let z : ◌≡◌ {A = ℕ} 0 1 = cc e in absurd (omega arith)
 
 -- a length is read back
-read_length : (n : ℕ) → listed_read (list_number (Length n)) ≡ Length n
+read_length : (n : ℕ) → listed_read (list_number (Ok n)) ≡ Ok n
 read_length n =
     let same : accepted_from + n - accepted_from ≡ n = omega arith in
     simp (le-ltb (accepted_from + n) accepted_from (omega arith), same)
 
 -- a refusal's number is read back
-read_refusal : (k : ℕ) → k ≤ 15 → listed_read (list_number (Refused k)) ≡ Refused k
+read_refusal : (k : ℕ) → k ≤ 15 → listed_read (list_number (Err k)) ≡ Err k
 read_refusal k small = simp (lt-ltb k accepted_from (omega arith))
 
 -- the answer is read back

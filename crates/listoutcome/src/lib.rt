@@ -1,4 +1,2 @@
 // Listing as a call: its answer. What it answers and leaves is in specs/; the call itself is the crate `listcall`.
 #![tactic(auto)]
-
-pub mod list; // list.rt: the answer of listing

@@ -1,5 +1,6 @@
 -- What is printed for a file: the listing that `list_job` wrote, or the X line of its refusal. Both fit the lent buffer.
 -- Assumes nothing.
+use Rattle.std.specs.Prelude.{Result, Ok, Err}
 use Prim.Native.Nat.{ℕ, ◌+◌, ◌≤◌, ◌<◌}
 use mathlib.Core.Path.{◌≡◌, refl, sym, ap, ◌∙◌}
 use mathlib.Core.Bool.{false}
@@ -17,8 +18,6 @@ use Rattle.jobfile.proofs.ListingFits.{listing_fits}
 use Rattle.buffer.specs.Buffer.{work_size}
 use Rattle.admission.specs.Admission.{admitted, work_after}
 use Rattle.admission.proofs.AdmissionLaws.{admitted_read}
-use Rattle.listoutcome.specs.declared.list.Listed.{Listed}
-use Rattle.listoutcome.specs.declared.list.Listed.TheVariants.{Length, Refused}
 use Rattle.listoutcome.specs.ListCall.{listing_size, list_answer, listed_of, listing_after}
 
 -- ---- the answer for a file
@@ -43,17 +42,17 @@ number_fits file k e = omega (arith, listing_fits.turned_back file k (sym (admit
 
 -- ---- what is printed of an answer: the listing that was written, or the X line
 
-module _ (l m : List ℕ) (listed : Listed) where
+module _ (l m : List ℕ) (listed : Result ℕ ℕ) where
   -- a length is that of the listing
   length_told
-      : (a : Answer) (n : ℕ) → listed ≡ listed_of a → m ≡ listing_after a l → listed ≡ Length n
+      : (a : Answer) (n : ℕ) → listed ≡ listed_of a → m ≡ listing_after a l → listed ≡ Ok n
       → (n ≡ length (printed_for a)) × (m ≡ sets l 0 (printed_for a))
   length_told (accepted j) n e w told = (cc, w)
   length_told (turned k) n e w told = let z : ◌≡◌ {A = ℕ} 0 1 = cc in absurd (omega arith)
 
   -- a number is that of the refusal, and nothing was written
   number_told
-      : (a : Answer) (k : ℕ) → listed ≡ listed_of a → m ≡ listing_after a l → listed ≡ Refused k → (a ≡ turned k) × (m ≡ l)
+      : (a : Answer) (k : ℕ) → listed ≡ listed_of a → m ≡ listing_after a l → listed ≡ Err k → (a ≡ turned k) × (m ≡ l)
   number_told (accepted j) k e w told = let z : ◌≡◌ {A = ℕ} 0 1 = cc in absurd (omega arith)
   number_told (turned i) k e w told = (cc, w)
 
@@ -64,7 +63,7 @@ sets_within l m vs r fit e w = omega (arith, ap length w, length-sets l 0 vs)
 module _
     (file l m : List ℕ)
     (size : ℕ)
-    (listed : Listed)
+    (listed : Result ℕ ℕ)
     (room : work_size ≤ size)
     (long : listing_size ≤ length l)
     (e : listed ≡ listed_of (list_answer file size (length l)))
@@ -80,14 +79,14 @@ module _
 
     -- a length: the listing is printed
     pub listing_printed
-        : (n : ℕ) → listed ≡ Length n
+        : (n : ℕ) → listed ≡ Ok n
         → (n ≡ length (printed_for (admitted file false))) × (n ≤ length m) × (m ≡ sets l 0 (printed_for (admitted file false)))
     listing_printed n told =
         let t = length_told l m listed (admitted file false) n (rw answer at e) (rw answer at w) told in
         let fit = printed_fits file in
         (t.0, sets_within l m (printed_for (admitted file false)) n (omega arith) t.0 t.1, t.1)
 
-    module _ (k : ℕ) (told : listed ≡ Refused k) where
+    module _ (k : ℕ) (told : listed ≡ Err k) where
       -- a number: it is the answer's
       refused_told : (admitted file false ≡ turned k) × (m ≡ l)
       refused_told = number_told l m listed (admitted file false) k (rw answer at e) (rw answer at w) told

@@ -8,7 +8,6 @@ ghost use Rattle.jobfile.specs.ListingLines.{printed_for};
 ghost use Rattle.admission.specs.Admission.{admitted, work_after};
 
 use listcall::list_job;
-use listoutcome::list::Listed;
 use listwriter::write_refusal_line;
 
 // Writes what is printed for the file from the start of `out` on: its length.
@@ -20,9 +19,9 @@ pub fn print_job(file: &[u8], work: &mut [u8], out: &mut [u8]) -> usize
 {
     let listed = list_job(file, work, out);
     match listed {
-        Listed::Length(length) => length,
-        Listed::Refused(number) => {
-            write_refusal_line(out, 0, number);
+        Ok(length) => length,
+        Err(refusal) => {
+            write_refusal_line(out, 0, u64::from(refusal));
             8
         }
     }

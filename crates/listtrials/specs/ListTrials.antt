@@ -2,7 +2,7 @@
 -- our own.
 -- That they are answered so, `AllListed call_trials`, is a theorem of `proofs/`.
 -- Assumes nothing.
-use Rattle.std.specs.Prelude.{◌≡◌, List, [], ◌∷◌, ℕ, ◌≤◌, length}
+use Rattle.std.specs.Prelude.{Result, Ok, Err, ◌≡◌, List, [], ◌∷◌, ℕ, ◌≤◌, length}
 use Prim.Native.String.{String}
 use Rattle.std.proofs.lemmas.List.Edits.{sets}
 use Rattle.job.specs.Job.{reentrant}
@@ -11,18 +11,16 @@ use Rattle.jobfile.specs.File.{Answer, write_job}
 use Rattle.jobfile.specs.FileTrials.{lines_in, pair_file, pair_with_zeros, small_head, small_rule, small_node, with_node}
 use Rattle.buffer.specs.Buffer.{work_size, cleared}
 use Rattle.admission.specs.Admission.{work_after}
-use Rattle.listoutcome.specs.declared.list.Listed.{Listed}
-use Rattle.listoutcome.specs.declared.list.Listed.TheVariants.{Length, Refused}
 use Rattle.listoutcome.specs.ListCall.{listing_size, list_answer, listed_of, listing_after}
 
 -- a file, what is answered and the lines that are written
 pub record CallTrial : Type 0 where
   pub file : List ℕ
-  pub listed : Listed
+  pub listed : Result ℕ ℕ
   pub text : List String
 
 -- a row of the table
-abbrev pub lists : List ℕ → Listed → List String → CallTrial
+abbrev pub lists : List ℕ → Result ℕ ℕ → List String → CallTrial
 lists file listed text = record { file = file; listed = listed; text = text }
 
 -- the answer to a call, the lines from the start of the listing buffer and no other byte of it changed, and the work buffer cleared
@@ -111,61 +109,61 @@ unfoldable pub call_trials : List CallTrial
 unfolding pair_file pair_with_zeros write_job
 call_trials =
     -- PAIR
-    lists pair_file (Length 134) pair_listing
+    lists pair_file (Ok 134) pair_listing
     -- PAIR with zeros before its numbers' digits: the same
-    ∷ lists pair_with_zeros (Length 134) pair_listing
+    ∷ lists pair_with_zeros (Ok 134) pair_listing
     -- LOOP
-    ∷ lists (lines_in loop_lines) (Length 96)
+    ∷ lists (lines_in loop_lines) (Ok 96)
     ("W     0     0     5     2     1     0" ∷ "W     1     1     6     2     1     0" ∷ "T     2     0     3" ∷ [])
     -- TURN
-    ∷ lists (write_job turn) (Length 134)
+    ∷ lists (write_job turn) (Ok 134)
     ("W     0     0     3     2     0     1"
     ∷ "W     1     0     3     2     0     1"
     ∷ "W     2     1     3     1     0     1"
     ∷ "T     3     3     1"
     ∷ [])
     -- an exit node seal, with after set 4 and with 0
-    ∷ lists (write_job (last_seal 4)) (Length 58) ("W     0     0     1     2     0     1" ∷ "T     1     1     1" ∷ [])
-    ∷ lists (write_job (last_seal 0)) (Length 58) ("W     0     0     1     1     1     0" ∷ "T     1     0     2" ∷ [])
+    ∷ lists (write_job (last_seal 4)) (Ok 58) ("W     0     0     1     2     0     1" ∷ "T     1     1     1" ∷ [])
+    ∷ lists (write_job (last_seal 0)) (Ok 58) ("W     0     0     1     1     1     0" ∷ "T     1     0     2" ∷ [])
     -- seal, write, write
-    ∷ lists (write_job write_twice) (Length 134)
+    ∷ lists (write_job write_twice) (Ok 134)
     ("W     0     0     1     2     0     1"
     ∷ "W     1     2     2     2     0     1"
     ∷ "W     2     2     4     1     0     1"
     ∷ "T     3     3     1"
     ∷ [])
     -- a set of five digits
-    ∷ lists (write_job around_the_ring) (Length 58) ("W     0     0 65535     2     0     1" ∷ "T     1     1     1" ∷ [])
+    ∷ lists (write_job around_the_ring) (Ok 58) ("W     0     0 65535     2     0     1" ∷ "T     1     1     1" ∷ [])
     -- calls that may come back in
-    ∷ lists (lines_in comes_in_lines) (Length 96)
+    ∷ lists (lines_in comes_in_lines) (Ok 96)
     ("W     0     1     3     1     0     1" ∷ "W     1     0     5     2     0     1" ∷ "T     2     2     1" ∷ [])
-    ∷ lists (lines_in no_edge_lines) (Length 58) ("W     0     0     7     2     0     1" ∷ "T     1     1     1" ∷ [])
-    ∷ lists (lines_in late_word_lines) (Length 58) ("W     2     0     7     2     0     1" ∷ "T     1     1     1" ∷ [])
-    ∷ lists (write_job (returns reentrant)) (Length 96)
+    ∷ lists (lines_in no_edge_lines) (Ok 58) ("W     0     0     7     2     0     1" ∷ "T     1     1     1" ∷ [])
+    ∷ lists (lines_in late_word_lines) (Ok 58) ("W     2     0     7     2     0     1" ∷ "T     1     1     1" ∷ [])
+    ∷ lists (write_job (returns reentrant)) (Ok 96)
     ("W     2     1     3     1     0     1" ∷ "W     3     0     3     2     0     1" ∷ "T     2     2     1" ∷ [])
-    ∷ lists (write_job (nop_lost reentrant)) (Length 134)
+    ∷ lists (write_job (nop_lost reentrant)) (Ok 134)
     ("W     0     0     1     1     1     0"
     ∷ "W     1     1     2     2     0     0"
     ∷ "W     3     2     1     1     1     0"
     ∷ "T     3     0     2"
     ∷ [])
-    ∷ lists (write_job (call_at_entry reentrant)) (Length 58) ("W     1     0     7     2     0     1" ∷ "T     1     1     1" ∷ [])
-    ∷ lists (write_job (call_at_exit reentrant)) (Length 58) ("W     0     1     7     2     0     1" ∷ "T     1     1     1" ∷ [])
-    ∷ lists (write_job (no_exit reentrant)) (Length 96)
+    ∷ lists (write_job (call_at_entry reentrant)) (Ok 58) ("W     1     0     7     2     0     1" ∷ "T     1     1     1" ∷ [])
+    ∷ lists (write_job (call_at_exit reentrant)) (Ok 58) ("W     0     1     7     2     0     1" ∷ "T     1     1     1" ∷ [])
+    ∷ lists (write_job (no_exit reentrant)) (Ok 96)
     ("W     0     0     1     1     1     0" ∷ "W     2     1     0     2     1     0" ∷ "T     2     0     2" ∷ [])
-    ∷ lists (write_job (neither_admits reentrant)) (Length 96)
+    ∷ lists (write_job (neither_admits reentrant)) (Ok 96)
     ("W     0     0    13     2     0     1" ∷ "W     1     0    14     2     0     1" ∷ "T     2     2     1" ∷ [])
-    ∷ lists (write_job (own_word reentrant)) (Length 58) ("W     0     1     7     2     0     1" ∷ "T     1     1     1" ∷ [])
-    ∷ lists (write_job (two_calls reentrant)) (Length 134)
+    ∷ lists (write_job (own_word reentrant)) (Ok 58) ("W     0     1     7     2     0     1" ∷ "T     1     1     1" ∷ [])
+    ∷ lists (write_job (two_calls reentrant)) (Ok 134)
     ("W     0     0     7     2     0     1"
     ∷ "W     3     1     2     1     0     1"
     ∷ "W     4     1     6     1     0     1"
     ∷ "T     3     3     1"
     ∷ [])
-    ∷ lists (write_job (calls_into_call reentrant)) (Length 58) ("W     1     1     7     2     0     1" ∷ "T     1     1     1" ∷ [])
+    ∷ lists (write_job (calls_into_call reentrant)) (Ok 58) ("W     1     1     7     2     0     1" ∷ "T     1     1     1" ∷ [])
     -- no event node
-    ∷ lists (lines_in (small_head ∷ small_rule ∷ small_node ∷ [])) (Length 20) ("T     0     0     1" ∷ [])
+    ∷ lists (lines_in (small_head ∷ small_rule ∷ small_node ∷ [])) (Ok 20) ("T     0     0     1" ∷ [])
     -- the empty file, and no entry: nothing is written
-    ∷ lists [] (Refused 3) []
-    ∷ lists (with_node "P     0     0     0     0     0     0") (Refused 10) []
+    ∷ lists [] (Err 3) []
+    ∷ lists (with_node "P     0     0     0     0     0     0") (Err 10) []
     ∷ []

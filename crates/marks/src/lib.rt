@@ -14,12 +14,10 @@ pub fn next_marked(work: &[u8], n: usize, nodes: usize) -> usize
     requires { (Lent work.now) × ((n ≤ nodes) × (nodes ≤ 512)) }
     ensures { NextMarked work.now n nodes result }
 {
-    let mut next = n;
-    while next < nodes {
+    for next in n..nodes {
         if read16(work, MARKS + next * 2) != 0 {
             return next;
         }
-        next += 1;
     }
     nodes
 }

@@ -46,10 +46,8 @@ pub fn before_rows(
     ensures { result ≡ tab 16 (before_row table.now finals states work.now m) }
 {
     let mut rows = [0u16; 16];
-    let mut p = 0;
-    while p < 16 {
+    for p in 0..16 {
         rows[p] = before_row(work, table, finals, states, m, p);
-        p += 1;
     }
     rows
 }
@@ -68,11 +66,9 @@ pub fn successor_row(
 {
     let end = start_at(work, n + 1);
     let mut out = 0;
-    let mut i = start_at(work, n);
-    while i < end {
+    for i in start_at(work, n)..end {
         let m = target_at(work, i);
-        out = out | before_row(work, table, finals, states, m, p);
-        i += 1;
+        out |= before_row(work, table, finals, states, m, p);
     }
     out
 }

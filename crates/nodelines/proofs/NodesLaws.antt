@@ -11,13 +11,14 @@ use lib.Dec.{lit<}
 use lib.ListN.{length, drop, length-drop}
 use Rattle.laws.specs.Bounded.{sum_below}
 use Rattle.laws.proofs.Bounded.{sum_none, sum_more}
-use Rattle.lines.specs.declared.line.Collected.{Collected}
+use Rattle.std.specs.Prelude.{Result, Ok}
+use Rattle.refusal.specs.declared.Refusal.{Refusal}
+use Rattle.refusal.specs.Refusal.{status_in, value_in}
 use Rattle.lines.specs.Line.{line_of, at}
 use Rattle.jobfile.specs.File.{node_line, node_of}
 use Rattle.buffer.specs.Layout.{starts_part}
 use Rattle.buffer.specs.Views.{node_in}
 use Rattle.buffer.specs.Kept.{SameOutside}
-use Rattle.framing.specs.Framing.{collected}
 use Rattle.lines.specs.Places.{numbers_of, numbers_at, status_at}
 use Rattle.jobhead.specs.ReadLines.{NodeRead, NodesRead}
 use Rattle.lines.proofs.LinesLaws.{passed_more, read_all, read_stop, status_here, numbers_here}
@@ -43,11 +44,11 @@ nodes_none s a bytes l = record {
   kept = kept_none l 0 starts_part;
 }
 
-module _ (s a : ℕ) (file : List ℕ) (start : ℕ) (l m k : List ℕ) (n sum : ℕ) (r : Collected)
+module _ (s a : ℕ) (file : List ℕ) (start : ℕ) (l m k : List ℕ) (n sum : ℕ) (r : Result ℕ Refusal)
     (so : NodesSoFar s a (drop start file) l m n sum) (h : n < 512) (x : NodeRead s a n (drop (start + n * 38) file) m k r) where
   -- the line's status
-  own_status : r.status ≡ status_at (node_line s a) (drop start file) n
-  own_status = status_here (node_line s a) file start n n [] r.status (λ ns. refl) x.status
+  own_status : status_in r ≡ status_at (node_line s a) (drop start file) n
+  own_status = status_here (node_line s a) file start n n [] (status_in r) (λ ns. refl) x.status
 
   -- its numbers
   own_numbers : numbers_of (line_of 80 6 (drop (start + n * 38) file)) ≡ numbers_at (node_line s a) (drop start file) n
@@ -58,11 +59,11 @@ module _ (s a : ℕ) (file : List ℕ) (start : ℕ) (l m k : List ℕ) (n sum :
   all_kept = kept_both l m k 0 starts_part (n * 8) (n * 8 + 8) so.kept x.kept (omega arith) (omega arith)
 
   -- one line more
-  pub nodes_more : r.status ≡ 0 → NodesSoFar s a (drop start file) l k (n + 1) (sum + r.number)
+  pub nodes_more : status_in r ≡ 0 → NodesSoFar s a (drop start file) l k (n + 1) (sum + value_in r)
   nodes_more z = record {
     passed = passed_more (node_line s a) (drop start file) n so.passed (sym own_status ∙ z);
     number =
-        let q : r.number ≡ at (numbers_at (node_line s a) (drop start file) n) 3 = x.number z ∙ ap (λ (ns : List ℕ). at ns 3) own_numbers in
+        let q : value_in r ≡ at (numbers_at (node_line s a) (drop start file) n) 3 = x.number z ∙ ap (λ (ns : List ℕ). at ns 3) own_numbers in
         rw (so.number, q) (sym (sum_more n (λ j. at (numbers_at (node_line s a) (drop start file) j) 3)));
     small = omega (arith, so.small, x.small);
     here = λ j g.
@@ -75,10 +76,10 @@ module _ (s a : ℕ) (file : List ℕ) (start : ℕ) (l m k : List ℕ) (n sum :
   }
 
   -- a line that does not pass
-  pub nodes_stop : (c : ℕ) → n < c → (r.status ≡ 0 → ⊥) → NodesRead s a c (drop start file) l k (collected r.status 0)
+  pub nodes_stop : (c : ℕ) → n < c → (status_in r ≡ 0 → ⊥) → NodesRead s a c (drop start file) l k r
   nodes_stop c g q = record {
-    lines = read_stop (node_line s a) (drop start file) c n r.status g (lit< tt) so.passed own_status q;
-    zero = λ z. refl;
+    lines = read_stop (node_line s a) (drop start file) c n (status_in r) g (lit< tt) so.passed own_status q;
+    zero = λ z. x.zero q;
     number = λ z. absurd (q z);
     here = λ z. absurd (q z);
     kept = all_kept;
@@ -86,7 +87,7 @@ module _ (s a : ℕ) (file : List ℕ) (start : ℕ) (l m k : List ℕ) (n sum :
 
 -- all lines are read
 pub nodes_end
-    : (s a : ℕ) (bytes l m : List ℕ) (n sum c : ℕ) → n ≡ c → NodesSoFar s a bytes l m n sum → NodesRead s a c bytes l m (collected 0 sum)
+    : (s a : ℕ) (bytes l m : List ℕ) (n sum c : ℕ) → n ≡ c → NodesSoFar s a bytes l m n sum → NodesRead s a c bytes l m (Ok sum)
 nodes_end s a bytes l m n sum c e so = record {
   lines = read_all (node_line s a) bytes c n e (lit< tt) so.passed so.within;
   zero = λ z. absurd (z refl);

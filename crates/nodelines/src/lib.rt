@@ -5,11 +5,10 @@ ghost use Rattle.std.specs.Prelude.{◌≤◌, length, drop};
 ghost use Rattle.buffer.specs.Layout.{Lent};
 ghost use Rattle.jobhead.specs.ReadLines.{NodesRead};
 
-use framing::refused;
-use lines::line::Collected;
 use nodeline::node_line;
+use refusal::Refusal;
 
-// Reads the P lines from `at` on: 3, 4 or 7, or the sum of the entry sets, and the nodes are stored.
+// Reads the P lines from `at` on: `FileEnds`, `WrongLine` or `WrongNode`, or the sum of the entry sets, and the nodes are stored.
 pub fn node_lines(
     file: &[u8],
     at: usize,
@@ -17,23 +16,14 @@ pub fn node_lines(
     states: u64,
     symbols: u64,
     nodes: usize,
-) -> Collected
+) -> Result<u64, Refusal>
     requires { (at ≤ length file.now) × ((Lent work.old) × ((states ≤ 16) × ((symbols ≤ 16) × (nodes ≤ 512)))) }
     ensures { NodesRead states symbols nodes (drop at file.now) work.old work.new result }
 {
     let mut sum: u64 = 0;
-    let mut n = 0;
-    while n < nodes {
-        let r = node_line(file, at + n * 38, work, states, symbols, n);
-        let status = r.status;
-        if status != 0 {
-            return refused(status);
-        }
-        sum = sum + r.number;
-        n += 1;
+    for n in 0..nodes {
+        let entries = node_line(file, at + n * 38, work, states, symbols, n)?;
+        sum += entries;
     }
-    Collected {
-        status: 0,
-        number: sum,
-    }
+    Ok(sum)
 }

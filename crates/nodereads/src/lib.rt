@@ -92,12 +92,10 @@ pub fn any_reentrant(work: &[u8], nodes: usize) -> bool
     requires { (Lent work.now) × (nodes ≤ 512) }
     ensures { result ≡ any_below nodes (λ n. is_reentrant (node_in work.now n).kind) }
 {
-    let mut n = 0;
-    while n < nodes {
+    for n in 0..nodes {
         if is_reentrant(work, n) {
             return true;
         }
-        n += 1;
     }
     false
 }

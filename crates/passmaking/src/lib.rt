@@ -50,7 +50,7 @@ pub fn passes(
         count += 1;
     }
     Counts {
-        shadows: shadows,
+        shadows,
         enabled: progress.enabled,
         passes: count,
     }

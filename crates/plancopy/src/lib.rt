@@ -13,9 +13,5 @@ pub fn copy_plan(work: &[u8], plan: &mut [u8], nodes: usize)
     requires { (Lent work.now) × ((nodes ≤ 512) × (512 ≤ length plan.old)) }
     ensures { plan.new ≡ sets plan.old 0 (plan_in work.now nodes) }
 {
-    let mut n = 0;
-    while n < nodes {
-        plan[n] = work[PLAN + n];
-        n += 1;
-    }
+    plan[..nodes].copy_from_slice(&work[PLAN..PLAN + nodes]);
 }

@@ -27,12 +27,10 @@ pub fn is_plan(plan: &[u8], work: &[u8], nodes: usize) -> bool
     requires { (Lent work.now) × ((nodes ≤ 512) × (nodes ≤ length plan.now)) }
     ensures { result ≡ all_below nodes (λ n. good_mark (node_in work.now n).kind (get_or plan.now n 0)) }
 {
-    let mut n = 0;
-    while n < nodes {
-        if !is_mark(work, n, plan[n]) {
+    for (n, mark) in plan[..nodes].iter().enumerate() {
+        if !is_mark(work, n, *mark) {
             return false;
         }
-        n += 1;
     }
     true
 }
@@ -42,9 +40,5 @@ pub fn store_plan(plan: &[u8], work: &mut [u8], nodes: usize)
     requires { (Lent work.old) × ((nodes ≤ 512) × (nodes ≤ length plan.now)) }
     ensures { PlanStored plan.now work.old work.new nodes }
 {
-    let mut n = 0;
-    while n < nodes {
-        work[PLAN + n] = plan[n];
-        n += 1;
-    }
+    work[PLAN..PLAN + nodes].copy_from_slice(&plan[..nodes]);
 }

@@ -1,6 +1,7 @@
 -- Laws of planning as a call: what an accepted answer says of the file, which plan is then left, and that the caller reads the answer back
 -- from the number.
 -- Assumes nothing.
+use Rattle.std.specs.Prelude.{Ok, Err}
 use mathlib.Core.Path.{◌≡◌, refl, sym, ap, ◌∙◌, subst}
 use mathlib.Core.Bool.{Bool, ◌||◌, true≢false}
 use mathlib.Core.List.{List}
@@ -23,7 +24,6 @@ use Rattle.passes.specs.declared.passes.Counts.{Counts}
 use Rattle.passes.specs.Counts.{counts_of}
 use Rattle.passes.specs.Running.{Stands}
 use Rattle.passes.proofs.RunningLaws.{running_total}
-use Rattle.planoutcome.specs.declared.plan.Outcome.TheVariants.{Planned, Refused}
 use Rattle.admission.specs.Admission.{admitted, WrittenFirst}
 use Rattle.planoutcome.specs.PlanCall.{plan_size, plan_answer, outcome_of, plan_after, plan_number}
 use Rattle.planoutcome.specs.PlanSays.{PlanLeft, planned, unchanged, PlanBytesSay, CountsFit, PlanCountsFit, outcome_read, SeenByNumber, TotalInNumber}
@@ -78,31 +78,31 @@ pub plan_counts_fit : PlanCountsFit
 plan_counts_fit file work plan j e = fit_admitted file (ltb work work_size || ltb plan plan_size) j e
 
 -- whatever the file
-pub counts_fit : (file : List ℕ) (short : Bool) (c : Counts) → Planned c ≡ outcome_of (admitted file short) → CountsFit c
+pub counts_fit : (file : List ℕ) (short : Bool) (c : Counts) → Ok c ≡ outcome_of (admitted file short) → CountsFit c
 counts_fit file short c e = go (admitted file short) refl e
   where
-    go : (a : Answer) → admitted file short ≡ a → Planned c ≡ outcome_of a → CountsFit c
+    go : (a : Answer) → admitted file short ≡ a → Ok c ≡ outcome_of a → CountsFit c
     go (accepted j) is e =
         let same : c ≡ counts_of j = cc e in
         subst (λ (x : Counts). CountsFit x) (sym same) (fit_admitted file short j is)
     go (turned k) is e = let z : ◌≡◌ {A = ℕ} 0 1 = cc e in absurd (omega arith)
 
 -- the watched points and the passes in a number of counts that fit
-number_enabled : (c : Counts) → CountsFit c → plan_number (Planned c) / 2 ^ 16 % 2 ^ 16 ≡ c.enabled
+number_enabled : (c : Counts) → CountsFit c → plan_number (Ok c) / 2 ^ 16 % 2 ^ 16 ≡ c.enabled
 number_enabled c fit = omega (arith, fit.shadows, fit.enabled, fit.passes)
 
-number_passes : (c : Counts) → CountsFit c → plan_number (Planned c) % 2 ^ 16 ≡ c.passes
+number_passes : (c : Counts) → CountsFit c → plan_number (Ok c) % 2 ^ 16 ≡ c.passes
 number_passes c fit = omega (arith, fit.shadows, fit.enabled, fit.passes)
 
 -- counts that fit are read back
-read_counts : (c : Counts) → CountsFit c → outcome_read (plan_number (Planned c)) ≡ Planned c
+read_counts : (c : Counts) → CountsFit c → outcome_read (plan_number (Ok c)) ≡ Ok c
 read_counts c fit =
-    let n = plan_number (Planned c) in
+    let n = plan_number (Ok c) in
     let shadows : n / 2 ^ 32 % 2 ^ 16 ≡ c.shadows = omega (arith, fit.shadows, fit.enabled, fit.passes) in
     simp (le-ltb n accepted_from (omega arith), shadows, number_enabled c fit, number_passes c fit)
 
 -- a refusal's number is read back
-read_refusal : (k : ℕ) → k ≤ 15 → outcome_read (plan_number (Refused k)) ≡ Refused k
+read_refusal : (k : ℕ) → k ≤ 15 → outcome_read (plan_number (Err k)) ≡ Err k
 read_refusal k small = simp (lt-ltb k accepted_from (omega arith))
 
 module _ (file : List ℕ) (work plan : ℕ) where

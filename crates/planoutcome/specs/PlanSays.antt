@@ -1,7 +1,7 @@
 -- What a caller of planning has: the plan in its buffer, counts that fit their places in the number, and the answer read back from it.
 -- Statements, with a theorem for each in `proofs/`.
 -- Assumes nothing.
-use Rattle.std.specs.Prelude.{◌≡◌, ◌↔◌, cond, List, ℕ, ◌^◌, ◌/◌, ◌%◌, ◌≤◌, ltb, length, take}
+use Rattle.std.specs.Prelude.{Result, Ok, Err, ◌≡◌, ◌↔◌, cond, List, ℕ, ◌^◌, ◌/◌, ◌%◌, ◌≤◌, ltb, length, take}
 use Rattle.callnumber.specs.CallNumber.{accepted_from}
 use Rattle.job.specs.Job.{Job}
 use Rattle.planning.specs.Planning.{IsPlan}
@@ -11,8 +11,6 @@ use Rattle.passes.specs.declared.passes.Counts.{Counts}
 use Rattle.passes.specs.Counts.{counts_of}
 use Rattle.passes.specs.Running.{Stands}
 use Rattle.admission.specs.Admission.{WrittenFirst}
-use Rattle.planoutcome.specs.declared.plan.Outcome.{Outcome}
-use Rattle.planoutcome.specs.declared.plan.Outcome.TheVariants.{Planned, Refused}
 use Rattle.planoutcome.specs.PlanCall.{plan_answer, outcome_of, plan_after, plan_number}
 
 -- the plan buffer after planning, for an answer: the first N bytes are the job's plan and the rest is as it was; "a refusal leaves plan,
@@ -40,10 +38,10 @@ abbrev pub PlanCountsFit : Type 0
 PlanCountsFit = (file : List ℕ) (work plan : ℕ) (j : Job) → plan_answer file work plan ≡ accepted j → CountsFit (counts_of j)
 
 -- the outcome that a number tells: below 2^48 a refusal, from there on the counts
-abbrev pub outcome_read : ℕ → Outcome
+abbrev pub outcome_read : ℕ → Result Counts ℕ
 outcome_read n =
-    cond (ltb n accepted_from) (Refused n)
-    (Planned (record { shadows = n / 2 ^ 32 % 2 ^ 16; enabled = n / 2 ^ 16 % 2 ^ 16; passes = n % 2 ^ 16 }))
+    cond (ltb n accepted_from) (Err n)
+    (Ok (record { shadows = n / 2 ^ 32 % 2 ^ 16; enabled = n / 2 ^ 16 % 2 ^ 16; passes = n % 2 ^ 16 }))
 
 -- the statement: a caller sees by the number whether the job was planned, and reads back the counts or the refusal
 pub record SeenByNumber : Type 0 where

@@ -1,10 +1,10 @@
 // The line of a point, written from what the work buffer holds.
 #![tactic(auto)]
 
-ghost use Rattle.std.specs.Prelude.{◌≡◌, ◌+◌, ◌<◌, ◌≤◌, length};
+ghost use Rattle.std.specs.Prelude.{◌+◌, ◌<◌, ◌≤◌, length};
 ghost use Rattle.buffer.specs.Layout.{Lent};
 ghost use Rattle.tables.specs.Rows.{CellsBelow};
-ghost use Rattle.listingtext.specs.TextWritten.{byte_of, PointWritten};
+ghost use Rattle.listingtext.specs.TextWritten.{PointWritten};
 
 use beforestore::before_set;
 use classreads::class_count;
@@ -12,16 +12,6 @@ use graphreads::is_enabled;
 use listwriter::write_shadow_line;
 use nodereads::{is_shadow, symbol_at};
 use points::is_nop;
-
-// A mark as a number: 1 or 0.
-fn mark(b: bool) -> u64
-    ensures { result ≡ byte_of b }
-{
-    if b {
-        return 1;
-    }
-    0
-}
 
 // Writes the W line of node n from `at` on, where it is a shadow: the place after it.
 pub fn write_point(
@@ -49,10 +39,10 @@ pub fn write_point(
         at,
         n as u64,
         a as u64,
-        before as u64,
-        classes as u64,
-        mark(nop),
-        mark(enabled),
+        u64::from(before),
+        u64::from(classes),
+        u64::from(nop),
+        u64::from(enabled),
     );
     at + 38
 }

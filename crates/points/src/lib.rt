@@ -17,12 +17,10 @@ pub fn held_states(work: &[u8], n: usize, states: usize) -> u16
     ensures { result ≡ held_states work.now n states }
 {
     let mut out = 0;
-    let mut q = 0;
-    while q < states {
+    for q in 0..states {
         if pair_row(work, n, q) != 0 {
             out = insert(out, q as u32);
         }
-        q += 1;
     }
     out
 }

@@ -1,24 +1,21 @@
 -- Laws of the loops over positions and states.
 -- Assumes nothing.
 use mathlib.Core.Path.{◌≡◌, refl, sym, ap, ◌∙◌}
-use mathlib.Core.Logic.{◌≢◌, by_cases, ⊎_elim}
+use mathlib.Core.Logic.{◌≢◌, ⊎_elim}
 use mathlib.Core.Bool.{Bool, true, false}
 use mathlib.Core.List.{List}
 use Prim.Native.Nat.{ℕ, zero, suc, ◌+◌, ◌-◌, ◌*◌, ◌%◌, ◌^◌, ◌≤◌, ◌<◌}
 use native.Mathlib.Nat.{eq-or-lt_of_le, le_of_suc-le-suc}
 use native.Mathlib.Numerals.{add-one}
-use native.Mathlib.Decide.{ℕ_discrete}
 use native.Mathlib.Omega.{arith}
 use lib.Dec.{eqb}
 use lib.Bits.{bit_or, bit_and, or_zero_r}
 use lib.Count.{count_trailing_zeros}
-use lib.ListN.{length, get_or, set, length-set}
+use lib.ListN.{length, get_or}
 use Rattle.laws.specs.Bits.{has}
 use Rattle.laws.proofs.Bits.{one_shl}
-use Rattle.laws.proofs.Bounded.{fill_more}
 use Rattle.laws.proofs.Walk.{Rest, rest_start, rest_from, rest_low, rest_lt, rest_none, rest_next, rest_done}
 use Rattle.expression.specs.Masks.{when, union_over, places_of}
-use Rattle.expressionrule.specs.Numbering.{PlacesAre, Sought, Added}
 
 -- ---- the union over the members
 
@@ -94,42 +91,6 @@ pub record Seeking (sets : List ℕ) (count x i : ℕ) : Type 0 where
   pub high : i ≤ count
   pub none : (p : ℕ) → 1 ≤ p → p < i → get_or sets p 0 ≢ x
 
--- before the first state, and past one more
-pub seeking_none : (sets : List ℕ) (count x : ℕ) → 1 ≤ count → Seeking sets count x 1
-seeking_none sets count x h = record { low = omega arith; high = h; none = λ p l g. absurd (omega (arith, l, g)) }
-
-pub seeking_more : (sets : List ℕ) (count x i : ℕ) → i < count → get_or sets i 0 ≢ x → Seeking sets count x i → Seeking sets count x (i + 1)
-seeking_more sets count x i l n h =
-    record {
-      low = omega arith;
-      high = omega arith;
-      none = λ p a b.
-          by_cases (ℕ_discrete p i)
-          (λ (y : p ≡ i). λ z. n (ap (λ (k : ℕ). get_or sets k 0) (sym y) ∙ z))
-          (λ (y : p ≢ i). h.none p a (omega (arith, y, b)));
-    }
-
--- the state is found, or there is none
-pub sought_here : (sets : List ℕ) (count x i : ℕ) → i < count → get_or sets i 0 ≡ x → Seeking sets count x i → Sought sets count x i
-sought_here sets count x i l e h =
-    record { low = h.low; high = h.high; here = λ g. e; none = λ g. absurd (omega (arith, g, l)) }
-
-pub sought_none : (sets : List ℕ) (count x i : ℕ) → count ≤ i → Seeking sets count x i → Sought sets count x count
-sought_none sets count x i l h =
-    record {
-      low = omega (arith, h.low, h.high, l);
-      high = omega arith;
-      here = λ g. absurd (omega (arith, g));
-      none = λ g p a b. h.none p a (omega (arith, b, l));
-    }
-
--- the set is one of the others, or a new one
-pub added_old : (sets : List ℕ) (n i x : ℕ) → i < n → Added sets sets n i x n
-added_old sets n i x h = record { old = λ l. (refl, refl); new = λ l. absurd (omega (arith, h, l)) }
-
-pub added_new : (sets : List ℕ) (n i x : ℕ) → n ≤ i → Added sets (set sets n x) n i x (n + 1)
-added_new sets n i x h = record { old = λ l. absurd (omega (arith, h, l)); new = λ l. (refl, refl) }
-
 -- ---- the positions of all letters
 
 -- those of the symbols before s are filled in
@@ -137,20 +98,3 @@ pub record Filled (t : List ℕ) (a : ℕ) (places₀ places : List ℕ) (s : �
   pub within : s ≤ a
   pub long : length places ≡ length places₀
   pub are : (k : ℕ) → k < s → get_or places k 0 ≡ places_of t (length t) k
-
-pub filled_none : (t : List ℕ) (a : ℕ) (places : List ℕ) → Filled t a places places 0
-filled_none t a places = record { within = omega arith; long = refl; are = λ k h. absurd (omega (arith, h)) }
-
-pub Filled-more
-    : (t : List ℕ) (a : ℕ) (places₀ places : List ℕ) (s x : ℕ) → s < a → s < length places → x ≡ places_of t (length t) s
-    → Filled t a places₀ places s → Filled t a places₀ (set places s x) (s + 1)
-Filled-more t a places₀ places s x l room e h =
-    record {
-      within = omega arith;
-      long = length-set places s x ∙ h.long;
-      are = fill_more places s (places_of t (length t)) x 0 room h.are e;
-    }
-
-pub filled_all
-    : (t : List ℕ) (a : ℕ) (places₀ places : List ℕ) (s : ℕ) → length places₀ ≡ 16 → a ≤ s → Filled t a places₀ places s → PlacesAre t a places
-filled_all t a places₀ places s long l h = record { long = h.long ∙ long; are = λ k g. h.are k (omega (arith, g, l)) }

@@ -15,9 +15,9 @@ fn union_of(follow: &[u64], set: u64) -> u64
     let mut out: u64 = 0;
     let mut rest = set;
     while rest != 0 {
-        let q = u64::trailing_zeros(rest) as usize;
-        out = out | follow[q];
-        rest = rest & (rest - 1);
+        let q = rest.trailing_zeros() as usize;
+        out |= follow[q];
+        rest &= rest - 1;
     }
     out
 }
@@ -28,11 +28,8 @@ fn places_of(text: &[u8], symbol: u8) -> u64
     ensures { result ≡ places_of text.now (length text.now) symbol }
 {
     let mut out: u64 = 0;
-    let mut q = 0;
-    while q < text.len() {
-        let more = set_when(text[q] == 97 + symbol, 1 << q);
-        out = out | more;
-        q += 1;
+    for (q, c) in text.iter().enumerate() {
+        out |= set_when(*c == 97 + symbol, 1 << q);
     }
     out
 }
@@ -42,10 +39,8 @@ pub fn fill_places(text: &[u8], symbols: usize, places: &mut [u64])
     requires { (length text.now ≤ 64) × ((symbols ≤ 16) × (length places.old ≡ 16)) }
     ensures { PlacesAre text.now symbols places.new }
 {
-    let mut s = 0;
-    while s < symbols {
+    for s in 0..symbols {
         places[s] = places_of(text, s as u8);
-        s += 1;
     }
 }
 
@@ -66,12 +61,10 @@ pub fn seek(sets: &[u64], count: usize, set: u64) -> usize
     requires { (1 ≤ count) × (count ≤ length sets.now) }
     ensures { Sought sets.now count set result }
 {
-    let mut i = 1;
-    while i < count {
+    for i in 1..count {
         if sets[i] == set {
             return i;
         }
-        i += 1;
     }
     count
 }

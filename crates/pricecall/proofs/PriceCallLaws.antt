@@ -1,6 +1,7 @@
 -- Laws of pricing as a call: what the door admits with a buffer of its own is what the file spells, and the price of its job is the answer; by a
 -- price file of its lines it is that at these prices, by any other there is none.
 -- Assumes nothing.
+use Rattle.std.specs.Prelude.{Result, Err}
 use mathlib.Core.Path.{◌≡◌, refl, sym, ap, ◌∙◌}
 use mathlib.Core.Bool.{Bool, true, false, ◌||◌}
 use mathlib.Core.List.{List}
@@ -12,14 +13,12 @@ use borrow.Author.Tests.{le-ltb}
 use Rattle.laws.proofs.Tests.{or_fails}
 use Rattle.job.specs.Job.{point_of, Node}
 use Rattle.jobfile.specs.File.{read_job}
-use Rattle.jobhead.specs.declared.head.Head.{Head}
+use Rattle.jobhead.specs.Numbers.{HeadNumbers}
 use Rattle.buffer.specs.Buffer.{work_size}
 use Rattle.admission.specs.Admission.{admitted}
 use Rattle.admission.specs.Admitted.{Admitted}
 use Rattle.admission.proofs.AdmissionLaws.{admitted_read}
 use Rattle.admission.proofs.CallLaws.{answer_refused}
-use Rattle.pricing.specs.declared.price.Price.{Price}
-use Rattle.pricing.specs.declared.price.Price.TheVariants.{Refused}
 use Rattle.pricing.specs.Pricing.{house_prices, priced_at, priced}
 use Rattle.pricing.specs.Inner.{PricesFit, BillFit, Billed}
 use Rattle.pricing.proofs.NumberedLaws.{column_says}
@@ -37,10 +36,10 @@ enough = let e = length-replicate {A = ℕ} work_size 0 in omega arith
 spelt : (file l : List ℕ) → work_size ≤ length l → admitted file (ltb (length l) work_size || false) ≡ read_job file
 spelt file l h = admitted_read file (ltb (length l) work_size || false) (or_fails (ltb (length l) work_size) false (le-ltb (length l) work_size h) refl)
 
-module _ (prices file plan volumes l m : List ℕ) (r : Head) (enough : work_size ≤ length l)
+module _ (prices file plan volumes l m : List ℕ) (r : HeadNumbers) (enough : work_size ≤ length l)
     (a : Admitted (admitted file (ltb (length l) work_size || false)) l m r) where
   -- a refusal of the job file
-  pub price_turned : (r.refusal ≡ 0 → ⊥) → Refused r.refusal ≡ priced_at prices file plan volumes
+  pub price_turned : (r.refusal ≡ 0 → ⊥) → Err r.refusal ≡ priced_at prices file plan volumes
   price_turned h = sym (priced_turned prices file plan volumes r.refusal (sym (spelt file l enough) ∙ answer_refused a h))
 
   module _ (h : r.refusal ≡ 0) where
@@ -59,7 +58,7 @@ module _ (prices file plan volumes l m : List ℕ) (r : Head) (enough : work_siz
         }
 
     -- the price of the job that was admitted
-    pub price_billed : (p : Price) → Billed prices m r.nodes plan volumes p → p ≡ priced_at prices file plan volumes
+    pub price_billed : (p : Result ℕ ℕ) → Billed prices m r.nodes plan volumes p → p ≡ priced_at prices file plan volumes
     price_billed p b =
         let j = a.job h in
         b j.job (record { count = j.held.nodes_are; node = j.held.node })
@@ -73,7 +72,7 @@ house_fit prices e s = rw e (house_within s)
 
 -- the answer at the house prices
 pub at_house
-    : (file plan volumes prices : List ℕ) (p : Price) → prices ≡ house_prices → p ≡ priced_at prices file plan volumes → p ≡ priced file plan volumes
+    : (file plan volumes prices : List ℕ) (p : Result ℕ ℕ) → prices ≡ house_prices → p ≡ priced_at prices file plan volumes → p ≡ priced file plan volumes
 at_house file plan volumes prices p h e = e ∙ ap (λ (l : List ℕ). priced_at l file plan volumes) h
 
 -- sixteen prices before any is read
@@ -83,7 +82,7 @@ none_fit = record { sixteen = length-replicate {A = ℕ} 16 0; fit = λ s. omega
 module _ (file plan volumes prices list : List ℕ) where
   -- by a price file of its lines
   pub by_list
-      : (listed : Bool) (p : Price) → PricesRead prices list listed → listed ≡ true → p ≡ priced_at list file plan volumes
+      : (listed : Bool) (p : Result ℕ ℕ) → PricesRead prices list listed → listed ≡ true → p ≡ priced_at list file plan volumes
       → p ≡ priced_by file plan volumes prices
   by_list listed p read is e =
       let f = (column_says price_line 16 prices list).0 (read.is ∙ ap (λ (b : Bool). listed_as b list) is) in
@@ -91,7 +90,7 @@ module _ (file plan volumes prices list : List ℕ) where
 
   -- by any other file
   pub by_none
-      : (listed : Bool) (p : Price) → PricesRead prices list listed → listed ≡ false → p ≡ priced_at list file plan volumes
+      : (listed : Bool) (p : Result ℕ ℕ) → PricesRead prices list listed → listed ≡ false → p ≡ priced_at list file plan volumes
       → unlisted p ≡ priced_by file plan volumes prices
   by_none listed p read is e =
       ap unlisted e ∙ unlisted_any file plan volumes list

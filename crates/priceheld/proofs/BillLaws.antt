@@ -1,5 +1,6 @@
 -- Laws of the answer for the job that the work buffer holds, in the shape of the code.
 -- Assumes nothing.
+use Rattle.std.specs.Prelude.{Result, Ok, Err}
 use mathlib.Core.Path.{◌≡◌, refl, sym, ap, ◌∙◌}
 use mathlib.Core.Bool.{Bool, true, false}
 use mathlib.Core.List.{List}
@@ -12,13 +13,13 @@ use Rattle.laws.specs.Bounded.{all_below, sum_below}
 use Rattle.laws.proofs.Bounded.{all_at, sum_cong}
 use Rattle.job.specs.Job.{Kind, is_event, point_of, Node, Job, node_at}
 use Rattle.job.specs.Plan.{enables}
-use Rattle.lines.specs.declared.line.Collected.{Collected}
-use Rattle.framing.specs.Framing.{collected}
+use Rattle.refusal.specs.declared.Refusal.{Refusal}
+use Rattle.refusal.specs.declared.Refusal.TheVariants.{WrongVolumes}
+use Rattle.refusal.specs.Refusal.{number_of, status_in, value_in}
 use Rattle.buffer.specs.Views.{node_in}
 use Rattle.checking.specs.Checking.{good_mark}
 use Rattle.checking.proofs.CheckLaws.{marks, marks_same}
 use Rattle.checking.proofs.PlanLaws.{mark_other}
-use Rattle.pricing.specs.declared.price.Price.TheVariants.{Cents, Refused}
 use Rattle.pricing.specs.Numbered.{Column, column, not_these_lines, column_in}
 use Rattle.pricing.specs.Pricing.{volume_line, cost, day_cost, cents_of, billed, priced_job}
 use Rattle.pricing.proofs.PricingLaws.{priced_11, priced_12, priced_billed}
@@ -34,7 +35,7 @@ watched_point k b g w = go (is_event k) refl
 
 module _ (prices work plan volumes : List ℕ) (nodes : ℕ) where
   -- the plan has another length
-  pub bill_length : (length plan ≡ nodes → ⊥) → Billed prices work nodes plan volumes (Refused 11)
+  pub bill_length : (length plan ≡ nodes → ⊥) → Billed prices work nodes plan volumes (Err 11)
   bill_length h j held = sym (priced_11 prices j plan volumes (λ e. h (e ∙ sym held.count)))
 
   module _ (long : length plan ≡ nodes) where
@@ -43,7 +44,7 @@ module _ (prices work plan volumes : List ℕ) (nodes : ℕ) where
     marks_are j held t g = sym (marks_same plan (node_in work) (node_at j) nodes (length j.nodes) held.count held.node) ∙ g
 
     -- a byte that its node may not have
-    pub bill_marks : all_below nodes (marks plan (node_in work)) ≡ false → Billed prices work nodes plan volumes (Refused 12)
+    pub bill_marks : all_below nodes (marks plan (node_in work)) ≡ false → Billed prices work nodes plan volumes (Err 12)
     bill_marks g j held = sym (priced_12 prices j plan volumes (long ∙ held.count) (marks_are j held false g))
 
     module _ (good : all_below nodes (marks plan (node_in work)) ≡ true) where
@@ -76,26 +77,31 @@ module _ (prices work plan volumes : List ℕ) (nodes : ℕ) where
           sym (priced_billed prices j plan volumes v (long ∙ held.count) (marks_are j held true good)
           (ap (λ (m : ℕ). column_in volume_line m volumes) (sym held.count) ∙ e))
 
-      module _ (r : Collected) (sum : r ≡ sum_in prices work plan nodes (column_in volume_line nodes volumes)) where
-        -- the file is not these lines
-        pub bill_lines : (r.status ≡ 0 → ⊥) → Billed prices work nodes plan volumes (Refused r.status)
-        bill_lines h j held = go (column_in volume_line nodes volumes) refl
-          where
-            go : (v : Column) → column_in volume_line nodes volumes ≡ v → Refused r.status ≡ priced_job prices j plan volumes
-            go (column vs) e = absurd (h (ap (λ (x : Collected). x.status) (sum ∙ ap (sum_in prices work plan nodes) e)))
-            go not_these_lines e =
-                ap (λ (x : Collected). Refused x.status) (sum ∙ ap (sum_in prices work plan nodes) e)
-                ∙ answer j held not_these_lines e
+      -- the file is not these lines
+      pub bill_lines
+          : (k : Refusal) → Err k ≡ sum_in prices work plan nodes (column_in volume_line nodes volumes)
+          → Billed prices work nodes plan volumes (Err (number_of k))
+      bill_lines k sum j held = go (column_in volume_line nodes volumes) refl
+        where
+          go : (v : Column) → column_in volume_line nodes volumes ≡ v → Err (number_of k) ≡ priced_job prices j plan volumes
+          go (column vs) e =
+              let z : ◌≡◌ {A = Result ℕ Refusal} (Err k) (Ok (sum_below nodes (λ n. cost_in prices work plan n (get_or vs n 0)))) =
+              sum ∙ ap (sum_in prices work plan nodes) e in
+              cc
+          go not_these_lines e =
+              ap (λ (x : Result ℕ Refusal). Err (status_in x)) (sum ∙ ap (sum_in prices work plan nodes) e)
+              ∙ answer j held not_these_lines e
 
-        -- the price
-        pub bill_price : r.status ≡ 0 → (c : ℕ) → c ≡ cents_of r.number → Billed prices work nodes plan volumes (Cents c)
-        bill_price z c price j held = go (column_in volume_line nodes volumes) refl
-          where
-            go : (v : Column) → column_in volume_line nodes volumes ≡ v → Cents c ≡ priced_job prices j plan volumes
-            go (column vs) e =
-                let is : r ≡ collected 0 (sum_below nodes (λ n. cost_in prices work plan n (get_or vs n 0))) = sum ∙ ap (sum_in prices work plan nodes) e in
-                ap Cents (price ∙ ap (λ (x : Collected). cents_of x.number) is ∙ ap cents_of (same_sum j vs held))
-                ∙ answer j held (column vs) e
-            go not_these_lines e =
-                let s : r.status ≡ 16 = ap (λ (x : Collected). x.status) (sum ∙ ap (sum_in prices work plan nodes) e) in
-                absurd (omega arith)
+      -- the price
+      pub bill_price
+          : (t c : ℕ) → Ok t ≡ sum_in prices work plan nodes (column_in volume_line nodes volumes) → c ≡ cents_of t
+          → Billed prices work nodes plan volumes (Ok c)
+      bill_price t c sum price j held = go (column_in volume_line nodes volumes) refl
+        where
+          go : (v : Column) → column_in volume_line nodes volumes ≡ v → Ok c ≡ priced_job prices j plan volumes
+          go (column vs) e =
+              let is : t ≡ sum_below nodes (λ n. cost_in prices work plan n (get_or vs n 0)) = ap value_in (sum ∙ ap (sum_in prices work plan nodes) e) in
+              ap Ok (price ∙ ap cents_of (is ∙ same_sum j vs held)) ∙ answer j held (column vs) e
+          go not_these_lines e =
+              let z : ◌≡◌ {A = Result ℕ Refusal} (Ok t) (Err WrongVolumes) = sum ∙ ap (sum_in prices work plan nodes) e in
+              cc

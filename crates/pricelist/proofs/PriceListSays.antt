@@ -1,6 +1,7 @@
 -- The answers at an association's own prices say what stands in the file, the plan, the volume file and the price file.
 -- Why: by a price file of its lines the answer is that of pricing at these prices, and whether there is a price goes by no price.
 -- Assumes nothing.
+use Rattle.std.specs.Prelude.{Result, Ok, Err}
 use mathlib.Core.Path.{◌≡◌, refl, sym, ap, ◌∙◌, subst}
 use mathlib.Core.Logic.{◌⊎◌, inl, inr, ⊎_elim}
 use mathlib.Core.List.{List, []}
@@ -10,8 +11,6 @@ use lib.Dec.{lit<}
 use lib.ListN.{length, get_or, replicate, get_or-replicate, length-map, length-replicate}
 use Rattle.lines.specs.Line.{at}
 use Rattle.jobfile.specs.File.{write_job}
-use Rattle.pricing.specs.declared.price.Price.{Price}
-use Rattle.pricing.specs.declared.price.Price.TheVariants.{Cents, Refused}
 use Rattle.pricing.specs.Numbered.{Column, column, not_these_lines, write_column}
 use Rattle.pricing.specs.Pricing.{house_prices, priced_at, priced, price_number}
 use Rattle.pricing.specs.PricingSays.{dearest, price_read}
@@ -68,11 +67,11 @@ module _ (file plan volumes : List ℕ) where
   pub unlisted_any : (list : List ℕ) → unlisted (priced_at list file plan volumes) ≡ unlisted (priced file plan volumes)
   unlisted_any list = go (priced_at list file plan volumes) refl
     where
-      go : (p : Price) → priced_at list file plan volumes ≡ p → unlisted (priced_at list file plan volumes) ≡ unlisted (priced file plan volumes)
-      go (Cents c) e =
+      go : (p : Result ℕ ℕ) → priced_at list file plan volumes ≡ p → unlisted (priced_at list file plan volumes) ≡ unlisted (priced file plan volumes)
+      go (Ok c) e =
           let (j, counts, b, covers) = (price_says list file plan volumes c).0 e in
           ap unlisted e ∙ sym (ap unlisted (price_of house_prices file plan volumes b))
-      go (Refused k) e =
+      go (Err k) e =
           ap unlisted (e ∙ sym ((price_refused house_prices file plan volumes k).1 ((price_refused list file plan volumes k).0 e)))
 
 -- by a file of these lines
@@ -86,15 +85,15 @@ pub without_list
 without_list file plan volumes prices none = answered file plan volumes prices not_these_lines none
 
 -- without a list there is no price
-no_price : (p : Price) (c : ℕ) → unlisted p ≡ Cents c → ⊥
-no_price (Cents d) c e = let z : ◌≡◌ {A = ℕ} 0 1 = cc e in omega arith
-no_price (Refused k) c e = let z : ◌≡◌ {A = ℕ} 0 1 = cc e in omega arith
+no_price : (p : Result ℕ ℕ) (c : ℕ) → unlisted p ≡ Ok c → ⊥
+no_price (Ok d) c e = let z : ◌≡◌ {A = ℕ} 0 1 = cc e in omega arith
+no_price (Err k) c e = let z : ◌≡◌ {A = ℕ} 0 1 = cc e in omega arith
 
 module _ (file plan volumes prices : List ℕ) where
   -- a price is that of a list
   price_listed
-      : (c : ℕ) → priced_by file plan volumes prices ≡ Cents c
-      → (list : List ℕ) × PriceFile prices list × (priced_at list file plan volumes ≡ Cents c)
+      : (c : ℕ) → priced_by file plan volumes prices ≡ Ok c
+      → (list : List ℕ) × PriceFile prices list × (priced_at list file plan volumes ≡ Ok c)
   price_listed c e =
       ⊎_elim
       (λ (list, f). (list, f, sym (at_its_prices file plan volumes prices list f) ∙ e))
@@ -102,7 +101,7 @@ module _ (file plan volumes prices : List ℕ) where
       (listed_or_none prices)
 
   -- a refusal is the first that fails
-  first_fails : (r : ℕ) → priced_by file plan volumes prices ≡ Refused r → OwnPriceRefused file plan volumes prices r
+  first_fails : (r : ℕ) → priced_by file plan volumes prices ≡ Err r → OwnPriceRefused file plan volumes prices r
   first_fails r e =
       ⊎_elim
       (λ (list, f).
@@ -111,16 +110,16 @@ module _ (file plan volumes prices : List ℕ) where
       (listed_or_none prices)
     where
       go
-          : prices_in prices ≡ not_these_lines → (p : Price) → priced file plan volumes ≡ p → unlisted p ≡ Refused r
+          : prices_in prices ≡ not_these_lines → (p : Result ℕ ℕ) → priced file plan volumes ≡ p → unlisted p ≡ Err r
           → OwnPriceRefused file plan volumes prices r
-      go none (Cents c) p u =
+      go none (Ok c) p u =
           let (j, counts, b, covers) = (price_says house_prices file plan volumes c).0 p in
           let is : 28 ≡ r = cc u in
           subst (OwnPriceRefused file plan volumes prices) is (other_prices b ((no_column_says price_line 16 prices).0 none))
-      go none (Refused k) p u = without_prices ((price_refused house_prices file plan volumes r).0 (p ∙ u))
+      go none (Err k) p u = without_prices ((price_refused house_prices file plan volumes r).0 (p ∙ u))
 
   -- and the first that fails is the refusal
-  fails_first : {r : ℕ} → OwnPriceRefused file plan volumes prices r → priced_by file plan volumes prices ≡ Refused r
+  fails_first : {r : ℕ} → OwnPriceRefused file plan volumes prices r → priced_by file plan volumes prices ≡ Err r
   fails_first (without_prices {r} b) =
       ⊎_elim
       (λ (list, f). at_its_prices file plan volumes prices list f ∙ (price_refused list file plan volumes r).1 b)
@@ -169,7 +168,7 @@ house_table_loads =
 
 -- no price is larger
 pub own_price_at_most
-    : (file plan volumes prices : List ℕ) (c : ℕ) → priced_by file plan volumes prices ≡ Cents c → c ≤ max_own_price
+    : (file plan volumes prices : List ℕ) (c : ℕ) → priced_by file plan volumes prices ≡ Ok c → c ≤ max_own_price
 own_price_at_most file plan volumes prices c e =
     let (list, f, at) = price_listed file plan volumes prices c e in
     omega (arith, price_most list 9999 file plan volumes c (within prices list f) at)
@@ -195,9 +194,9 @@ own_price_by_number file plan volumes prices =
     (λ none. subst Read (sym (without_list file plan volumes prices none)) (go (priced file plan volumes) refl))
     (listed_or_none prices)
   where
-    Read : Price → Type 0
+    Read : Result ℕ ℕ → Type 0
     Read p = price_read (price_number p) ≡ p
 
-    go : (p : Price) → priced file plan volumes ≡ p → Read (unlisted p)
-    go (Cents c) e = refl
-    go (Refused k) e = subst Read e (price_by_number house_prices file plan volumes)
+    go : (p : Result ℕ ℕ) → priced file plan volumes ≡ p → Read (unlisted p)
+    go (Ok c) e = refl
+    go (Err k) e = subst Read e (price_by_number house_prices file plan volumes)

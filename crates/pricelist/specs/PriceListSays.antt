@@ -2,11 +2,10 @@
 -- of both other files; that the house table from a file gives the answers of the first call; how large a price can be; and that a caller reads
 -- the answer back from the number.
 -- Assumes nothing.
-use Rattle.std.specs.Prelude.{◌≡◌, ◌↔◌, List, [], ℕ, ◌≤◌, ◌<◌, length, get_or, replicate}
+use Rattle.std.specs.Prelude.{Ok, Err, ◌≡◌, ◌↔◌, List, [], ℕ, ◌≤◌, ◌<◌, length, get_or, replicate}
 use Rattle.job.specs.Job.{Job}
 use Rattle.lines.specs.Line.{at}
 use Rattle.jobfile.specs.File.{write_job}
-use Rattle.pricing.specs.declared.price.Price.TheVariants.{Cents, Refused}
 use Rattle.pricing.specs.Numbered.{ColumnFile, write_column}
 use Rattle.pricing.specs.Pricing.{house_prices, day_cost, priced_at, priced, price_number}
 use Rattle.pricing.specs.PricingSays.{Billable, Covers, PriceRefused, dearest, price_read}
@@ -36,7 +35,7 @@ AtItsPrices =
 abbrev pub SaysOwnPrice : Type 0
 SaysOwnPrice =
     (file plan volumes prices : List ℕ) (c : ℕ)
-    → (priced_by file plan volumes prices ≡ Cents c)
+    → (priced_by file plan volumes prices ≡ Ok c)
     ↔ ((j : Job) × (counts : List ℕ) × (list : List ℕ) × Billable file plan volumes j counts × PriceFile prices list
     × Covers (day_cost list j plan counts) c)
 
@@ -53,7 +52,7 @@ pub data OwnPriceRefused (file plan volumes prices : List ℕ) : ℕ → Type 0 
 abbrev pub RefusesOwnPrice : Type 0
 RefusesOwnPrice =
     (file plan volumes prices : List ℕ) (r : ℕ)
-    → (priced_by file plan volumes prices ≡ Refused r) ↔ OwnPriceRefused file plan volumes prices r
+    → (priced_by file plan volumes prices ≡ Err r) ↔ OwnPriceRefused file plan volumes prices r
 
 -- ---- the house table from a file
 
@@ -73,10 +72,10 @@ max_own_price = 5119482881
 
 -- the statement: no price is larger, and 512 watched points with 999,999 events a day have it at 9,999 cents per thousand
 pub record LargestOwnPrice : Type 0 where
-  pub at_most : (file plan volumes prices : List ℕ) (c : ℕ) → priced_by file plan volumes prices ≡ Cents c → c ≤ max_own_price
+  pub at_most : (file plan volumes prices : List ℕ) (c : ℕ) → priced_by file plan volumes prices ≡ Ok c → c ≤ max_own_price
   pub reached
       : priced_by (write_job dearest) (replicate 512 1) (write_column 86 0 (replicate 512 999999)) (write_column 66 0 (replicate 16 9999))
-      ≡ Cents max_own_price
+      ≡ Ok max_own_price
 
 -- ---- the number
 

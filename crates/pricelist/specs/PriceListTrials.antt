@@ -1,12 +1,10 @@
 -- Plans with their prices at an association's own prices, worked out by hand: PAIR of document 01, whose points have the symbols 0, 0 and 2, and
 -- the job with a point of each symbol. That they are priced so, `AllPricedBy own_trials`, is a theorem of `proofs/`.
 -- Assumes nothing.
-use Rattle.std.specs.Prelude.{◌≡◌, List, [], ◌∷◌, ◌++◌, ℕ, replicate}
+use Rattle.std.specs.Prelude.{Result, Ok, Err, ◌≡◌, List, [], ◌∷◌, ◌++◌, ℕ, replicate}
 use Prim.Native.String.{String}
 use Rattle.lines.specs.FieldTrials.{bytes_in}
 use Rattle.jobfile.specs.FileTrials.{lines_in, pair_lines, pair_file}
-use Rattle.pricing.specs.declared.price.Price.{Price}
-use Rattle.pricing.specs.declared.price.Price.TheVariants.{Cents, Refused}
 use Rattle.pricing.specs.PricingTrials.{all, own, none, thousands, cut, sixteen, many_thousands}
 use Rattle.pricelist.specs.PriceList.{priced_by}
 
@@ -16,10 +14,10 @@ pub record OwnTrial : Type 0 where
   pub plan : List ℕ
   pub volumes : List ℕ
   pub prices : List ℕ
-  pub answer : Price
+  pub answer : Result ℕ ℕ
 
 -- a row of the table
-abbrev pub costs : List ℕ → List ℕ → List ℕ → List ℕ → Price → OwnTrial
+abbrev pub costs : List ℕ → List ℕ → List ℕ → List ℕ → Result ℕ ℕ → OwnTrial
 costs file plan volumes prices answer = record { file = file; plan = plan; volumes = volumes; prices = prices; answer = answer }
 
 infixr 5 ◌and◌
@@ -140,46 +138,46 @@ unfoldable pub own_trials : List OwnTrial
 unfolding inner last dear free mingled lines_in bytes_in pair_file thousands cut sixteen many_thousands
 own_trials =
     -- the house table: 20 + 20 + 30, 20 + 30, nothing
-    costs pair_file all thousands house_table (Cents 70)
-    ∷ costs pair_file own thousands house_table (Cents 50)
-    ∷ costs pair_file none thousands house_table (Cents 0)
+    costs pair_file all thousands house_table (Ok 70)
+    ∷ costs pair_file own thousands house_table (Ok 50)
+    ∷ costs pair_file none thousands house_table (Ok 0)
     -- symbol 0 free, symbol 2 at 12; all free; free but for symbols that no point has
-    ∷ costs pair_file all thousands (beginning ("B     0     0" ∷ "B     1    25" ∷ "B     2    12" ∷ [])) (Cents 12)
-    ∷ costs pair_file all (lines_in ("V     0999999" ∷ "V     1999999" ∷ "V     2999999" ∷ [])) free (Cents 0)
-    ∷ costs pair_file all thousands (beginning ("B     0     0" ∷ "B     1  9999" ∷ "B     2     0" ∷ [])) (Cents 0)
+    ∷ costs pair_file all thousands (beginning ("B     0     0" ∷ "B     1    25" ∷ "B     2    12" ∷ [])) (Ok 12)
+    ∷ costs pair_file all (lines_in ("V     0999999" ∷ "V     1999999" ∷ "V     2999999" ∷ [])) free (Ok 0)
+    ∷ costs pair_file all thousands (beginning ("B     0     0" ∷ "B     1  9999" ∷ "B     2     0" ∷ [])) (Ok 0)
     -- 9,999 everywhere: 3 * 9,999; of as many events as can be 29,996,970,003 thousandths; of one event 9,999
-    ∷ costs pair_file all thousands dear (Cents 29997)
-    ∷ costs pair_file all (lines_in ("V     0999999" ∷ "V     1999999" ∷ "V     2999999" ∷ [])) dear (Cents 29996971)
-    ∷ costs pair_file all (lines_in ("V     0     1" ∷ "V     1     0" ∷ "V     2     0" ∷ [])) dear (Cents 10)
+    ∷ costs pair_file all thousands dear (Ok 29997)
+    ∷ costs pair_file all (lines_in ("V     0999999" ∷ "V     1999999" ∷ "V     2999999" ∷ [])) dear (Ok 29996971)
+    ∷ costs pair_file all (lines_in ("V     0     1" ∷ "V     1     0" ∷ "V     2     0" ∷ [])) dear (Ok 10)
     -- one event at each point, at 1, 1 and 2 cents per thousand: 4 thousandths, rounded once
     ∷ costs pair_file all (lines_in ("V     0     1" ∷ "V     1     1" ∷ "V     2     1" ∷ []))
-    (beginning ("B     0     1" ∷ "B     1     0" ∷ "B     2     2" ∷ [])) (Cents 1)
+    (beginning ("B     0     1" ∷ "B     1     0" ∷ "B     2     2" ∷ [])) (Ok 1)
     -- every symbol: 1 * 0 + 2 * 1 + 3 * 12 + .. + 16 * 3
-    ∷ costs sixteen (replicate 16 1) many_thousands mingled (Cents 211606)
+    ∷ costs sixteen (replicate 16 1) many_thousands mingled (Ok 211606)
     -- zeros before the digits
-    ∷ costs pair_file all thousands (beginning ("B000000000020" ∷ "B  0001   025" ∷ "B     2 00030" ∷ [])) (Cents 70)
+    ∷ costs pair_file all thousands (beginning ("B000000000020" ∷ "B  0001   025" ∷ "B     2 00030" ∷ [])) (Ok 70)
     -- 28: the last line missing; a line for each symbol of the job alone; all missing; a line more; a byte more; the last byte missing
-    ∷ costs pair_file all thousands (headed inner) (Refused 28)
-    ∷ costs pair_file all thousands (headed []) (Refused 28)
-    ∷ costs pair_file all thousands [] (Refused 28)
-    ∷ costs pair_file all thousands (house_table ++ lines_in ("B    16   100" ∷ [])) (Refused 28)
-    ∷ costs pair_file all thousands (house_table ++ (10 ∷ [])) (Refused 28)
-    ∷ costs pair_file all thousands (headed (inner ++ bytes_in "B    15    95")) (Refused 28)
+    ∷ costs pair_file all thousands (headed inner) (Err 28)
+    ∷ costs pair_file all thousands (headed []) (Err 28)
+    ∷ costs pair_file all thousands [] (Err 28)
+    ∷ costs pair_file all thousands (house_table ++ lines_in ("B    16   100" ∷ [])) (Err 28)
+    ∷ costs pair_file all thousands (house_table ++ (10 ∷ [])) (Err 28)
+    ∷ costs pair_file all thousands (headed (inner ++ bytes_in "B    15    95")) (Err 28)
     -- 28: out of order; a symbol twice, also in the last line; 10,000, also there; another letter; a field that is none, a sign, a space after
     -- the digits
-    ∷ costs pair_file all thousands (beginning ("B     1    25" ∷ "B     0    20" ∷ "B     2    30" ∷ [])) (Refused 28)
-    ∷ costs pair_file all thousands (beginning ("B     0    20" ∷ "B     0    20" ∷ "B     2    30" ∷ [])) (Refused 28)
-    ∷ costs pair_file all thousands (headed (inner ++ lines_in ("B    14    95" ∷ []))) (Refused 28)
-    ∷ costs pair_file all thousands (beginning ("B     0    20" ∷ "B     1 10000" ∷ "B     2    30" ∷ [])) (Refused 28)
-    ∷ costs pair_file all thousands (headed (inner ++ lines_in ("B    15 10000" ∷ []))) (Refused 28)
-    ∷ costs pair_file all thousands (beginning ("V     0    20" ∷ "B     1    25" ∷ "B     2    30" ∷ [])) (Refused 28)
-    ∷ costs pair_file all thousands (beginning ("B     0      " ∷ "B     1    25" ∷ "B     2    30" ∷ [])) (Refused 28)
-    ∷ costs pair_file all thousands (beginning ("B     0   -20" ∷ "B     1    25" ∷ "B     2    30" ∷ [])) (Refused 28)
-    ∷ costs pair_file all thousands (beginning ("B     0   20 " ∷ "B     1    25" ∷ "B     2    30" ∷ [])) (Refused 28)
+    ∷ costs pair_file all thousands (beginning ("B     1    25" ∷ "B     0    20" ∷ "B     2    30" ∷ [])) (Err 28)
+    ∷ costs pair_file all thousands (beginning ("B     0    20" ∷ "B     0    20" ∷ "B     2    30" ∷ [])) (Err 28)
+    ∷ costs pair_file all thousands (headed (inner ++ lines_in ("B    14    95" ∷ []))) (Err 28)
+    ∷ costs pair_file all thousands (beginning ("B     0    20" ∷ "B     1 10000" ∷ "B     2    30" ∷ [])) (Err 28)
+    ∷ costs pair_file all thousands (headed (inner ++ lines_in ("B    15 10000" ∷ []))) (Err 28)
+    ∷ costs pair_file all thousands (beginning ("V     0    20" ∷ "B     1    25" ∷ "B     2    30" ∷ [])) (Err 28)
+    ∷ costs pair_file all thousands (beginning ("B     0      " ∷ "B     1    25" ∷ "B     2    30" ∷ [])) (Err 28)
+    ∷ costs pair_file all thousands (beginning ("B     0   -20" ∷ "B     1    25" ∷ "B     2    30" ∷ [])) (Err 28)
+    ∷ costs pair_file all thousands (beginning ("B     0   20 " ∷ "B     1    25" ∷ "B     2    30" ∷ [])) (Err 28)
     -- the order: 16 before 28, and so 12, 11 and the job's; 16 beside a good price file
-    ∷ costs pair_file all cut [] (Refused 16)
-    ∷ costs pair_file (1 ∷ 2 ∷ 1 ∷ []) thousands [] (Refused 12)
-    ∷ costs pair_file (1 ∷ 1 ∷ []) thousands [] (Refused 11)
-    ∷ costs (lines_in pair_lines) all thousands [] (Refused 3)
-    ∷ costs pair_file all cut house_table (Refused 16)
+    ∷ costs pair_file all cut [] (Err 16)
+    ∷ costs pair_file (1 ∷ 2 ∷ 1 ∷ []) thousands [] (Err 12)
+    ∷ costs pair_file (1 ∷ 1 ∷ []) thousands [] (Err 11)
+    ∷ costs (lines_in pair_lines) all thousands [] (Err 3)
+    ∷ costs pair_file all cut house_table (Err 16)
     ∷ []

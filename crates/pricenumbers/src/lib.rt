@@ -2,19 +2,20 @@
 #![tactic(auto)]
 
 ghost use Rattle.std.specs.Prelude.{◌≡◌};
+ghost use Rattle.refusal.specs.Refusal.{said};
 ghost use Rattle.pricing.specs.Pricing.{price_number};
 ghost use Rattle.pricing.specs.Inner.{CentsFit};
 
 use callnumber::ACCEPTED;
-use pricing::price::Price;
+use refusal::Refusal;
 
 // 2^48 plus the cents, or the refusal's number.
-pub fn of_price(price: Price) -> u64
-    requires { CentsFit price }
-    ensures { result ≡ price_number price }
+pub fn of_price(price: Result<u64, Refusal>) -> u64
+    requires { CentsFit (said price) }
+    ensures { result ≡ price_number (said price) }
 {
     match price {
-        Price::Cents(cents) => ACCEPTED + cents,
-        Price::Refused(number) => number,
+        Ok(cents) => ACCEPTED + cents,
+        Err(refusal) => u64::from(refusal),
     }
 }

@@ -1,5 +1,6 @@
 -- Laws of the price file's lines, in the shape of the code.
 -- Assumes nothing.
+use Rattle.std.specs.Prelude.{Option, Some, None}
 use mathlib.Core.Path.{◌≡◌, sym, ap, ◌∙◌, subst}
 use mathlib.Core.Logic.{by_cases}
 use mathlib.Core.Bool.{true, false}
@@ -12,8 +13,6 @@ use lib.ListN.{length, drop, get_or, set, length-set}
 use lib.Seq.{get_or-set_same, get_or-set_other}
 use Rattle.laws.specs.Bounded.{tab}
 use Rattle.laws.proofs.Bounded.{fill_more, fill_done}
-use Rattle.lines.specs.declared.field.Field.{Field}
-use Rattle.lines.specs.declared.field.Field.TheVariants.{Number, Malformed}
 use Rattle.lines.specs.Line.{line_of}
 use Rattle.lines.proofs.LinesLaws.{passed_more}
 use Rattle.pricing.specs.Numbered.{column}
@@ -46,7 +45,7 @@ module _ (file : List ℕ) where
 
   -- one symbol more
   pub read_next
-      : (list : List ℕ) (s v : ℕ) (f : Field) → s < 16 → ReadSoFar list s → f ≡ number_due 9999 s (line_of 66 2 (drop (s * 14) file)) → f ≡ Number v
+      : (list : List ℕ) (s v : ℕ) (f : Option ℕ) → s < 16 → ReadSoFar list s → f ≡ number_due 9999 s (line_of 66 2 (drop (s * 14) file)) → f ≡ Some v
       → ReadSoFar (set list s v) (s + 1)
   read_next list s v f l so due number =
       let (good, price, few) = line_passes 66 9999 28 file s v (sym due ∙ number) in
@@ -62,7 +61,7 @@ module _ (file : List ℕ) where
 
   -- a line that does not pass
   pub read_stop
-      : (list : List ℕ) (s : ℕ) (f : Field) → s < 16 → ReadSoFar list s → f ≡ number_due 9999 s (line_of 66 2 (drop (s * 14) file)) → f ≡ Malformed
+      : (list : List ℕ) (s : ℕ) (f : Option ℕ) → s < 16 → ReadSoFar list s → f ≡ number_due 9999 s (line_of 66 2 (drop (s * 14) file)) → f ≡ None
       → PricesRead file list false
   read_stop list s f l so due none =
       record { is = column_stop 66 9999 28 file 16 (lit< tt) s l so.passed (sym due ∙ none); fits = so.fits }

@@ -2,12 +2,12 @@
 #![tactic(auto)]
 
 ghost use Rattle.std.specs.Prelude.{◌≡◌};
+ghost use Rattle.refusal.specs.Refusal.{said};
 ghost use Rattle.pricelist.specs.Inner.{SixteenFit, PricesRead};
 ghost use Rattle.pricelist.specs.PriceList.{unlisted};
 
-use lines::field::Field;
 use numberedline::numbered_line;
-use pricing::price::Price;
+use refusal::Refusal;
 
 // Reads the prices of a price file, cents per thousand events of each symbol: whether it is exactly its sixteen B lines.
 pub fn read_prices(file: &[u8], prices: &mut [u64]) -> bool
@@ -17,23 +17,21 @@ pub fn read_prices(file: &[u8], prices: &mut [u64]) -> bool
     if file.len() != 224 {
         return false;
     }
-    let mut s = 0;
-    while s < 16 {
-        let Field::Number(price) = numbered_line(file, s * 14, 66, s as u64, 9999) else {
+    for s in 0..16 {
+        let Some(price) = numbered_line(file, s * 14, 66, s as u64, 9999) else {
             return false;
         };
         prices[s] = price;
-        s += 1;
     }
     true
 }
 
 // The answer where the price file is not its lines: 28 in place of a price.
-pub fn without_prices(price: Price) -> Price
-    ensures { result ≡ unlisted price }
+pub fn without_prices(price: Result<u64, Refusal>) -> Result<u64, Refusal>
+    ensures { said result ≡ unlisted (said price) }
 {
     match price {
-        Price::Cents(_) => Price::Refused(28),
-        Price::Refused(number) => Price::Refused(number),
+        Ok(_) => Err(Refusal::WrongPrices),
+        Err(refusal) => Err(refusal),
     }
 }

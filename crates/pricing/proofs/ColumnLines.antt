@@ -1,5 +1,6 @@
 -- A file of numbered lines, read line by line: another length, a line that does not pass, all lines.
 -- Assumes nothing.
+use Rattle.std.specs.Prelude.{Some, None}
 use mathlib.Core.Path.{◌≡◌, ap, ◌∙◌}
 use mathlib.Core.List.{List, []}
 use Prim.Native.Nat.{ℕ, ◌*◌, ◌≤◌, ◌<◌}
@@ -7,7 +8,6 @@ use native.Mathlib.Omega.{arith}
 use lib.ListN.{length, drop, drop_of_length-le, length-map, get_or-map}
 use Rattle.laws.specs.Bounded.{tab}
 use Rattle.laws.proofs.Bounded.{length_tab, get_d_tab, fill_done}
-use Rattle.lines.specs.declared.field.Field.TheVariants.{Number, Malformed}
 use Rattle.lines.specs.Line.{at, line_of}
 use Rattle.lines.specs.Lines.{lines}
 use Rattle.lines.specs.Places.{due_at, numbers_at, before_at, status_at}
@@ -28,7 +28,7 @@ module _ (letter limit refusal : ℕ) (file : List ℕ) where
 
   -- a line that passes, and its number
   pub line_passes
-      : (n v : ℕ) → number_due limit n (line_of letter 2 (drop (n * 14) file)) ≡ Number v
+      : (n v : ℕ) → number_due limit n (line_of letter 2 (drop (n * 14) file)) ≡ Some v
       → (status_at (numbered_line letter limit refusal) file n ≡ 0) × (number_at n ≡ v) × (v ≤ limit)
   unfolding status_at due_at numbers_at
   line_passes n v e =
@@ -45,7 +45,7 @@ module _ (letter limit refusal : ℕ) (file : List ℕ) where
     module _ (some : 0 < refusal) where
       -- a line that does not pass
       pub column_stop
-          : (n : ℕ) → n < c → Passed n → number_due limit n (line_of letter 2 (drop (n * 14) file)) ≡ Malformed
+          : (n : ℕ) → n < c → Passed n → number_due limit n (line_of letter 2 (drop (n * 14) file)) ≡ None
           → column_in (numbered_line letter limit refusal) c file ≡ not_these_lines
       unfolding status_at due_at
       column_stop n l passed none =

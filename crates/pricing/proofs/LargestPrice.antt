@@ -1,6 +1,7 @@
 -- How large a price can be at prices up to a limit, and a job that reaches it; at the house prices, 48,639,952 cents.
 -- Why: at most 512 points, each of at most 999,999 events a day at no more than the limit.
 -- Assumes nothing.
+use Rattle.std.specs.Prelude.{Ok}
 use mathlib.Core.Path.{◌≡◌, refl, sym, ap, ◌∙◌}
 use mathlib.Core.Logic.{by_cases}
 use mathlib.Core.Bool.{true, false, true≢false}
@@ -23,7 +24,6 @@ use Rattle.jobfile.specs.Spellable.{no_edge, Spellable}
 use Rattle.jobfile.proofs.SpelledNodes.{none_below}
 use Rattle.jobfile.proofs.SpellableLaws.{read_written, written_read}
 use Rattle.checking.specs.CheckingSays.{watched}
-use Rattle.pricing.specs.declared.price.Price.TheVariants.{Cents}
 use Rattle.pricing.specs.Numbered.{write_column}
 use Rattle.pricing.specs.Pricing.{volume_line, house_prices, cost, day_cost, cents_of, priced_at, priced}
 use Rattle.pricing.specs.PricingSays.{Billable, max_price, dearest, LargestPrice}
@@ -140,12 +140,12 @@ dear_cost prices p n is =
 -- the price of 512 points
 pub dearest_price
     : (prices : List ℕ) (p : ℕ) → get_or prices 15 0 ≡ p
-    → priced_at prices (write_job dearest) (replicate 512 1) (write_column 86 0 (replicate 512 999999)) ≡ Cents (cents_of (512 * (999999 * p)))
+    → priced_at prices (write_job dearest) (replicate 512 1) (write_column 86 0 (replicate 512 999999)) ≡ Ok (cents_of (512 * (999999 * p)))
 unfolding dear_job
 dearest_price prices p is =
     price_of prices (write_job dearest) (replicate 512 1) (write_column 86 0 (replicate 512 999999))
     (dear_billable 512 (omega arith) (omega arith))
-    ∙ ap (λ (t : ℕ). Cents (cents_of t)) (dear_cost prices p 512 is)
+    ∙ ap (λ (t : ℕ). Ok (cents_of t)) (dear_cost prices p 512 is)
 
 -- ---- no price is larger
 
@@ -167,7 +167,7 @@ day_cost_most prices top j plan counts most within =
 -- so no price is above that of 512 such points
 pub price_most
     : (prices : List ℕ) (top : ℕ) (file plan volumes : List ℕ) (c : ℕ) → ((s : ℕ) → get_or prices s 0 ≤ top)
-    → priced_at prices file plan volumes ≡ Cents c → c ≤ cents_of (512 * (999999 * top))
+    → priced_at prices file plan volumes ≡ Ok c → c ≤ cents_of (512 * (999999 * top))
 price_most prices top file plan volumes c most e =
     let (j, counts, b, is) = price_sum prices file plan volumes e in
     let few = mul-le-mul_right (999999 * top) (read_written file j b.spells).1.few_nodes in
@@ -179,7 +179,7 @@ price_most prices top file plan volumes c most e =
     )
 
 -- no price is larger
-pub price_at_most : (file plan volumes : List ℕ) (c : ℕ) → priced file plan volumes ≡ Cents c → c ≤ max_price
+pub price_at_most : (file plan volumes : List ℕ) (c : ℕ) → priced file plan volumes ≡ Ok c → c ≤ max_price
 price_at_most file plan volumes c e = omega (arith, price_most house_prices 95 file plan volumes c house_price_most e)
 
 -- the largest price

@@ -8,7 +8,7 @@ use Prim.Native.Nat.{ℕ}
 use native.Mathlib.Omega.{arith}
 use lib.ListN.{length, replicate, length-map}
 use Rattle.lines.specs.Line.{at, write_lines}
-use Rattle.lines.specs.Lines.{LineKind, lines, lines_of}
+use Rattle.lines.specs.Lines.{LineKind, lines_of}
 use Rattle.lines.specs.Alike.{Equal, NoZerosOver, all_due, AlikeFiles}
 use Rattle.lines.specs.Written.{Stand, GoodLines, good_none, Good-more}
 use Rattle.lines.proofs.SpelledLines.{written_stand}

@@ -1,6 +1,7 @@
 -- Files of numbered lines: the test of a line, the numbers that are read, the file that is written of numbers, and the line that is due.
 -- Lines that are read are those that stand in the file; numbers within their limit are written as good lines.
 -- Assumes nothing.
+use Rattle.std.specs.Prelude.{Option, Some, None}
 use mathlib.Core.Path.{◌≡◌, refl, sym, ap, ◌∙◌}
 use mathlib.Core.Logic.{◌↔◌}
 use mathlib.Core.Bool.{Bool, true, false, cond, and-eq-true_iff}
@@ -10,8 +11,6 @@ use native.Mathlib.Omega.{arith}
 use lib.Dec.{eqb, leb}
 use lib.ListN.{length, get_or}
 use borrow.Author.Tests.{eq-eqb, le-leb, eqb-true, leb-true}
-use Rattle.lines.specs.declared.field.Field.{Field}
-use Rattle.lines.specs.declared.field.Field.TheVariants.{Number, Malformed}
 use Rattle.lines.specs.Line.{line, at, write_lines, Due, ends, no_line, found}
 use Rattle.lines.specs.Lines.{LineKind, Lines, lines, refused, lines_of}
 use Rattle.lines.specs.Places.{numbers_of as numbers_due, status_of}
@@ -187,27 +186,27 @@ column_places letter limit refusal c file numbers f n l =
 -- ---- the line that is due
 
 -- a field's number, and whether there is one
-abbrev number_in : Field → ℕ
-number_in (Number n) = n
-number_in Malformed = 0
+abbrev number_in : Option ℕ → ℕ
+number_in (Some n) = n
+number_in None = 0
 
-abbrev is_number : Field → ℕ
-is_number (Number n) = 1
-is_number Malformed = 0
+abbrev is_number : Option ℕ → ℕ
+is_number (Some n) = 1
+is_number None = 0
 
 -- a line whose test has this outcome
-tested_number : (t : Bool) (ns : List ℕ) (v : ℕ) → cond t (Number (at ns 1)) Malformed ≡ Number v → (t ≡ true) × (at ns 1 ≡ v)
+tested_number : (t : Bool) (ns : List ℕ) (v : ℕ) → cond t (Some (at ns 1)) None ≡ Some v → (t ≡ true) × (at ns 1 ≡ v)
 tested_number true ns v e = (refl, ap number_in e)
 tested_number false ns v e = let z : ◌≡◌ {A = ℕ} 0 1 = ap is_number e in absurd (omega arith)
 
-tested_none : (t : Bool) (r : ℕ) (ns : List ℕ) → 0 < r → cond t (Number (at ns 1)) Malformed ≡ Malformed → cond t 0 r ≡ 0 → ⊥
+tested_none : (t : Bool) (r : ℕ) (ns : List ℕ) → 0 < r → cond t (Some (at ns 1)) None ≡ None → cond t 0 r ≡ 0 → ⊥
 tested_none true r ns some e z = let one : ◌≡◌ {A = ℕ} 1 0 = ap is_number e in omega arith
 tested_none false r ns some e z = omega arith
 
 module _ (letter limit refusal i : ℕ) (before : List ℕ) where
   -- one that passes, with the number beside its place
   pub due_number
-      : (d : Due) (v : ℕ) → number_due limit i d ≡ Number v
+      : (d : Due) (v : ℕ) → number_due limit i d ≡ Some v
       → (status_of (numbered_line letter limit refusal) i before d ≡ 0) × (at (numbers_due d) 1 ≡ v) × (v ≤ limit)
   due_number ends v e = let z : ◌≡◌ {A = ℕ} 0 1 = ap is_number e in absurd (omega arith)
   due_number no_line v e = let z : ◌≡◌ {A = ℕ} 0 1 = ap is_number e in absurd (omega arith)
@@ -217,7 +216,7 @@ module _ (letter limit refusal i : ℕ) (before : List ℕ) where
       (ap (λ (t : Bool). cond t 0 refusal) good.0, good.1, omega (arith, within.1, good.1))
 
   -- one that does not
-  pub due_none : (d : Due) → 0 < refusal → number_due limit i d ≡ Malformed → status_of (numbered_line letter limit refusal) i before d ≡ 0 → ⊥
+  pub due_none : (d : Due) → 0 < refusal → number_due limit i d ≡ None → status_of (numbered_line letter limit refusal) i before d ≡ 0 → ⊥
   due_none ends some e z = omega arith
   due_none no_line some e z = omega arith
   due_none (found ns) some e z = tested_none (good_numbered limit i [] ns) refusal ns some e z

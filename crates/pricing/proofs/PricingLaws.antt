@@ -1,5 +1,6 @@
 -- Laws of pricing, in the order of its tests: each refusal, and the price.
 -- Assumes nothing.
+use Rattle.std.specs.Prelude.{Err}
 use mathlib.Core.Path.{◌≡◌, ap}
 use mathlib.Core.Bool.{Bool, true, false}
 use mathlib.Core.List.{List}
@@ -11,7 +12,6 @@ use borrow.Author.Tests.{eq-eqb, ne_eqb}
 use Rattle.job.specs.Job.{Point, no_point, point, Job}
 use Rattle.jobfile.specs.File.{Answer, accepted, turned, read_job}
 use Rattle.checking.specs.Checking.{good_marks}
-use Rattle.pricing.specs.declared.price.Price.TheVariants.{Refused}
 use Rattle.pricing.specs.Numbered.{Column, column_in}
 use Rattle.pricing.specs.Pricing.{volume_line, cost, cents_of, billed, priced_job, answered_at, priced_at}
 use Rattle.pricing.specs.PricingSays.{Covers}
@@ -20,12 +20,12 @@ use Rattle.pricing.specs.PricingSays.{Covers}
 
 module _ (prices : List ℕ) (j : Job) (plan volumes : List ℕ) where
   -- refusal 11
-  pub priced_11 : (length plan ≡ length j.nodes → ⊥) → priced_job prices j plan volumes ≡ Refused 11
+  pub priced_11 : (length plan ≡ length j.nodes → ⊥) → priced_job prices j plan volumes ≡ Err 11
   unfolding priced_job
   priced_11 h = simp (ne_eqb (length plan) (length j.nodes) h)
 
   -- refusal 12
-  pub priced_12 : length plan ≡ length j.nodes → good_marks j plan ≡ false → priced_job prices j plan volumes ≡ Refused 12
+  pub priced_12 : length plan ≡ length j.nodes → good_marks j plan ≡ false → priced_job prices j plan volumes ≡ Err 12
   unfolding priced_job
   priced_12 h g = simp (eq-eqb (length plan) (length j.nodes) h, g)
 
@@ -40,7 +40,7 @@ module _ (prices : List ℕ) (j : Job) (plan volumes : List ℕ) where
 
 module _ (prices file plan volumes : List ℕ) where
   -- it is turned back
-  pub priced_turned : (k : ℕ) → read_job file ≡ turned k → priced_at prices file plan volumes ≡ Refused k
+  pub priced_turned : (k : ℕ) → read_job file ≡ turned k → priced_at prices file plan volumes ≡ Err k
   unfolding priced_at
   priced_turned k e = ap (λ (a : Answer). answered_at prices a plan volumes) e
 

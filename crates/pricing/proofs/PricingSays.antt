@@ -1,6 +1,7 @@
 -- The answers of pricing say what stands in the file, the plan and the volume file, and are read back from the number.
 -- Why: the tests are made in the order of the refusals, and each says in words what it tests.
 -- Assumes nothing.
+use Rattle.std.specs.Prelude.{Result, Ok, Err}
 use mathlib.Core.Path.{◌≡◌, refl, sym, ap, ◌∙◌}
 use mathlib.Core.Logic.{⊎_elim}
 use mathlib.Core.Bool.{Bool, true, false, ◌&&◌, true≢false}
@@ -20,8 +21,6 @@ use Rattle.jobfile.proofs.ListingFits.{listing_fits}
 use Rattle.checking.specs.Checking.{good_marks}
 use Rattle.checking.proofs.CheckLaws.{marks}
 use Rattle.checking.proofs.CheckingSays.{mark_good, marks_say}
-use Rattle.pricing.specs.declared.price.Price.{Price}
-use Rattle.pricing.specs.declared.price.Price.TheVariants.{Cents, Refused}
 use Rattle.pricing.specs.Numbered.{Column, column, not_these_lines, column_in}
 use Rattle.pricing.specs.Pricing.{volume_line, house_prices, day_cost, cents_of, priced_job, priced_at, price_number}
 use Rattle.pricing.specs.PricingSays.{Billable, SaysPrice, PriceRefused, job_refused, other_length, other_mark, other_lines, RefusesPrice, CostsSay, HousePricesSay, price_read, PriceByNumber}
@@ -48,14 +47,14 @@ fails_at (suc n) f h =
 
 module _ (prices file plan volumes : List ℕ) where
   -- an answer, with what it says
-  data Says : Price → Type 0 where
+  data Says : Result ℕ ℕ → Type 0 where
     has_price
-        : {j : Job} {counts : List ℕ} → Billable file plan volumes j counts → Says (Cents (cents_of (day_cost prices j plan counts)))
-    has_refusal : {r : ℕ} → PriceRefused file plan volumes r → Says (Refused r)
+        : {j : Job} {counts : List ℕ} → Billable file plan volumes j counts → Says (Ok (cents_of (day_cost prices j plan counts)))
+    has_refusal : {r : ℕ} → PriceRefused file plan volumes r → Says (Err r)
 
   module _ (j : Job) (spells : read_job file ≡ accepted j) where
     -- the answer for the file is that of its job
-    of_job : {p : Price} → priced_job prices j plan volumes ≡ p → Says p → Says (priced_at prices file plan volumes)
+    of_job : {p : Result ℕ ℕ} → priced_job prices j plan volumes ≡ p → Says p → Says (priced_at prices file plan volumes)
     of_job e s = rw (priced_job_lem prices file plan volumes j spells, e) s
 
     -- past 11 and 12
@@ -104,7 +103,7 @@ module _ (prices file plan volumes : List ℕ) where
   -- where nothing is turned back, the price is that of the sum
   pub price_of
       : {j : Job} {counts : List ℕ} → Billable file plan volumes j counts
-      → priced_at prices file plan volumes ≡ Cents (cents_of (day_cost prices j plan counts))
+      → priced_at prices file plan volumes ≡ Ok (cents_of (day_cost prices j plan counts))
   price_of {j} {counts} b =
       priced_job_lem prices file plan volumes j b.spells
       ∙ priced_billed prices j plan volumes (column counts) b.bytes ((marks_say j plan).1 b.marks)
@@ -112,17 +111,17 @@ module _ (prices file plan volumes : List ℕ) where
 
   -- a price is that of the sum, and nothing is turned back
   pub price_sum
-      : {c : ℕ} → priced_at prices file plan volumes ≡ Cents c
+      : {c : ℕ} → priced_at prices file plan volumes ≡ Ok c
       → (j : Job) × (counts : List ℕ) × Billable file plan volumes j counts × (c ≡ cents_of (day_cost prices j plan counts))
   price_sum {c} e = only (rw e at said)
     where
       only
-          : {p : ℕ} → Says (Cents p)
+          : {p : ℕ} → Says (Ok p)
           → (j : Job) × (counts : List ℕ) × Billable file plan volumes j counts × (p ≡ cents_of (day_cost prices j plan counts))
       only (has_price {j} {counts} b) = (j, counts, b, refl)
 
   -- the first that fails is the refusal
-  refused_answer : {r : ℕ} → PriceRefused file plan volumes r → priced_at prices file plan volumes ≡ Refused r
+  refused_answer : {r : ℕ} → PriceRefused file plan volumes r → priced_at prices file plan volumes ≡ Err r
   refused_answer (job_refused {r} e) = priced_turned prices file plan volumes r e
   refused_answer (other_length {j} e other) = priced_job_lem prices file plan volumes j e ∙ priced_11 prices j plan volumes other
   refused_answer (other_mark {j} {n} e bytes within bad) =
@@ -138,14 +137,14 @@ module _ (prices file plan volumes : List ℕ) where
 pub price_says : SaysPrice
 price_says prices file plan volumes c = (
   λ e. let (j, counts, b, is) = price_sum prices file plan volumes e in (j, counts, b, cents_covers is),
-  λ (j, counts, b, covers). price_of prices file plan volumes b ∙ ap Cents (sym (covers_cents covers)),
+  λ (j, counts, b, covers). price_of prices file plan volumes b ∙ ap Ok (sym (covers_cents covers)),
 )
 
 -- a refusal is said of the first that fails
 pub price_refused : RefusesPrice
 price_refused prices file plan volumes r = (λ e. only (rw e at (said prices file plan volumes)), refused_answer prices file plan volumes)
   where
-    only : {k : ℕ} → Says prices file plan volumes (Refused k) → PriceRefused file plan volumes k
+    only : {k : ℕ} → Says prices file plan volumes (Err k) → PriceRefused file plan volumes k
     only (has_refusal b) = b
 
 -- ---- what a node costs, and the house prices
@@ -163,9 +162,9 @@ house_prices_say =
 -- ---- the number
 
 -- a refusal's number is small
-abbrev SmallRefusal : Price → Type 0
-SmallRefusal (Cents c) = Unit {0}
-SmallRefusal (Refused k) = k ≤ 16
+abbrev SmallRefusal : Result ℕ ℕ → Type 0
+SmallRefusal (Ok c) = Unit {0}
+SmallRefusal (Err k) = k ≤ 16
 
 -- that of pricing
 priced_small : (prices file plan volumes : List ℕ) → SmallRefusal (priced_at prices file plan volumes)
@@ -177,14 +176,14 @@ priced_small prices file plan volumes = go (said prices file plan volumes)
     small (other_mark e bytes within bad) = omega arith
     small (other_lines e bytes marks none) = omega arith
 
-    go : {p : Price} → Says prices file plan volumes p → SmallRefusal p
+    go : {p : Result ℕ ℕ} → Says prices file plan volumes p → SmallRefusal p
     go (has_price b) = tt
     go (has_refusal b) = small b
 
 -- an answer with a small refusal is read back
-read_small : (p : Price) → SmallRefusal p → price_read (price_number p) ≡ p
-read_small (Cents c) s = simp (le-leb accepted_from (accepted_from + c) (omega arith)) (ap Cents (omega arith))
-read_small (Refused k) s = simp (lt-leb accepted_from k (omega arith))
+read_small : (p : Result ℕ ℕ) → SmallRefusal p → price_read (price_number p) ≡ p
+read_small (Ok c) s = simp (le-leb accepted_from (accepted_from + c) (omega arith)) (ap Ok (omega arith))
+read_small (Err k) s = simp (lt-leb accepted_from k (omega arith))
 
 -- the answer is read back
 pub price_by_number : PriceByNumber

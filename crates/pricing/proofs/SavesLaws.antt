@@ -1,6 +1,7 @@
 -- What a plan saves: a plan costs no more than one in which its watched points are watched, so none costs more than all points watched. Each
 -- node costs no more, so the sum is no larger, and neither are its cents.
 -- Assumes nothing.
+use Rattle.std.specs.Prelude.{Ok}
 use mathlib.Core.Path.{◌≡◌, refl, sym, subst}
 use mathlib.Core.Logic.{⊎_elim}
 use mathlib.Core.Bool.{Bool, true, false, true≢false}
@@ -21,7 +22,6 @@ use Rattle.planning.proofs.PlanBytes.{enabled_byte, enabled_within, all_enabled_
 use Rattle.planning.proofs.PlanningResult.{planned_plan}
 use Rattle.jobfile.specs.File.{accepted, read_job}
 use Rattle.checking.specs.CheckingSays.{MarkFor, unwatched, watched}
-use Rattle.pricing.specs.declared.price.Price.TheVariants.{Cents}
 use Rattle.pricing.specs.Numbered.{ColumnFile}
 use Rattle.pricing.specs.Pricing.{volume_line, cost, day_cost, cents_of, priced_at}
 use Rattle.pricing.specs.PricingSays.{Billable, WatchedIn, Saves}
@@ -63,8 +63,8 @@ one_column {c} {volumes} {m} {n} f g = cc ((column_says volume_line c volumes m)
 
 -- a plan costs no more than one in which its watched points are watched
 no_dearer
-    : (prices file plan other volumes : List ℕ) (c d : ℕ) → WatchedIn plan other → priced_at prices file plan volumes ≡ Cents c
-    → priced_at prices file other volumes ≡ Cents d → c ≤ d
+    : (prices file plan other volumes : List ℕ) (c d : ℕ) → WatchedIn plan other → priced_at prices file plan volumes ≡ Ok c
+    → priced_at prices file other volumes ≡ Ok d → c ≤ d
 no_dearer prices file plan other volumes c d h p q =
     let (i, m, a, c_is) = price_sum prices file plan volumes p in
     let (j, n, b, d_is) = price_sum prices file other volumes q in
@@ -114,7 +114,7 @@ module _ (prices : List ℕ) {file plan volumes counts : List ℕ} {j : Job} (b 
       all_enabled_event j n (marked_event (b.marks n (omega (arith, enabled_within plan n w, b.bytes))) (enabled_byte plan n w))
 
   -- the price of all points watched, beside the same volumes
-  all_price : priced_at prices file (all_enabled j) volumes ≡ Cents (cents_of (day_cost prices j (all_enabled j) counts))
+  all_price : priced_at prices file (all_enabled j) volumes ≡ Ok (cents_of (day_cost prices j (all_enabled j) counts))
   all_price = price_of prices file (all_enabled j) volumes (plan_billable (all_enabled j) b.spells b.lines (all_enabled_plan j))
 
   -- it is no less than the plan's
@@ -123,8 +123,8 @@ module _ (prices : List ℕ) {file plan volumes counts : List ℕ} {j : Job} (b 
 
 -- no plan that has a price costs more than all points watched
 at_most_all
-    : (prices file plan volumes : List ℕ) (c : ℕ) → priced_at prices file plan volumes ≡ Cents c
-    → (j : Job) × (d : ℕ) × (read_job file ≡ accepted j) × (priced_at prices file (all_enabled j) volumes ≡ Cents d) × (c ≤ d)
+    : (prices file plan volumes : List ℕ) (c : ℕ) → priced_at prices file plan volumes ≡ Ok c
+    → (j : Job) × (d : ℕ) × (read_job file ≡ accepted j) × (priced_at prices file (all_enabled j) volumes ≡ Ok d) × (c ≤ d)
 at_most_all prices file plan volumes c e =
     let (j, counts, b, is) = price_sum prices file plan volumes e in
     (j, cents_of (day_cost prices j (all_enabled j) counts), b.spells, all_price prices b, omega (arith, is, all_no_less prices b))
@@ -132,7 +132,7 @@ at_most_all prices file plan volumes c e =
 -- planning's own plan has a price, beside a volume file of its lines
 planned
     : (prices file volumes counts : List ℕ) (j : Job) → read_job file ≡ accepted j → ColumnFile volume_line (length j.nodes) volumes counts
-    → (c : ℕ) × (d : ℕ) × (priced_at prices file (plan_of j).plan volumes ≡ Cents c) × (priced_at prices file (all_enabled j) volumes ≡ Cents d)
+    → (c : ℕ) × (d : ℕ) × (priced_at prices file (plan_of j).plan volumes ≡ Ok c) × (priced_at prices file (all_enabled j) volumes ≡ Ok d)
     × (c ≤ d)
 planned prices file volumes counts j spells lines =
     let own = plan_billable (plan_of j).plan spells lines (planned_plan (faithful j) j) in (

@@ -1,7 +1,7 @@
 -- What the answers of pricing say (document 02, "Journal price of a plan"): of the file, the plan and the lines of the volume file, and not of
 -- how they are read; what a plan saves; how large a price can be; and that a caller reads the answer back from the number.
 -- Assumes nothing.
-use Rattle.std.specs.Prelude.{◌≡◌, ◌≢◌, ◌↔◌, Bool, true, false, cond, List, [], ◌∷◌, ℕ, ◌+◌, ◌-◌, ◌*◌, ◌≤◌, ◌<◌, leb, length, get_or, replicate}
+use Rattle.std.specs.Prelude.{Result, Ok, Err, ◌≡◌, ◌≢◌, ◌↔◌, Bool, true, false, cond, List, [], ◌∷◌, ℕ, ◌+◌, ◌-◌, ◌*◌, ◌≤◌, ◌<◌, leb, length, get_or, replicate}
 use Rattle.callnumber.specs.CallNumber.{accepted_from}
 use Rattle.automaton.specs.Automaton.{automaton_of}
 use Rattle.job.specs.Job.{no_point, point, event, Job, node_at}
@@ -10,8 +10,6 @@ use Rattle.planning.specs.Planning.{all_enabled}
 use Rattle.planning.specs.Listing.{plan_of}
 use Rattle.jobfile.specs.File.{accepted, turned, read_job, write_job}
 use Rattle.checking.specs.CheckingSays.{MarkFor}
-use Rattle.pricing.specs.declared.price.Price.{Price}
-use Rattle.pricing.specs.declared.price.Price.TheVariants.{Cents, Refused}
 use Rattle.pricing.specs.Numbered.{ColumnFile, write_column}
 use Rattle.pricing.specs.Pricing.{volume_line, house_prices, cost, day_cost, priced_at, priced, price_number}
 
@@ -33,7 +31,7 @@ pub record Covers (thousandths c : ℕ) : Type 0 where
 abbrev pub SaysPrice : Type 0
 SaysPrice =
     (prices file plan volumes : List ℕ) (c : ℕ)
-    → (priced_at prices file plan volumes ≡ Cents c)
+    → (priced_at prices file plan volumes ≡ Ok c)
     ↔ ((j : Job) × (counts : List ℕ) × Billable file plan volumes j counts × Covers (day_cost prices j plan counts) c)
 
 -- r is the first that fails
@@ -55,7 +53,7 @@ pub data PriceRefused (file plan volumes : List ℕ) : ℕ → Type 0 where
 -- the statement, at any prices: the answer is the refusal r if and only if r is the first that fails
 abbrev pub RefusesPrice : Type 0
 RefusesPrice =
-    (prices file plan volumes : List ℕ) (r : ℕ) → (priced_at prices file plan volumes ≡ Refused r) ↔ PriceRefused file plan volumes r
+    (prices file plan volumes : List ℕ) (r : ℕ) → (priced_at prices file plan volumes ≡ Err r) ↔ PriceRefused file plan volumes r
 
 -- ---- what a node costs, and the house prices
 
@@ -81,14 +79,14 @@ WatchedIn plan other = (n : ℕ) → enables plan n ≡ true → enables other n
 -- than all points watched; and beside a volume file of its lines planning's own plan has a price
 pub record Saves : Type 0 where
   pub no_dearer
-      : (prices file plan other volumes : List ℕ) (c d : ℕ) → WatchedIn plan other → priced_at prices file plan volumes ≡ Cents c
-      → priced_at prices file other volumes ≡ Cents d → c ≤ d
+      : (prices file plan other volumes : List ℕ) (c d : ℕ) → WatchedIn plan other → priced_at prices file plan volumes ≡ Ok c
+      → priced_at prices file other volumes ≡ Ok d → c ≤ d
   pub at_most_all
-      : (prices file plan volumes : List ℕ) (c : ℕ) → priced_at prices file plan volumes ≡ Cents c
-      → (j : Job) × (d : ℕ) × (read_job file ≡ accepted j) × (priced_at prices file (all_enabled j) volumes ≡ Cents d) × (c ≤ d)
+      : (prices file plan volumes : List ℕ) (c : ℕ) → priced_at prices file plan volumes ≡ Ok c
+      → (j : Job) × (d : ℕ) × (read_job file ≡ accepted j) × (priced_at prices file (all_enabled j) volumes ≡ Ok d) × (c ≤ d)
   pub planned
       : (prices file volumes counts : List ℕ) (j : Job) → read_job file ≡ accepted j → ColumnFile volume_line (length j.nodes) volumes counts
-      → (c : ℕ) × (d : ℕ) × (priced_at prices file (plan_of j).plan volumes ≡ Cents c) × (priced_at prices file (all_enabled j) volumes ≡ Cents d)
+      → (c : ℕ) × (d : ℕ) × (priced_at prices file (plan_of j).plan volumes ≡ Ok c) × (priced_at prices file (all_enabled j) volumes ≡ Ok d)
       × (c ≤ d)
 
 -- ---- how large a price can be
@@ -107,14 +105,14 @@ dearest = record {
 
 -- the statement: no price is larger, and 512 watched points of symbol 15 with 999,999 events a day have it
 pub record LargestPrice : Type 0 where
-  pub at_most : (file plan volumes : List ℕ) (c : ℕ) → priced file plan volumes ≡ Cents c → c ≤ max_price
-  pub reached : priced (write_job dearest) (replicate 512 1) (write_column 86 0 (replicate 512 999999)) ≡ Cents max_price
+  pub at_most : (file plan volumes : List ℕ) (c : ℕ) → priced file plan volumes ≡ Ok c → c ≤ max_price
+  pub reached : priced (write_job dearest) (replicate 512 1) (write_column 86 0 (replicate 512 999999)) ≡ Ok max_price
 
 -- ---- the number
 
 -- the answer that a number tells: from 2^48 on the cents, any other a refusal
-abbrev pub price_read : ℕ → Price
-price_read n = cond (leb accepted_from n) (Cents (n - accepted_from)) (Refused n)
+abbrev pub price_read : ℕ → Result ℕ ℕ
+price_read n = cond (leb accepted_from n) (Ok (n - accepted_from)) (Err n)
 
 -- the statement, at any prices: a caller reads back the price or the refusal from the number
 abbrev pub PriceByNumber : Type 0

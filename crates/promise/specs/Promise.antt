@@ -1,7 +1,7 @@
 -- The third promise (document 01, "Two monitors on one walk"), from the bytes of the job file to the alarms. The lists of calls and both halves
 -- are `twomonitors`'s `Monitors.antt`; the forms are `events`'s and `eventbytes`'s `Form.antt`.
 -- Assumes nothing.
-use Rattle.std.specs.Prelude.{◌≡◌, List, ℕ, ◌^◌, ◌≤◌, ◌<◌, length, take}
+use Rattle.std.specs.Prelude.{Ok, ◌≡◌, List, ℕ, ◌^◌, ◌≤◌, ◌<◌, length, take}
 use Rattle.events.specs.Monitor.{ReportByNumber}
 use Rattle.automaton.specs.Automaton.{Automaton, automaton_of}
 use Rattle.automaton.specs.Table.{rule_size, table_of}
@@ -16,7 +16,6 @@ use Rattle.buffer.specs.Buffer.{work_size}
 use Rattle.planoutcome.specs.PlanCall.{plan_size, plan_answer, plan_after}
 use Rattle.planoutcome.specs.PlanSays.{PlanBytesSay, SeenByNumber}
 use Rattle.ruleoutcome.specs.declared.rule.RuleNumbers.{RuleNumbers}
-use Rattle.ruleoutcome.specs.declared.rule.RuleAnswer.TheVariants.{Rule}
 use Rattle.ruleoutcome.specs.RuleCall.{rule_answer, numbers_of, ruled_of, rule_after, rule_value, rule_number}
 use Rattle.ruleoutcome.specs.RuleSays.{RuleBytesSay, ruled_read, RuledByNumber, RuleValueSays}
 use Rattle.eventbytes.specs.Event.{record_size}
@@ -71,14 +70,14 @@ pub record GivesRule (f : EventForm) (m : Automaton) (a : ℕ) (c : f.Call) (h :
 -- for a file whose rule is handed over to a rule buffer, with the job: the numbers read back from the number returned are those of the job's
 -- rule, and with them the bytes that are left are that rule in every call of the event step across the C call
 pub record TiedBytes (file rule : List ℕ) (work : ℕ) (j : Job) : Type 0 where
-  pub numbers : ruled_read (rule_number (ruled_of (rule_answer file work (length rule)))) ≡ Rule (numbers_of j.rule)
+  pub numbers : ruled_read (rule_number (ruled_of (rule_answer file work (length rule)))) ≡ Ok (numbers_of j.rule)
   pub gives
       : (a : ℕ) → a < 2 ^ 64 → (h : HeldBytes)
       → GivesRule call_form j.rule a (byte_call_with (rule_after (rule_answer file work (length rule)) rule) (numbers_of j.rule) a h) h
 
 -- the same by value: the numbers beside the table, and with them the table, on values and on a lent record
 pub record TiedTable (file : List ℕ) (work : ℕ) (j : Job) : Type 0 where
-  pub numbers : (rule_value (rule_answer file work rule_size)).answer ≡ Rule (numbers_of j.rule)
+  pub numbers : (rule_value (rule_answer file work rule_size)).answer ≡ Ok (numbers_of j.rule)
   pub gives
       : (a : ℕ) → a < 2 ^ 64 → (h : Record)
       → GivesRule value_form j.rule a (given_with (rule_value (rule_answer file work rule_size)).table (numbers_of j.rule) a) h

@@ -1,40 +1,69 @@
 // The calls that may come back in and the entries, in the rows of pairs: sixteen rows joined at them, and the rows of the calls gathered.
 #![tactic(auto)]
 
-ghost use Rattle.std.specs.Prelude.{ℕ, ◌≤◌, ◌<◌};
-ghost use Rattle.job.specs.Job.{is_reentrant, is_entry};
+ghost use Rattle.std.specs.Prelude.{◌≡◌, Bool, ℕ, ◌≤◌, ◌<◌};
+ghost use Rattle.job.specs.Job.{Node, is_reentrant, is_entry};
 ghost use Rattle.buffer.specs.Layout.{Lent};
 ghost use Rattle.buffer.specs.Views.{node_in};
 ghost use Rattle.tables.specs.Sixteen.{Sixteen};
-ghost use Rattle.successors.specs.Joined.{RowsJoined};
 ghost use Rattle.relation.specs.Union.{Union};
 ghost use Rattle.reentry.specs.Reentry.{JoinedIf, JoinedWhere, EnteringAt, EnteringRows};
 
 use nodereads::{is_entry, is_reentrant};
 use relation::join_row;
-use rows::{join_pairs, pair_row};
+use rows::pair_row;
+use successors::join_rows;
 
-// Joins sixteen rows into those of node n.
-fn join_at(work: &mut [u8], n: usize, rows: &[u16; 16])
-    requires { (Lent work.old) × (n < 512) }
-    ensures { RowsJoined work.old work.new n rows.now }
-{
-    let mut p = 0;
-    while p < 16 {
-        join_pairs(work, n, p, rows[p]);
-        p += 1;
+// A test of a node.
+trait NodeTest {
+    ghost holds: { Node → Bool };
+
+    fn passes(work: &[u8], n: usize) -> bool
+        requires { (Lent work.now) × (n < 512) }
+        ensures { result ≡ holds (node_in work.now n) };
+}
+
+// Whether it is a call that may come back in.
+struct Reentrant;
+
+impl NodeTest for Reentrant {
+    ghost holds = { λ x. is_reentrant x.kind };
+
+    fn passes(work: &[u8], n: usize) -> bool {
+        is_reentrant(work, n)
     }
 }
 
-// Joins sixteen rows into those of node n where it is a call that may come back in.
-fn join_reentrant(work: &mut [u8], n: usize, rows: &[u16; 16])
+// Whether it is an entry.
+struct Entry;
+
+impl NodeTest for Entry {
+    ghost holds = { is_entry };
+
+    fn passes(work: &[u8], n: usize) -> bool {
+        is_entry(work, n)
+    }
+}
+
+// Joins sixteen rows into those of node n where it passes the test.
+fn join_if<T: NodeTest>(work: &mut [u8], n: usize, rows: &[u16; 16])
     requires { (Lent work.old) × (n < 512) }
-    ensures { JoinedIf (is_reentrant (node_in work.old n).kind) work.old work.new n rows.now }
+    ensures { JoinedIf (T.holds (node_in work.old n)) work.old work.new n rows.now }
 {
-    if !is_reentrant(work, n) {
+    if !T::passes(work, n) {
         return;
     }
-    join_at(work, n, rows);
+    join_rows(work, n, rows);
+}
+
+// Joins sixteen rows at every node that passes the test.
+fn join_where<T: NodeTest>(work: &mut [u8], nodes: usize, rows: &[u16; 16])
+    requires { (Lent work.old) × (nodes ≤ 512) }
+    ensures { JoinedWhere (λ (n : ℕ). T.holds (node_in work.old n)) work.old work.new nodes rows.now }
+{
+    for n in 0..nodes {
+        join_if::<T>(work, n, rows);
+    }
 }
 
 // Joins sixteen rows at every call that may come back in.
@@ -42,22 +71,7 @@ pub fn join_reentrants(work: &mut [u8], nodes: usize, rows: &[u16; 16])
     requires { (Lent work.old) × (nodes ≤ 512) }
     ensures { JoinedWhere (λ (n : ℕ). is_reentrant (node_in work.old n).kind) work.old work.new nodes rows.now }
 {
-    let mut n = 0;
-    while n < nodes {
-        join_reentrant(work, n, rows);
-        n += 1;
-    }
-}
-
-// Joins sixteen rows into those of node n where it is an entry.
-fn join_entry(work: &mut [u8], n: usize, rows: &[u16; 16])
-    requires { (Lent work.old) × (n < 512) }
-    ensures { JoinedIf (is_entry (node_in work.old n)) work.old work.new n rows.now }
-{
-    if !is_entry(work, n) {
-        return;
-    }
-    join_at(work, n, rows);
+    join_where::<Reentrant>(work, nodes, rows);
 }
 
 // Joins sixteen rows at every entry.
@@ -65,11 +79,7 @@ pub fn join_entries(work: &mut [u8], nodes: usize, rows: &[u16; 16])
     requires { (Lent work.old) × (nodes ≤ 512) }
     ensures { JoinedWhere (λ (n : ℕ). is_entry (node_in work.old n)) work.old work.new nodes rows.now }
 {
-    let mut n = 0;
-    while n < nodes {
-        join_entry(work, n, rows);
-        n += 1;
-    }
+    join_where::<Entry>(work, nodes, rows);
 }
 
 // Joins the rows of node n into sixteen rows where it is a call that may come back in.
@@ -80,10 +90,8 @@ fn join_entering(rows: &mut [u16], work: &[u8], n: usize)
     if !is_reentrant(work, n) {
         return;
     }
-    let mut p = 0;
-    while p < 16 {
+    for p in 0..16 {
         join_row(rows, p, pair_row(work, n, p));
-        p += 1;
     }
 }
 
@@ -93,10 +101,8 @@ pub fn entering_rows(work: &[u8], nodes: usize) -> [u16; 16]
     ensures { EnteringRows work.now nodes result }
 {
     let mut rows: [u16; 16] = [0; 16];
-    let mut n = 0;
-    while n < nodes {
+    for n in 0..nodes {
         join_entering(&mut rows, work, n);
-        n += 1;
     }
     rows
 }

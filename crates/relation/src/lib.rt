@@ -24,9 +24,7 @@ pub fn join_relation(rows: &mut [u16], more: &[u16; 16])
     requires { Sixteen rows.old }
     ensures { (Sixteen rows.new) × Union (InRows more.now) rows.old rows.new }
 {
-    let mut p = 0;
-    while p < 16 {
+    for p in 0..16 {
         join_row(rows, p, more[p]);
-        p += 1;
     }
 }

@@ -1,6 +1,6 @@
 -- Laws of reading the lines past the J line: the answer of each way out, and the job that the buffer holds.
 -- Assumes nothing.
-use mathlib.Core.Path.{◌≡◌, refl, sym, ap, subst, ◌∙◌}
+use mathlib.Core.Path.{◌≡◌, refl, sym, ap, ◌∙◌}
 use mathlib.Core.Bool.{true, false, cond}
 use mathlib.Core.Logic.{◌⊎◌, inl, inr, by_cases}
 use mathlib.Core.List.{List, [], ◌∷◌, map}
@@ -15,8 +15,10 @@ use borrow.Author.Tests.{eq-eqb, ne_eqb}
 use Rattle.laws.specs.Bounded.{sum_below, tab}
 use Rattle.laws.proofs.Bounded.{length_tab}
 use Rattle.job.specs.Job.{Job}
-use Rattle.jobhead.specs.declared.head.Head.{Head}
-use Rattle.lines.specs.declared.line.Collected.{Collected}
+use Rattle.jobhead.specs.Numbers.{HeadNumbers, refused_head}
+use Rattle.std.specs.Prelude.{Result}
+use Rattle.refusal.specs.declared.Refusal.{Refusal}
+use Rattle.refusal.specs.Refusal.{status_in, value_in}
 use Rattle.lines.specs.Line.{line_length, at}
 use Rattle.lines.specs.Lines.{LineKind, Lines, lines, refused, lines_of}
 use Rattle.jobfile.specs.File.{rule_line, node_line, edge_line, rule_of, node_of, edge_of, some_entry, Answer, accepted, turned, at_end, read_rest}
@@ -26,7 +28,7 @@ use Rattle.buffer.specs.Kept.{SameOutside}
 use Rattle.jobhead.specs.Stored.{job_in}
 use Rattle.lines.specs.Places.{numbers_at, refusal_in, LinesRead}
 use Rattle.jobhead.specs.Reading.{SameRest, JobRead}
-use Rattle.jobhead.specs.ReadLines.{refused_head, RulesRead, NodesRead, EdgesRead}
+use Rattle.jobhead.specs.ReadLines.{RulesRead, NodesRead, EdgesRead}
 use Rattle.lines.proofs.LinesLaws.{lines_all, passed_length}
 use Rattle.buffer.proofs.KeptLaws.{kept_same, Kept-then, kept_fewer, outside_part, node_kept}
 use Rattle.restlines.proofs.JobLaws.{map_tab, table_same, cell_past, nodes_same, entries_test, starts_ascend, edges_same}
@@ -63,13 +65,13 @@ lines_are k file start c h x =
 -- ---- the answers
 
 -- a refusal
-pub turned_read : (answer : Answer) (k : ℕ) (l m : List ℕ) (r : Head) → answer ≡ turned k → (k ≡ 0 → ⊥) → r ≡ refused_head k → SameRest l m → JobRead answer l m r
+pub turned_read : (answer : Answer) (k : ℕ) (l m : List ℕ) (r : HeadNumbers) → answer ≡ turned k → (k ≡ 0 → ⊥) → r ≡ refused_head k → SameRest l m → JobRead answer l m r
 turned_read answer k l m r e q is p = record {
   exact = rw (is, e);
   held = λ j a. absurd (no_job answer k j e a);
-  zeros = λ z. absurd (q (sym (ap (λ (h : Head). h.refusal) is) ∙ z));
-  starts = λ z. absurd (q (sym (ap (λ (h : Head). h.refusal) is) ∙ z));
-  ascend = λ z. absurd (q (sym (ap (λ (h : Head). h.refusal) is) ∙ z));
+  zeros = λ z. absurd (q (sym (ap (λ (h : HeadNumbers). h.refusal) is) ∙ z));
+  starts = λ z. absurd (q (sym (ap (λ (h : HeadNumbers). h.refusal) is) ∙ z));
+  ascend = λ z. absurd (q (sym (ap (λ (h : HeadNumbers). h.refusal) is) ∙ z));
   kept = p;
 }
   where
@@ -167,9 +169,9 @@ module _ (s a n e : ℕ) (file : List ℕ) where
 
   -- ---- the job in the buffer
 
-  module _ (l m1 m2 m3 : List ℕ) (r1 r2 : Collected) (r3 : ℕ) (ha : a ≤ 16) (hn : n ≤ 512)
+  module _ (l m1 m2 m3 : List ℕ) (r1 r2 : Result ℕ Refusal) (r3 : ℕ) (ha : a ≤ 16) (hn : n ≤ 512)
       (x1 : RulesRead s a (drop 26 file) l m1 r1) (x2 : NodesRead s a n (drop second file) m1 m2 r2) (x3 : EdgesRead n e (drop third file) m2 m3 r3)
-      (z1 : r1.status ≡ 0) (z2 : r2.status ≡ 0) (z3 : r3 ≡ 0) where
+      (z1 : status_in r1 ≡ 0) (z2 : status_in r2 ≡ 0) (z3 : r3 ≡ 0) where
     -- the rule is as the R lines left it
     cell_is : (q c : ℕ) → cell_in m3 q c ≡ cell_in m1 q c
     unfolding cell_in
@@ -184,8 +186,8 @@ module _ (s a n e : ℕ) (file : List ℕ) where
     node_is j h = node_kept m2 m3 starts_part pair_part x3.kept j (inl (omega arith)) ∙ x2.here z2 j h
 
     -- the numbers beside the job
-    abbrev numbers : Head
-    numbers = record { refusal = 0; states = s; symbols = a; finals = r1.number; nodes = n; edges = e }
+    abbrev numbers : HeadNumbers
+    numbers = record { refusal = 0; states = s; symbols = a; finals = value_in r1; nodes = n; edges = e }
 
     -- the buffer holds the job
     job_is : job_in m3 numbers ≡ job
@@ -202,7 +204,7 @@ module _ (s a n e : ℕ) (file : List ℕ) where
     all_kept = rest_then l m2 m3 starts_part pair_part (rest_then l m1 m2 0 starts_part (rest_rule l m1 x1.kept) x2.kept (omega arith)) x3.kept (omega arith)
 
     -- what an accepted job leaves
-    job_read : answer ≡ accepted job → JobRead answer l m3 numbers
+    pub job_read : answer ≡ accepted job → JobRead answer l m3 numbers
     job_read is = record {
       exact = rw is (rw (x1.number z1, map_tab node_of places n, length_tab n (λ k. node_of (places k)), map_tab edge_of flow e, length_tab e (λ k. edge_of (flow k))));
       held = λ j x. job_is ∙ same_job answer job j is x;
@@ -221,13 +223,3 @@ module _ (s a n e : ℕ) (file : List ℕ) where
             by_cases (dec_lt q s)
             (λ (p : q < s). cell_is q c ∙ x1.here z1 q c p h ∙ cell_past (rules q) a c (long_rule q p) o)
             (λ p. cell_is q c ∙ x1.past z1 q c (omega arith) g h)
-
-    -- an accepted job, beside the J line's own number
-    pub accepted_read
-        : (k : ℕ) → k ≡ 0 → answer ≡ accepted job
-        → JobRead answer l m3 (record { refusal = k; states = s; symbols = a; finals = r1.number; nodes = n; edges = e })
-    accepted_read k z is = rw z (job_read is)
-
--- lines that were read
-pub read_zero : (k : LineKind) (bytes : List ℕ) (c status : ℕ) → LinesRead k bytes c status → status ≡ 0 → LinesRead k bytes c 0
-read_zero k bytes c status x e = subst (λ (v : ℕ). LinesRead k bytes c v) e x

@@ -44,10 +44,8 @@ pub fn entry_rows(
     ensures { RowsHold (Below (AtEntry table.now finals states work.now) nodes) result }
 {
     let mut rows = [0u16; 16];
-    let mut n = 0;
-    while n < nodes {
+    for n in 0..nodes {
         gather_entry(&mut rows, work, table, finals, states, n);
-        n += 1;
     }
     rows
 }
@@ -70,10 +68,8 @@ pub fn call_rows(work: &[u8], nodes: usize) -> [u16; 16]
     ensures { RowsHold (Below (AtCall work.now) nodes) result }
 {
     let mut rows = [0u16; 16];
-    let mut n = 0;
-    while n < nodes {
+    for n in 0..nodes {
         gather_call(&mut rows, work, n);
-        n += 1;
     }
     rows
 }

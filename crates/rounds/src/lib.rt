@@ -45,7 +45,7 @@ pub fn round(
                 break 'search;
             }
             let state = past.state;
-            rows[state] = rows[state] | past.set;
+            rows[state] |= past.set;
             rest = without_lowest(rest);
         }
         join_successors(work, n, &rows);

@@ -11,13 +11,11 @@ fn mark_span(marks: &mut [u8], start: usize, stop: usize, mark: u8) -> bool
     requires { stop ≤ length marks.old }
     ensures { SpanMarked marks.old marks.new start stop mark result }
 {
-    let mut i = start;
-    while i < stop {
+    for i in start..stop {
         if marks[i] != 0 {
             return false;
         }
         marks[i] = mark;
-        i += 1;
     }
     true
 }
@@ -33,12 +31,10 @@ pub fn mark_row(marks: &mut [u8], row: Row) -> bool
     let first = symbols.first as usize;
     let stop = symbols.last as usize + 1;
     let mark = (row.next + 1) as u8;
-    let mut q = states.first as usize;
-    while q <= last {
+    for q in states.first as usize..=last {
         if !mark_span(marks, q * 16 + first, q * 16 + stop, mark) {
             return false;
         }
-        q += 1;
     }
     true
 }

@@ -1,4 +1,6 @@
 // The rows of pairs in the work buffer. A row that grows is marked.
+#![tactic(auto)]
+
 ghost use Rattle.std.specs.Prelude.{◌≡◌, ◌<◌};
 ghost use Rattle.buffer.specs.Layout.{Lent};
 ghost use Rattle.buffer.specs.Views.{pair_row_in};

@@ -1,6 +1,7 @@
 -- The ways out of the call for rule rows, in the shape of its code, and its answer by value. Where no row is turned back and no pair has two, a
 -- pair without a mark is one without a row, and the marks less one are the rule's bytes: past S or A no row names a pair.
 -- Assumes nothing.
+use Rattle.std.specs.Prelude.{Result, Ok, Err}
 use mathlib.Core.Path.{◌≡◌, refl, sym, ap, ap₂, ◌∙◌, subst}
 use mathlib.Core.Logic.{◌⊎◌, inl, inr, by_cases}
 use mathlib.Core.Bool.{Bool, true, false, cond, ◌&&◌, and-eq-true_iff, true≢false}
@@ -19,10 +20,10 @@ use Rattle.automaton.specs.Table.{rule_size, cell_byte, rule_bytes}
 use Rattle.automaton.specs.Made.{Made, makes, refuses, made_after}
 use Rattle.automaton.proofs.AutomatonLaws.{numbers_fit_says}
 use Rattle.automaton.proofs.RuleBytesLaws.{cell_byte_at, cell_byte_past}
+use Rattle.refusal.specs.declared.Refusal.{Refusal}
+use Rattle.refusal.specs.Refusal.{status_in}
 use Rattle.rulerows.specs.declared.rows.Row.{Row}
-use Rattle.rulerows.specs.declared.rows.RowsAnswer.{RowsAnswer}
-use Rattle.rulerows.specs.declared.rows.RowsAnswer.TheVariants.{Accepted, Refused}
-use Rattle.rulerows.specs.declared.rows.RowsRule.{RowsRule}
+use Rattle.rulevalue.specs.declared.WithTable.{WithTable}
 use Rattle.rulerows.specs.RuleRows.{Rows, rows, not_rows, rows_in, named_by, next_in, twice, missing, automaton_of_rows, max_text, made_of_rows, rule_from, rows_made, rows_answer, rows_value}
 use Rattle.rulerows.specs.Inner.{mark_at, MarksOf, rows_status, RowsTaken}
 use Rattle.rulerows.proofs.RowsLaws.{AllWithin, count_some, pair_missing}
@@ -108,18 +109,18 @@ module _ (s a f : ℕ) (rs : List Row) (marks : List ℕ) (are : MarksOf rs mark
 
 module _ (text rule : List ℕ) (s a f : ℕ) where
   -- what the call answers, and leaves of the rule buffer
-  abbrev pub RowsEnds : RowsAnswer → List ℕ → Type 0
+  abbrev pub RowsEnds : Result Unit ℕ → List ℕ → Type 0
   RowsEnds x rule' =
       (x ≡ rows_answer (rows_made text s a f (length rule))) × (rule' ≡ made_after (rows_made text s a f (length rule)) rule)
 
   -- an answer is what it equals
   ends_as
-      : (y : Made) {x : RowsAnswer} {rule' : List ℕ} → rows_made text s a f (length rule) ≡ y
+      : (y : Made) {x : Result Unit ℕ} {rule' : List ℕ} → rows_made text s a f (length rule) ≡ y
       → (x ≡ rows_answer y) × (rule' ≡ made_after y rule) → RowsEnds x rule'
   ends_as y {x} {rule'} e h = subst (λ (z : Made). (x ≡ rows_answer z) × (rule' ≡ made_after z rule)) (sym e) h
 
   -- 13
-  pub rows_other_length : (length rule ≡ 256 → ⊥) → RowsEnds (Refused 13) rule
+  pub rows_other_length : (length rule ≡ 256 → ⊥) → RowsEnds (Err 13) rule
   rows_other_length other = ends_as (refuses 13) (simp (ne_eqb (length rule) rule_size other)) (refl, refl)
 
   module _ (same : length rule ≡ 256) where
@@ -135,13 +136,13 @@ module _ (text rule : List ℕ) (s a f : ℕ) where
     from_rows b e = with_room ∙ ap (λ (t : Bool). cond t (made_of_rows s a f (rows_in s a text)) (refuses 17)) e
 
     -- 17 for the text's length
-    pub rows_too_long : max_text < length text → RowsEnds (Refused 17) rule
+    pub rows_too_long : max_text < length text → RowsEnds (Err 17) rule
     rows_too_long long =
         ends_as (refuses 17) (from_rows false (ap (λ (b : Bool). b && numbers_fit s a f) (lt-leb (length text) max_text long))) (refl, refl)
 
     module _ (short : length text ≤ max_text) where
       -- 17 for S, A or the final set
-      pub rows_unfit : numbers_fit s a f ≡ false → RowsEnds (Refused 17) rule
+      pub rows_unfit : numbers_fit s a f ≡ false → RowsEnds (Err 17) rule
       rows_unfit e =
           ends_as (refuses 17)
           (from_rows false
@@ -155,21 +156,21 @@ module _ (text rule : List ℕ) (s a f : ℕ) where
         rows_made_lem = from_rows true ((and-eq-true_iff (leb (length text) max_text) (numbers_fit s a f)).1 (le-leb (length text) max_text short, fit))
 
         -- 17 for a row, or 18
-        pub rows_refused : (r ≡ 0 → ⊥) → RowsEnds (Refused r) rule
+        pub rows_refused : (r ≡ 0 → ⊥) → RowsEnds (Err r) rule
         rows_refused nz = go (rows_in s a text) refl
           where
             by_test
                 : (rs : List Row) → rows_in s a text ≡ rows rs → (b : Bool) → twice s a rs ≡ b → r ≡ cond b 18 0
-                → RowsEnds (Refused r) rule
+                → RowsEnds (Err r) rule
             by_test rs is true t e =
-                ends_as (refuses 18) (rows_made_lem ∙ ap (made_of_rows s a f) is ∙ simp t) (ap Refused e, refl)
+                ends_as (refuses 18) (rows_made_lem ∙ ap (made_of_rows s a f) is ∙ simp t) (ap Err e, refl)
             by_test rs is false t e = absurd (nz e)
 
-            go : (x : Rows) → rows_in s a text ≡ x → RowsEnds (Refused r) rule
+            go : (x : Rows) → rows_in s a text ≡ x → RowsEnds (Err r) rule
             go (rows rs) is =
                 by_test rs is (twice s a rs) refl (w.status ∙ ap (rows_status s a) is)
             go not_rows is =
-                ends_as (refuses 17) (rows_made_lem ∙ ap (made_of_rows s a f) is) (ap Refused (w.status ∙ ap (rows_status s a) is), refl)
+                ends_as (refuses 17) (rows_made_lem ∙ ap (made_of_rows s a f) is) (ap Err (w.status ∙ ap (rows_status s a) is), refl)
 
         module _ (z : r ≡ 0) where
           -- no pair has two rows
@@ -179,7 +180,7 @@ module _ (text rule : List ℕ) (s a f : ℕ) where
               (λ t. omega (arith, z, w.status ∙ ap (rows_status s a) is ∙ ap (λ (b : Bool). cond b 18 0) t))
 
           -- 19
-          pub rows_missing : any_below s (λ q. any_below a (λ c. eqb (mark_at marks q c) 0)) ≡ true → RowsEnds (Refused 19) rule
+          pub rows_missing : any_below s (λ q. any_below a (λ c. eqb (mark_at marks q c) 0)) ≡ true → RowsEnds (Err 19) rule
           rows_missing e =
               let (rs, is, are) = w.marks_of z in
               let numbers = (numbers_fit_says s a f).0 fit in
@@ -190,7 +191,7 @@ module _ (text rule : List ℕ) (s a f : ℕ) where
           -- the rule
           pub rows_accepted
               : any_below s (λ q. any_below a (λ c. eqb (mark_at marks q c) 0)) ≡ false → (rule' : List ℕ)
-              → rule' ≡ tab 256 (λ i. get_or marks i 0 - 1) → RowsEnds Accepted rule'
+              → rule' ≡ tab 256 (λ i. get_or marks i 0 - 1) → RowsEnds (Ok tt) rule'
           rows_accepted e rule' copied =
               let (rs, is, are) = w.marks_of z in
               let numbers = (numbers_fit_says s a f).0 fit in
@@ -205,11 +206,11 @@ module _ (text rule : List ℕ) (s a f : ℕ) where
 -- ---- by value
 
 -- an answer and the table beside it
-abbrev pub beside : RowsAnswer → List ℕ → RowsRule
+abbrev pub beside : Result Unit ℕ → List ℕ → WithTable (Result Unit ℕ)
 beside x table = record { answer = x; table = table }
 
 -- the rule buffer is a table of zeros before the call
-module _ (text table : List ℕ) (s a f : ℕ) (x : RowsAnswer) where
+module _ (text table : List ℕ) (s a f : ℕ) (x : Result Unit ℕ) where
   -- what the call ends with, by the length of the rule buffer
   abbrev ValueEnds : ℕ → Type 0
   ValueEnds n =

@@ -2,14 +2,17 @@
 #![tactic(auto)]
 
 ghost use Rattle.std.specs.Prelude.{◌≡◌, length};
+ghost use Rattle.refusal.specs.Refusal.{said};
 ghost use Rattle.automaton.specs.Made.{made_after};
 ghost use Rattle.automaton.specs.Table.{rule_size};
+ghost use Rattle.rulevalue.specs.Value.{said_beside};
 ghost use Rattle.rulerows.specs.RuleRows.{rows_made, rows_answer, rows_value};
 
 use limits::do_numbers_fit;
+use refusal::Refusal;
 use rowsread::take_all;
 use rowsrule::{is_missing, write_rule};
-use rulerows::rows::{RowsAnswer, RowsRule};
+use rulevalue::WithTable;
 
 // The length of a rule buffer.
 const ROOM: usize = 256;
@@ -18,38 +21,46 @@ const ROOM: usize = 256;
 const LONGEST: usize = 8192;
 
 // Makes a rule of the rows of a text. A refusal leaves the rule buffer.
-pub fn take_rows(rows: &[u8], states: u64, symbols: u64, finals: u64, rule: &mut [u8]) -> RowsAnswer
-    ensures { (result ≡ rows_answer (rows_made rows.now states symbols finals (length rule.old)))
+pub fn take_rows(
+    rows: &[u8],
+    states: u64,
+    symbols: u64,
+    finals: u64,
+    rule: &mut [u8],
+) -> Result<(), Refusal>
+    ensures { (said result ≡ rows_answer (rows_made rows.now states symbols finals (length rule.old)))
         × (rule.new ≡ made_after (rows_made rows.now states symbols finals (length rule.old)) rule.old) }
 {
     if rule.len() != ROOM {
-        return RowsAnswer::Refused(13);
+        return Err(Refusal::WrongRule);
     }
     if LONGEST < rows.len() {
-        return RowsAnswer::Refused(17);
+        return Err(Refusal::WrongRows);
     }
     if !do_numbers_fit(states, symbols, finals) {
-        return RowsAnswer::Refused(17);
+        return Err(Refusal::WrongRows);
     }
     let mut marks = [0u8; 256];
-    let status = take_all(rows, states, symbols, &mut marks);
-    if status != 0 {
-        return RowsAnswer::Refused(status);
-    }
+    take_all(rows, states, symbols, &mut marks)?;
     if is_missing(&marks, states, symbols) {
-        return RowsAnswer::Refused(19);
+        return Err(Refusal::PairMissing);
     }
     write_rule(&marks, rule);
-    RowsAnswer::Accepted
+    Ok(())
 }
 
 // The rule of the rows of a text by value, with its table beside the answer.
-pub fn rows_rule(rows: &[u8], states: u64, symbols: u64, finals: u64) -> RowsRule
-    ensures { result ≡ rows_value (rows_made rows.now states symbols finals rule_size) }
+pub fn rows_rule(
+    rows: &[u8],
+    states: u64,
+    symbols: u64,
+    finals: u64,
+) -> WithTable<Result<(), Refusal>>
+    ensures { said_beside result ≡ rows_value (rows_made rows.now states symbols finals rule_size) }
 {
     let mut table = [0u8; 256];
     let answer = take_rows(rows, states, symbols, finals, &mut table);
-    RowsRule {
+    WithTable {
         answer: answer,
         table: table,
     }

@@ -1,8 +1,9 @@
 -- Laws of the rows of a text taken in turn, in the shape of the code: the first n rows pass, and their pairs are marked or two of them have met;
 -- a row that is none or not within its limits; the end of the text.
 -- Assumes nothing.
+use Rattle.std.specs.Prelude.{Option, Some, None}
 use mathlib.Core.Path.{◌≡◌, refl, sym, ap, ◌∙◌, subst}
-use mathlib.Core.Logic.{inl, inr, ⊎_elim, by_cases}
+use mathlib.Core.Logic.{⊎_elim, by_cases}
 use mathlib.Core.Bool.{Bool, true, false, cond, true≢false}
 use mathlib.Core.List.{List, [], map}
 use Prim.Native.Nat.{ℕ, ◌+◌, ◌*◌, ◌≤◌, ◌<◌}
@@ -20,55 +21,35 @@ use Rattle.lines.specs.Places.{numbers_of, status_of, due_at, numbers_at, before
 use Rattle.lines.proofs.LinesLaws.{zeros_at, lines_all, passed_more}
 use Rattle.lines.proofs.SpelledLine.{line_long, line_found, found_line}
 use Rattle.rulerows.specs.declared.rows.Row.{Row}
-use Rattle.rulerows.specs.declared.rows.RowDue.{RowDue}
-use Rattle.rulerows.specs.declared.rows.RowDue.TheVariants.{Within, NotWithin}
 use Rattle.rulerows.specs.RuleRows.{row_of, good_row, row_line, rows, rows_read, rows_due, rows_in, names, named_by, next_in, twice}
 use Rattle.rulerows.specs.RowsSay.{RowWithin, Names, row_at}
 use Rattle.rulerows.specs.Inner.{row_due, RowFits, mark_at, RowMarked, MarkedMore, mark_of, rows_status, RowsTaken}
 use Rattle.rulerows.proofs.RowsLaws.{row_within, row_names, count_one, count_some, count_both, next_only, twice_says}
 use Rattle.rulerows.proofs.TextLaws.{RowFault, none_there, not_within, rows_says, text_within, fault_not_rows}
 
--- ---- one row more
-
-module _ {row : Row} {status : ℕ} {l : List ℕ} where
-  -- after two that have met
-  pub more_stays : (status ≡ 0 → ⊥) → length l ≡ 256 → MarkedMore row status l l status
-  more_stays nz long = record { long = long; stays = λ h. refl; goes_on = λ z. absurd (nz z) }
-
-  module _ {m : List ℕ} {r : Bool} (z : status ≡ 0) (w : RowMarked row l m r) where
-    -- one that meets none
-    pub more_marked : r ≡ true → MarkedMore row status l m 0
-    more_marked e =
-        record { long = w.long; stays = λ h. absurd (h z); goes_on = λ y. inl (refl, subst (RowMarked row l m) e w) }
-
-    -- one that meets a row before it
-    pub more_met : r ≡ false → MarkedMore row status l m 18
-    more_met e =
-        record { long = w.long; stays = λ h. absurd (h z); goes_on = λ y. inr (refl, subst (RowMarked row l m) e w) }
-
 -- ---- the row that is due
 
 -- a row, and whether there is one
-abbrev row_in : RowDue → Row
-row_in (Within r) = r
-row_in NotWithin = row_of []
+abbrev row_in : Option Row → Row
+row_in (Some r) = r
+row_in None = row_of []
 
-abbrev is_row : RowDue → ℕ
-is_row (Within r) = 1
-is_row NotWithin = 0
+abbrev is_row : Option Row → ℕ
+is_row (Some r) = 1
+is_row None = 0
 
 -- by the test of its numbers
-tested_row : (t : Bool) (r row : Row) → cond t (Within r) NotWithin ≡ Within row → (t ≡ true) × (r ≡ row)
+tested_row : (t : Bool) (r row : Row) → cond t (Some r) None ≡ Some row → (t ≡ true) × (r ≡ row)
 tested_row true r row e = (refl, ap row_in e)
 tested_row false r row e = let z : ◌≡◌ {A = ℕ} 0 1 = ap is_row e in absurd (omega arith)
 
-tested_none : (t : Bool) (r : Row) → cond t (Within r) NotWithin ≡ NotWithin → t ≡ false
+tested_none : (t : Bool) (r : Row) → cond t (Some r) None ≡ None → t ≡ false
 tested_none true r e = let z : ◌≡◌ {A = ℕ} 1 0 = ap is_row e in absurd (omega arith)
 tested_none false r e = refl
 
 -- one that is there
 row_there
-    : (s a : ℕ) (d : Due) (row : Row) → row_due s a d ≡ Within row
+    : (s a : ℕ) (d : Due) (row : Row) → row_due s a d ≡ Some row
     → (d ≡ found (numbers_of d)) × (good_row s a 0 [] (numbers_of d) ≡ true) × (row_of (numbers_of d) ≡ row)
 row_there s a ends row e = let z : ◌≡◌ {A = ℕ} 0 1 = ap is_row e in absurd (omega arith)
 row_there s a no_line row e = let z : ◌≡◌ {A = ℕ} 0 1 = ap is_row e in absurd (omega arith)
@@ -92,7 +73,7 @@ module _ (s a : ℕ) (text : List ℕ) where
 
   -- its line passes, it is that row, and it has its bytes
   pub row_due_lem
-      : (i : ℕ) (row : Row) → row_due s a (line_of 81 5 (drop (i * 32) text)) ≡ Within row
+      : (i : ℕ) (row : Row) → row_due s a (line_of 81 5 (drop (i * 32) text)) ≡ Some row
       → (status_at (row_line s a) text i ≡ 0) × (row_here i ≡ row) × RowWithin s a row × (i * 32 + 32 ≤ length text)
   unfolding status_at due_at numbers_at
   row_due_lem i row e =
@@ -105,7 +86,7 @@ module _ (s a : ℕ) (text : List ℕ) where
 
   -- one that is none, or not within its limits
   row_fault
-      : (i : ℕ) (d : Due) → line_of 81 5 (drop (i * 32) text) ≡ d → i * 32 < length text → row_due s a d ≡ NotWithin → RowFault s a text
+      : (i : ℕ) (d : Due) → line_of 81 5 (drop (i * 32) text) ≡ d → i * 32 < length text → row_due s a d ≡ None → RowFault s a text
   row_fault i ends is l e =
       none_there i l (λ ns here. let z : ◌≡◌ {A = ℕ} 0 1 = cc (is, line_found 81 5 (drop (i * 32) text) ns here) in omega arith)
   row_fault i no_line is l e =
@@ -225,7 +206,7 @@ module _ (s a : ℕ) (text : List ℕ) where
   -- one row more
   pub taken_next
       : (n : ℕ) (marks more : List ℕ) (status r : ℕ) (row : Row) → s ≤ 16 → a ≤ 16 → TakenSoFar n marks status
-      → row_due s a (line_of 81 5 (drop (n * 32) text)) ≡ Within row → MarkedMore row status marks more r → TakenSoFar (n + 1) more r
+      → row_due s a (line_of 81 5 (drop (n * 32) text)) ≡ Some row → MarkedMore row status marks more r → TakenSoFar (n + 1) more r
   taken_next n marks more status r row hs ha so due w =
       let (passes, is, within, room) = row_due_lem n row due in
       let fits : RowFits (row_here n) = subst RowFits (sym is) (row_fits hs ha within) in
@@ -265,7 +246,7 @@ module _ (s a : ℕ) (text : List ℕ) where
   -- a row that is none
   pub taken_stop
       : (n : ℕ) (marks : List ℕ) (status : ℕ) → TakenSoFar n marks status → n * 32 < length text
-      → row_due s a (line_of 81 5 (drop (n * 32) text)) ≡ NotWithin → RowsTaken s a text marks 17
+      → row_due s a (line_of 81 5 (drop (n * 32) text)) ≡ None → RowsTaken s a text marks 17
   taken_stop n marks status so l e =
       let none = fault_not_rows s a text (row_fault n (line_of 81 5 (drop (n * 32) text)) refl l e) in
       record { status = sym (ap (rows_status s a) none); long = so.long; marks_of = λ z. absurd (omega (arith, z)) }

@@ -1,6 +1,7 @@
 -- The ways out of the rule call, in the shape of its code, and its answer by value. A job that a file spells has S rows of A next states, so
 -- the rule's part of the work buffer, which holds each cell and zero past them, is the rule's bytes.
 -- Assumes nothing.
+use Rattle.std.specs.Prelude.{Result, Ok, Err}
 use mathlib.Core.Path.{◌≡◌, refl, sym, ap, ap₂, ◌∙◌, subst}
 use mathlib.Core.List.{List}
 use Prim.Native.Nat.{ℕ}
@@ -15,7 +16,7 @@ use Rattle.job.specs.Job.{Job}
 use Rattle.jobfile.specs.File.{Answer, accepted, turned}
 use Rattle.jobfile.specs.Spellable.{Spellable}
 use Rattle.jobfile.proofs.SpellableLaws.{read_written}
-use Rattle.jobhead.specs.declared.head.Head.{Head}
+use Rattle.jobhead.specs.Numbers.{HeadNumbers}
 use Rattle.jobhead.specs.Reading.{head_of_answer}
 use Rattle.buffer.specs.Buffer.{work_size, cleared}
 use Rattle.buffer.specs.Layout.{rule_part, Lent}
@@ -25,10 +26,9 @@ use Rattle.admission.specs.Admission.{admitted, work_after}
 use Rattle.admission.specs.Admitted.{Admitted}
 use Rattle.admission.proofs.AdmissionLaws.{admitted_spells}
 use Rattle.admission.proofs.CallLaws.{answer_refused}
-use Rattle.ruleoutcome.specs.declared.rule.RuleAnswer.{RuleAnswer}
-use Rattle.ruleoutcome.specs.declared.rule.RuleAnswer.TheVariants.{Rule, Refused}
-use Rattle.ruleoutcome.specs.declared.rule.JobRule.{JobRule}
+use Rattle.rulevalue.specs.declared.WithTable.{WithTable}
 use Rattle.ruleoutcome.specs.RuleCall.{fitted, rule_answer, ruled_of, rule_after, rule_value}
+use Rattle.ruleoutcome.specs.declared.rule.RuleNumbers.{RuleNumbers}
 
 -- the rule's part of a buffer that holds the job
 rule_held
@@ -42,7 +42,7 @@ rule_held j m finals states nodes long spelled held =
 
 module _ (file work rule : List ℕ) where
   -- what the call answers, and leaves of the work buffer and of the rule buffer
-  abbrev pub RuleEnds : RuleAnswer → List ℕ → List ℕ → Type 0
+  abbrev pub RuleEnds : Result RuleNumbers ℕ → List ℕ → List ℕ → Type 0
   RuleEnds x work' rule' =
       (x ≡ ruled_of (rule_answer file (length work) (length rule)))
       × (work' ≡ work_after (rule_answer file (length work) (length rule)) work)
@@ -50,25 +50,25 @@ module _ (file work rule : List ℕ) where
 
   -- an answer is what it equals
   ends_as
-      : (a : Answer) {x : RuleAnswer} {work' rule' : List ℕ} → rule_answer file (length work) (length rule) ≡ a
+      : (a : Answer) {x : Result RuleNumbers ℕ} {work' rule' : List ℕ} → rule_answer file (length work) (length rule) ≡ a
       → (x ≡ ruled_of a) × (work' ≡ work_after a work) × (rule' ≡ rule_after a rule) → RuleEnds x work' rule'
   ends_as a {x} {work'} {rule'} e h =
       subst (λ (y : Answer). (x ≡ ruled_of y) × (work' ≡ work_after y work) × (rule' ≡ rule_after y rule)) (sym e) h
 
-  module _ (m : List ℕ) (r : Head) (a : Admitted (admitted file (ltb (length work) work_size)) work m r) where
+  module _ (m : List ℕ) (r : HeadNumbers) (a : Admitted (admitted file (ltb (length work) work_size)) work m r) where
     -- what is admitted, with a rule buffer of this length
     fits : {x : Answer} → admitted file (ltb (length work) work_size) ≡ x → rule_answer file (length work) (length rule) ≡ fitted x (length rule)
     fits e = ap (λ (y : Answer). fitted y (length rule)) e
 
     -- a refusal of admission
-    pub rule_refused : (r.refusal ≡ 0 → ⊥) → RuleEnds (Refused r.refusal) m rule
+    pub rule_refused : (r.refusal ≡ 0 → ⊥) → RuleEnds (Err r.refusal) m rule
     rule_refused h =
         let e = answer_refused a h in
         ends_as (turned r.refusal) (fits e) (refl, a.refused h ∙ ap (λ (y : Answer). work_after y work) e, refl)
 
     module _ (h : r.refusal ≡ 0) where
       -- 13
-      pub rule_other_length : (length rule ≡ 256 → ⊥) → RuleEnds (Refused 13) (cleared m) rule
+      pub rule_other_length : (length rule ≡ 256 → ⊥) → RuleEnds (Err 13) (cleared m) rule
       rule_other_length other =
           let j = a.job h in
           ends_as (turned 13) (fits j.is ∙ simp (ne_eqb (length rule) rule_size other)) (refl, j.clears, refl)
@@ -76,23 +76,23 @@ module _ (file work rule : List ℕ) where
       -- the job's rule
       pub rule_handed_over
           : length rule ≡ 256 → (rule' : List ℕ) → rule' ≡ take 256 (drop rule_part m)
-          → RuleEnds (Rule (record { states = r.states; symbols = r.symbols; finals = r.finals })) (cleared m) rule'
+          → RuleEnds (Ok (record { states = r.states; symbols = r.symbols; finals = r.finals })) (cleared m) rule'
       rule_handed_over same rule' copied =
           let j = a.job h in
           let spelled = (read_written file j.job (admitted_spells file (ltb (length work) work_size) j.job j.is)).1 in
           let numbers = a.exact ∙ ap head_of_answer j.is in
           ends_as (accepted j.job) (fits j.is ∙ simp (eq-eqb (length rule) rule_size same)) (
-            ap (λ (y : Head). Rule (record { states = y.states; symbols = y.symbols; finals = y.finals })) numbers,
+            ap (λ (y : HeadNumbers). Ok (record { states = y.states; symbols = y.symbols; finals = y.finals })) numbers,
             j.clears,
             copied ∙ rule_held j.job m r.finals r.states r.nodes j.usable.long spelled j.held,
           )
 
 -- an answer and the table beside it
-abbrev pub beside : RuleAnswer → List ℕ → JobRule
+abbrev pub beside : Result RuleNumbers ℕ → List ℕ → WithTable (Result RuleNumbers ℕ)
 beside x table = record { answer = x; table = table }
 
 -- by value: the rule buffer is a table of zeros before the call
-module _ (file work work' table : List ℕ) (x : RuleAnswer) where
+module _ (file work work' table : List ℕ) (x : Result RuleNumbers ℕ) where
   -- what the call ends with, by the length of the rule buffer
   abbrev ValueEnds : ℕ → Type 0
   ValueEnds n =

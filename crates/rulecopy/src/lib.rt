@@ -11,9 +11,5 @@ pub fn copy_rule(work: &[u8], rule: &mut [u8])
     requires { (Lent work.now) × (length rule.old ≡ 256) }
     ensures { rule.new ≡ take 256 (drop rule_part work.now) }
 {
-    let mut i = 0;
-    while i < 256 {
-        rule[i] = work[RULE + i];
-        i += 1;
-    }
+    rule.copy_from_slice(&work[RULE..RULE + 256]);
 }

@@ -13,12 +13,16 @@ use borrow.Author.Tests.{lt-ltb, ltb-true}
 use Rattle.laws.specs.Bounded.{all_below}
 use Rattle.laws.proofs.Bounded.{all_cong, all_at, all_of}
 use Rattle.laws.proofs.Tests.{fails_of}
+use Rattle.std.specs.Prelude.{Ok, Err}
+use Rattle.refusal.specs.declared.Refusal.{Refusal}
+use Rattle.refusal.specs.declared.Refusal.TheVariants.{WrongRuleLine}
+use Rattle.refusal.specs.Refusal.{number_of}
+use Rattle.refusal.proofs.RefusalLaws.{number_some}
 use Rattle.lines.specs.Inner.{DueRead}
 use Rattle.lines.specs.Line.{Due, line_of, at}
 use Rattle.jobfile.specs.File.{good_rule, rule_line}
 use Rattle.buffer.specs.Layout.{rule_part}
 use Rattle.jobhead.specs.Stored.{RowStored}
-use Rattle.framing.specs.Framing.{collected}
 use Rattle.lines.specs.Places.{numbers_of, status_of}
 use Rattle.jobhead.specs.ReadLines.{RuleRead}
 use Rattle.jobfile.specs.Refusal.{RuleWithin}
@@ -32,21 +36,21 @@ module _ (s a q : ℕ) (bytes l : List ℕ) where
   due = line_of 82 (a + 2) bytes
 
   -- a refusal
-  refused_as : (k : ℕ) → k ≡ status_of (rule_line s a) q [] due → (k ≡ 0 → ⊥) → RuleRead s a q bytes l l (collected k 0)
-  refused_as k e g = record {
+  refused_as : (k : Refusal) → number_of k ≡ status_of (rule_line s a) q [] due → RuleRead s a q bytes l l (Err k)
+  refused_as k e = record {
     status = e;
     zero = λ z. refl;
-    number = λ z. absurd (g z);
+    number = λ z. absurd (number_some k z);
     small = omega arith;
-    here = λ z. absurd (g z);
-    within = λ z. absurd (g z);
+    here = λ z. absurd (number_some k z);
+    within = λ z. absurd (number_some k z);
     kept = kept_none l (rule_part + q * 16) (rule_part + q * 16 + 16);
   }
 
   module _ {f : List ℕ} {r : ℕ} (e : DueRead due (a + 2) (replicate 18 0) f r) where
     -- nothing, or no line
-    pub rule_stop : (r ≡ 0 → ⊥) → RuleRead s a q bytes l l (collected r 0)
-    rule_stop g = refused_as r (due_stops (rule_line s a) q [] bytes e g) g
+    pub rule_stop : (k : Refusal) → r ≡ number_of k → RuleRead s a q bytes l l (Err k)
+    rule_stop k i = refused_as k (sym i ∙ due_stops (rule_line s a) q [] bytes e (λ z. number_some k (sym i ∙ z)))
 
     module _ (z : r ≡ 0) where
       -- the numbers of the line
@@ -57,18 +61,17 @@ module _ (s a q : ℕ) (bytes l : List ℕ) where
       row_is k = due_number (rule_line s a) q [] bytes e z 18 k refl
 
       -- numbers against what the line is to have
-      denied : (RuleWithin s a q ns → ⊥) → RuleRead s a q bytes l l (collected 6 0)
+      denied : (RuleWithin s a q ns → ⊥) → RuleRead s a q bytes l l (Err WrongRuleLine)
       denied h =
-          refused_as 6
+          refused_as WrongRuleLine
           (due_tested (rule_line s a) q [] bytes e z false refl (fails_of (good_rule s a q [] ns) (λ t. h ((rule_says s a q [] ns).0 t))))
-          (λ x. absurd (omega arith))
 
       -- a state out of order
-      pub rule_place : (at f 0 ≡ q → ⊥) → RuleRead s a q bytes l l (collected 6 0)
+      pub rule_place : (at f 0 ≡ q → ⊥) → RuleRead s a q bytes l l (Err WrongRuleLine)
       rule_place h = denied (λ w. h (row_is 0 ∙ w.state))
 
       -- a final mark above 1
-      pub rule_mark : 1 < at f 1 → RuleRead s a q bytes l l (collected 6 0)
+      pub rule_mark : 1 < at f 1 → RuleRead s a q bytes l l (Err WrongRuleLine)
       rule_mark h = denied (λ w. absurd (omega (arith, row_is 1, w.final)))
 
       module _ (t : Bool) (g : t ≡ all_below a (λ c. ltb (at f (c + 2)) s)) where
@@ -78,7 +81,7 @@ module _ (s a q : ℕ) (bytes l : List ℕ) where
             g ∙ all_cong a (λ c. ltb (at f (c + 2)) s) (λ c. ltb (at ns (c + 2)) s) (λ c h. ap (λ (x : ℕ). ltb x s) (row_is (c + 2)))
 
         -- a next state of S or more
-        pub rule_cells : t ≡ false → RuleRead s a q bytes l l (collected 6 0)
+        pub rule_cells : t ≡ false → RuleRead s a q bytes l l (Err WrongRuleLine)
         rule_cells v =
             denied
             (λ w.
@@ -100,7 +103,7 @@ module _ (s a q : ℕ) (bytes l : List ℕ) where
 
         -- numbers that pass, and the row that is stored
         pub rule_passes
-            : (m : List ℕ) → at f 0 ≡ q → at f 1 ≤ 1 → t ≡ true → RowStored l m q f → RuleRead s a q bytes l m (collected 0 (at f 1))
+            : (m : List ℕ) → at f 0 ≡ q → at f 1 ≤ 1 → t ≡ true → RowStored l m q f → RuleRead s a q bytes l m (Ok (at f 1))
         rule_passes m p1 p2 v st =
             let good = (rule_says s a q [] ns).1 (record {
               state = sym (row_is 0) ∙ p1;

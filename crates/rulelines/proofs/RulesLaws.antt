@@ -14,14 +14,15 @@ use lib.ListN.{length, drop, length-drop}
 use Rattle.laws.specs.Bounded.{tab_from, tab}
 use Rattle.laws.specs.Bits.{has, with}
 use Rattle.laws.proofs.Bits.{has_or, has_empty, same_set, one_shl}
-use Rattle.lines.specs.declared.line.Collected.{Collected}
+use Rattle.std.specs.Prelude.{Result, Ok}
+use Rattle.refusal.specs.declared.Refusal.{Refusal}
+use Rattle.refusal.specs.Refusal.{status_in, value_in}
 use Rattle.lines.specs.Line.{line_length, line_of, at}
 use Rattle.jobfile.specs.File.{rule_line, finals_of}
 use Rattle.buffer.specs.Layout.{rule_part, marks_part}
 use Rattle.buffer.specs.Views.{cell_in}
 use Rattle.buffer.specs.Kept.{SameOutside}
 use Rattle.jobhead.specs.Stored.{RuleCleared}
-use Rattle.framing.specs.Framing.{collected}
 use Rattle.lines.specs.Places.{numbers_of, numbers_at, status_at}
 use Rattle.jobhead.specs.ReadLines.{RuleRead, RulesRead}
 use Rattle.lines.proofs.LinesLaws.{passed_more, read_all, read_stop, status_here, numbers_here}
@@ -107,11 +108,11 @@ unfolding cell_in
 cell_kept m k q p c s h (inl g) = s.outside (rule_part + p * 16 + c) (inl (omega arith))
 cell_kept m k q p c s h (inr g) = s.outside (rule_part + p * 16 + c) (inr (omega arith))
 
-module _ (s a : ℕ) (file : List ℕ) (start : ℕ) (l m k : List ℕ) (q finals : ℕ) (r : Collected)
+module _ (s a : ℕ) (file : List ℕ) (start : ℕ) (l m k : List ℕ) (q finals : ℕ) (r : Result ℕ Refusal)
     (so : RulesSoFar s a (drop start file) l m q finals) (h : q < 16) (x : RuleRead s a q (drop (start + q * line_length (a + 2)) file) m k r) where
   -- the line's status
-  own_status : r.status ≡ status_at (rule_line s a) (drop start file) q
-  own_status = status_here (rule_line s a) file start q q [] r.status (λ ns. refl) x.status
+  own_status : status_in r ≡ status_at (rule_line s a) (drop start file) q
+  own_status = status_here (rule_line s a) file start q q [] (status_in r) (λ ns. refl) x.status
 
   -- its numbers
   own_numbers : numbers_of (line_of 82 (a + 2) (drop (start + q * line_length (a + 2)) file)) ≡ numbers_at (rule_line s a) (drop start file) q
@@ -122,11 +123,11 @@ module _ (s a : ℕ) (file : List ℕ) (start : ℕ) (l m k : List ℕ) (q final
   all_kept = kept_both l m k rule_part marks_part (rule_part + q * 16) (rule_part + q * 16 + 16) so.kept x.kept (omega arith) (omega arith)
 
   -- one line more
-  pub rules_more : r.status ≡ 0 → RulesSoFar s a (drop start file) l k (q + 1) (bit_or finals ((r.number * 2 ^ q) % 2 ^ 64))
+  pub rules_more : status_in r ≡ 0 → RulesSoFar s a (drop start file) l k (q + 1) (bit_or finals ((value_in r * 2 ^ q) % 2 ^ 64))
   rules_more z = record {
     passed = passed_more (rule_line s a) (drop start file) q so.passed (sym own_status ∙ z);
     number =
-        finals_more (numbers_at (rule_line s a) (drop start file)) q finals r.number so.number
+        finals_more (numbers_at (rule_line s a) (drop start file)) q finals (value_in r) so.number
         (x.number z ∙ ap (λ (ns : List ℕ). at ns 1) own_numbers) x.small (omega arith);
     here = λ p c g i.
         ⊎_elim
@@ -144,10 +145,10 @@ module _ (s a : ℕ) (file : List ℕ) (start : ℕ) (l m k : List ℕ) (q final
       fits n i j = omega (arith, length-drop start file, length-drop (start + n) file)
 
   -- a line that does not pass
-  pub rules_stop : (o : List ℕ) → q < s → (r.status ≡ 0 → ⊥) → RuleCleared o l → RulesRead s a (drop start file) o k (collected r.status 0)
+  pub rules_stop : (o : List ℕ) → q < s → (status_in r ≡ 0 → ⊥) → RuleCleared o l → RulesRead s a (drop start file) o k r
   rules_stop o g b w = record {
-    lines = read_stop (rule_line s a) (drop start file) s q r.status g (lit< tt) so.passed own_status b;
-    zero = λ z. refl;
+    lines = read_stop (rule_line s a) (drop start file) s q (status_in r) g (lit< tt) so.passed own_status b;
+    zero = λ z. x.zero b;
     number = λ z. absurd (b z);
     here = λ z. absurd (b z);
     past = λ z. absurd (b z);
@@ -157,7 +158,7 @@ module _ (s a : ℕ) (file : List ℕ) (start : ℕ) (l m k : List ℕ) (q final
 -- all lines are read
 pub rules_end
     : (s a : ℕ) (bytes o l m : List ℕ) (q finals : ℕ) → q ≡ s → RuleCleared o l → RulesSoFar s a bytes l m q finals
-    → RulesRead s a bytes o m (collected 0 finals)
+    → RulesRead s a bytes o m (Ok finals)
 rules_end s a bytes o l m q finals e w so = record {
   lines = read_all (rule_line s a) bytes s q e (lit< tt) so.passed so.within;
   zero = λ z. absurd (z refl);

@@ -5,13 +5,18 @@ ghost use Rattle.std.specs.Prelude.{◌≤◌, length, drop};
 ghost use Rattle.buffer.specs.Layout.{Lent};
 ghost use Rattle.jobhead.specs.ReadLines.{RulesRead};
 
-use framing::refused;
-use lines::line::Collected;
+use refusal::Refusal;
 use ruleline::rule_line;
 use rulestore::clear_rule;
 
-// Reads the R lines from `at` on: 3, 4 or 6, or the set of final states, and the rule is stored.
-pub fn rule_lines(file: &[u8], at: usize, work: &mut [u8], states: u64, symbols: usize) -> Collected
+// Reads the R lines from `at` on: `FileEnds`, `WrongLine` or `WrongRuleLine`, or the set of final states, and the rule is stored.
+pub fn rule_lines(
+    file: &[u8],
+    at: usize,
+    work: &mut [u8],
+    states: u64,
+    symbols: usize,
+) -> Result<u64, Refusal>
     requires { (at ≤ length file.now) × ((Lent work.old) × ((states ≤ 16) × (symbols ≤ 16))) }
     ensures { RulesRead states symbols (drop at file.now) work.old work.new result }
 {
@@ -19,18 +24,9 @@ pub fn rule_lines(file: &[u8], at: usize, work: &mut [u8], states: u64, symbols:
     let len = (symbols + 2) * 6 + 2;
     let rows = states as usize;
     let mut finals: u64 = 0;
-    let mut q = 0;
-    while q < rows {
-        let r = rule_line(file, at + q * len, work, states, symbols, q);
-        let status = r.status;
-        if status != 0 {
-            return refused(status);
-        }
-        finals = finals | (r.number << q);
-        q += 1;
+    for q in 0..rows {
+        let mark = rule_line(file, at + q * len, work, states, symbols, q)?;
+        finals |= mark << q;
     }
-    Collected {
-        status: 0,
-        number: finals,
-    }
+    Ok(finals)
 }

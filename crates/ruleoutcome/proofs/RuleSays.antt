@@ -1,5 +1,6 @@
 -- What a caller of the rule call has: the bytes of the rule, the refusals in their order, the work buffer, the numbers seen, and the rule by value.
 -- Assumes nothing.
+use Rattle.std.specs.Prelude.{Ok, Err}
 use mathlib.Core.Path.{◌≡◌, refl, sym, ap, ◌∙◌, subst}
 use mathlib.Core.Bool.{Bool, true, false, cond}
 use mathlib.Core.List.{List}
@@ -17,7 +18,6 @@ use Rattle.jobfile.specs.File.{Answer, accepted, turned, max_file, read_job}
 use Rattle.buffer.specs.Buffer.{work_size}
 use Rattle.admission.specs.Admission.{admitted, refused_left, work_after}
 use Rattle.admission.proofs.AdmissionLaws.{admitted_long, admitted_short, admitted_read, admitted_small, left_past}
-use Rattle.ruleoutcome.specs.declared.rule.RuleAnswer.TheVariants.{Rule, Refused}
 use Rattle.ruleoutcome.specs.RuleCall.{fitted, rule_answer, numbers_of, ruled_of, rule_after, rule_value, rule_number}
 use Rattle.ruleoutcome.specs.RuleSays.{RuleLeft, handed_over, unchanged, RuleBytesSay, RuleRefused, too_long, short_work, turned_back, other_length, RuleAnswerSays, RuleWorkSays, ruled_read, RuledByNumber, RuleValueSays}
 use Rattle.ruleoutcome.proofs.RuleLaws.{turned_or_accepted, rule_reads, rule_well_formed, finals_few}
@@ -78,9 +78,9 @@ module _ (file : List ℕ) (work rule : ℕ) where
   -- ---- the number
 
   -- S, A and the final set in it are read back
-  read_numbers : (m : Automaton) → WellFormed m → ruled_read (rule_number (Rule (numbers_of m))) ≡ Rule (numbers_of m)
+  read_numbers : (m : Automaton) → WellFormed m → ruled_read (rule_number (Ok (numbers_of m))) ≡ Ok (numbers_of m)
   read_numbers m wf =
-      let n = rule_number (Rule (numbers_of m)) in
+      let n = rule_number (Ok (numbers_of m)) in
       let few = finals_few m wf in
       let states : n / 2 ^ 32 % 2 ^ 16 ≡ m.states = omega (arith, wf.few_states, wf.few_symbols, few) in
       let symbols : n / 2 ^ 16 % 2 ^ 16 ≡ m.symbols = omega (arith, wf.few_states, wf.few_symbols, few) in
@@ -96,7 +96,7 @@ module _ (file : List ℕ) (work rule : ℕ) where
   refused_small k (other_length room read other) = omega arith
 
   -- so it is read back
-  read_refusal : (k : ℕ) → RuleRefused file work rule k → ruled_read (rule_number (Refused k)) ≡ Refused k
+  read_refusal : (k : ℕ) → RuleRefused file work rule k → ruled_read (rule_number (Err k)) ≡ Err k
   read_refusal k r = simp (lt-ltb k accepted_from (omega (arith, refused_small k r)))
 
   -- a number of 2^48 or more is that of a rule that was handed over

@@ -1,7 +1,7 @@
 -- What a caller of the rule call has: the rule's cells in its buffer beside its numbers, each refusal in its order, the work buffer, the answer
 -- seen by the number, and the job's rule in the table by value. Statements, with a theorem for each in `proofs/`.
 -- Assumes nothing.
-use Rattle.std.specs.Prelude.{◌≡◌, ◌≢◌, ◌↔◌, cond, List, ℕ, ◌+◌, ◌*◌, ◌/◌, ◌%◌, ◌^◌, ◌≤◌, ◌<◌, ltb, length, replicate}
+use Rattle.std.specs.Prelude.{Result, Ok, Err, ◌≡◌, ◌≢◌, ◌↔◌, cond, List, ℕ, ◌+◌, ◌*◌, ◌/◌, ◌%◌, ◌^◌, ◌≤◌, ◌<◌, ltb, length, replicate}
 use Rattle.callnumber.specs.CallNumber.{accepted_from}
 use Rattle.automaton.specs.Automaton.{automaton_of, SameRule}
 use Rattle.automaton.specs.Table.{rule_size, table_of, RuleWritten}
@@ -9,18 +9,17 @@ use Rattle.job.specs.Job.{Job}
 use Rattle.jobfile.specs.File.{Answer, accepted, turned, max_file, read_job}
 use Rattle.buffer.specs.Buffer.{work_size, cleared}
 use Rattle.admission.specs.Admission.{work_after}
-use Rattle.ruleoutcome.specs.declared.rule.RuleAnswer.{RuleAnswer}
-use Rattle.ruleoutcome.specs.declared.rule.RuleAnswer.TheVariants.{Rule, Refused}
 use Rattle.ruleoutcome.specs.RuleCall.{rule_answer, ruled_of, rule_after, rule_value, rule_number}
+use Rattle.ruleoutcome.specs.declared.rule.RuleNumbers.{RuleNumbers}
 
 -- the rule buffer after the call, for what the file spells and what is answered: the job's rule, beside its S, A and final set; or as it was,
 -- beside the refusal's number
-pub data RuleLeft (before after : List ℕ) : Answer → RuleAnswer → Type 0 where
+pub data RuleLeft (before after : List ℕ) : Answer → Result RuleNumbers ℕ → Type 0 where
   handed_over
       : {j : Job} → RuleWritten j.rule after
       → RuleLeft before after (accepted j)
-      (Rule (record { states = j.rule.states; symbols = j.rule.symbols; finals = j.rule.finals }))
-  unchanged : {k : ℕ} → after ≡ before → RuleLeft before after (turned k) (Refused k)
+      (Ok (record { states = j.rule.states; symbols = j.rule.symbols; finals = j.rule.finals }))
+  unchanged : {k : ℕ} → after ≡ before → RuleLeft before after (turned k) (Err k)
 
 -- the statement: the bytes that are left, and the answer, are those
 abbrev pub RuleBytesSay : Type 0
@@ -57,10 +56,10 @@ pub record RuleWorkSays : Type 0 where
       → work_after (rule_answer file (length work) rule) work ≡ cleared work
 
 -- the answer that a number tells: below 2^48 a refusal, from there on S, A and the final set
-abbrev pub ruled_read : ℕ → RuleAnswer
+abbrev pub ruled_read : ℕ → Result RuleNumbers ℕ
 ruled_read n =
-    cond (ltb n accepted_from) (Refused n)
-    (Rule (record { states = n / 2 ^ 32 % 2 ^ 16; symbols = n / 2 ^ 16 % 2 ^ 16; finals = n % 2 ^ 16 }))
+    cond (ltb n accepted_from) (Err n)
+    (Ok (record { states = n / 2 ^ 32 % 2 ^ 16; symbols = n / 2 ^ 16 % 2 ^ 16; finals = n % 2 ^ 16 }))
 
 -- the statement: the number of a rule that is handed over; a caller sees by the number whether there is one, and reads back its numbers or the
 -- refusal

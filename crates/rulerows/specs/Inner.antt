@@ -1,19 +1,17 @@
 -- What the parts of the call for rule rows ask and find.
 -- Inner contracts: what functions ask of and leave to each other. No promise is stated in them; a reader need not believe them.
 -- Assumes nothing.
-use Rattle.std.specs.Prelude.{◌≡◌, ◌⊎◌, Bool, true, false, cond, List, [], ℕ, ◌+◌, ◌*◌, ◌≤◌, ◌<◌, eqb, length, get_or}
+use Rattle.std.specs.Prelude.{◌≡◌, ◌⊎◌, Bool, true, false, cond, List, [], ℕ, ◌+◌, ◌*◌, ◌≤◌, ◌<◌, eqb, length, get_or, Option, Some, None}
 use Rattle.lines.specs.Line.{Due, ends, no_line, found}
 use Rattle.rulerows.specs.declared.rows.Row.{Row}
-use Rattle.rulerows.specs.declared.rows.RowDue.{RowDue}
-use Rattle.rulerows.specs.declared.rows.RowDue.TheVariants.{Within, NotWithin}
 use Rattle.rulerows.specs.RuleRows.{row_of, good_row, Rows, rows, not_rows, rows_in, named_by, next_in, twice}
 use Rattle.rulerows.specs.RowsSay.{Names}
 
 -- the row that is due, if it is there and within its limits
-abbrev pub row_due : ℕ → ℕ → Due → RowDue
-row_due s a ends = NotWithin
-row_due s a no_line = NotWithin
-row_due s a (found ns) = cond (good_row s a 0 [] ns) (Within (row_of ns)) NotWithin
+abbrev pub row_due : ℕ → ℕ → Due → Option Row
+row_due s a ends = None
+row_due s a no_line = None
+row_due s a (found ns) = cond (good_row s a 0 [] ns) (Some (row_of ns)) None
 
 -- a row within sixteen states and sixteen symbols
 pub record RowFits (r : Row) : Type 0 where

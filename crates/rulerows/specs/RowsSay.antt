@@ -1,7 +1,7 @@
 -- What the answers of the call for rule rows say (document 02, request 4), of the rows that stand in the text: when a rule is made and which,
 -- each refusal in its order, the bytes that are left, and the number. Statements, with a theorem for each in `proofs/`.
 -- Assumes nothing.
-use Rattle.std.specs.Prelude.{◌≡◌, ◌≢◌, ◌⊎◌, ◌↔◌, true, cond, List, [], ◌++◌, map, ℕ, ◌+◌, ◌*◌, ◌≤◌, ◌<◌, ltb, length, drop, get_or, replicate}
+use Rattle.std.specs.Prelude.{Result, Ok, Err, ◌≡◌, ◌≢◌, ◌⊎◌, ◌↔◌, true, cond, List, [], ◌++◌, map, ℕ, ◌+◌, ◌*◌, ◌≤◌, ◌<◌, ltb, length, drop, get_or, replicate}
 use Rattle.laws.specs.Bits.{has}
 use Rattle.callnumber.specs.CallNumber.{accepted_from}
 use Rattle.automaton.specs.Automaton.{Automaton, automaton_of, next, NumbersFit, well_formed, WellFormed, SameRule}
@@ -16,8 +16,6 @@ use Rattle.jobfile.specs.Alike.{Alike}
 use Rattle.jobfile.specs.Spellable.{Spellable}
 use Rattle.jobfile.specs.RuleLines.{rule_text, with_rule_text}
 use Rattle.rulerows.specs.declared.rows.Row.{Row}
-use Rattle.rulerows.specs.declared.rows.RowsAnswer.{RowsAnswer}
-use Rattle.rulerows.specs.declared.rows.RowsAnswer.TheVariants.{Accepted, Refused}
 use Rattle.rulerows.specs.RuleRows.{row_of, good_row, row_line, names, max_text, rows_made, rows_answer, rows_value, rows_number}
 
 -- ---- rows
@@ -146,9 +144,9 @@ pub record RowsAnswerSays : Type 0 where
 -- ---- the bytes
 
 -- the rule buffer after the call, for what is made and what is answered: the rule's bytes; or as it was, beside the refusal's number
-pub data RowsLeft (before after : List ℕ) : Made → RowsAnswer → Type 0 where
-  written : {m : Automaton} → RuleWritten m after → RowsLeft before after (makes m) Accepted
-  unchanged : {k : ℕ} → after ≡ before → RowsLeft before after (refuses k) (Refused k)
+pub data RowsLeft (before after : List ℕ) : Made → Result Unit ℕ → Type 0 where
+  written : {m : Automaton} → RuleWritten m after → RowsLeft before after (makes m) (Ok tt)
+  unchanged : {k : ℕ} → after ≡ before → RowsLeft before after (refuses k) (Err k)
 
 -- the statement: the bytes that are left, and the answer, are those
 abbrev pub RowsBytesSay : Type 0
@@ -177,8 +175,8 @@ pub record RowsValueSays : Type 0 where
 -- ---- the number
 
 -- the answer that a number tells: below 2^48 a refusal
-abbrev pub rows_seen : ℕ → RowsAnswer
-rows_seen n = cond (ltb n accepted_from) (Refused n) Accepted
+abbrev pub rows_seen : ℕ → Result Unit ℕ
+rows_seen n = cond (ltb n accepted_from) (Err n) (Ok tt)
 
 -- the statement: a rule is 2^48; a caller sees by the number whether there is one, and reads back the refusal
 pub record RowsByNumber : Type 0 where

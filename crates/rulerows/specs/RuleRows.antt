@@ -1,6 +1,6 @@
 -- Rule rows that offices can edit (document 02, request 4): the rows of a text, the rule that they make, and the call's answer.
 -- Assumes nothing.
-use Rattle.std.specs.Prelude.{Bool, cond, ◌&&◌, List, [], ◌∷◌, map, ℕ, ◌+◌, ◌*◌, ◌/◌, eqb, leb, ltb, length}
+use Rattle.std.specs.Prelude.{Result, Ok, Err, Bool, cond, ◌&&◌, List, [], ◌∷◌, map, ℕ, ◌+◌, ◌*◌, ◌/◌, eqb, leb, ltb, length}
 use Rattle.laws.specs.Bounded.{any_below, tab}
 use Rattle.callnumber.specs.CallNumber.{accepted_from}
 use Rattle.automaton.specs.Automaton.{Automaton, automaton_of, numbers_fit}
@@ -10,9 +10,7 @@ use Rattle.lines.specs.Line.{at, line_length}
 use Rattle.lines.specs.Lines.{LineKind, Lines, lines, refused, lines_of}
 use Rattle.rulerows.specs.declared.rows.Span.{Span}
 use Rattle.rulerows.specs.declared.rows.Row.{Row}
-use Rattle.rulerows.specs.declared.rows.RowsAnswer.{RowsAnswer}
-use Rattle.rulerows.specs.declared.rows.RowsAnswer.TheVariants.{Accepted, Refused}
-use Rattle.rulerows.specs.declared.rows.RowsRule.{RowsRule}
+use Rattle.rulevalue.specs.declared.WithTable.{WithTable}
 
 -- ---- the rows of a text
 
@@ -111,15 +109,15 @@ abbrev pub rows_made : List ℕ → ℕ → ℕ → ℕ → ℕ → Made
 rows_made text s a f rule = cond (eqb rule rule_size) (rule_from text s a f) (refuses 13)
 
 -- what the call answers
-abbrev pub rows_answer : Made → RowsAnswer
-rows_answer (makes m) = Accepted
-rows_answer (refuses k) = Refused k
+abbrev pub rows_answer : Made → Result Unit ℕ
+rows_answer (makes m) = (Ok tt)
+rows_answer (refuses k) = Err k
 
 -- by value
-abbrev pub rows_value : Made → RowsRule
+abbrev pub rows_value : Made → WithTable (Result Unit ℕ)
 rows_value x = record { answer = rows_answer x; table = made_table x }
 
 -- across the C call: 2^48; a refusal is its number
-abbrev pub rows_number : RowsAnswer → ℕ
-rows_number Accepted = accepted_from
-rows_number (Refused k) = k
+abbrev pub rows_number : Result Unit ℕ → ℕ
+rows_number (Ok tt) = accepted_from
+rows_number (Err k) = k

@@ -13,12 +13,10 @@ pub fn are_below(numbers: &[u64; 18], states: u64, symbols: usize) -> bool
     requires { symbols ≤ 16 }
     ensures { result ≡ all_below symbols (λ c. ltb (get_or numbers.now (c + 2) 0) states) }
 {
-    let mut c = 0;
-    while c < symbols {
+    for c in 0..symbols {
         if states <= numbers[c + 2] {
             return false;
         }
-        c += 1;
     }
     true
 }
@@ -28,10 +26,8 @@ pub fn clear_rule(work: &mut [u8])
     requires { Lent work.old }
     ensures { RuleCleared work.old work.new }
 {
-    let mut k = 0;
-    while k < 256 {
+    for k in 0..256 {
         work[RULE + k] = 0;
-        k += 1;
     }
 }
 
@@ -40,9 +36,7 @@ pub fn store_row(work: &mut [u8], q: usize, numbers: &[u64; 18])
     requires { (q < 16) × ((Lent work.old) × ((c : ℕ) → c < 16 → get_or numbers.now (c + 2) 0 < 256)) }
     ensures { RowStored work.old work.new q numbers.now }
 {
-    let mut c = 0;
-    while c < 16 {
+    for c in 0..16 {
         work[RULE + q * 16 + c] = numbers[c + 2] as u8;
-        c += 1;
     }
 }

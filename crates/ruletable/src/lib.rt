@@ -10,11 +10,7 @@ fn row_of(bytes: &[u8], start: usize) -> [u8; 16]
     ensures { result ≡ row_of bytes.now start }
 {
     let mut row = [0u8; 16];
-    let mut a = 0;
-    while a < 16 {
-        row[a] = bytes[start + a];
-        a += 1;
-    }
+    row.copy_from_slice(&bytes[start..start + 16]);
     row
 }
 
@@ -24,11 +20,8 @@ pub fn table_of(bytes: &[u8]) -> [[u8; 16]; 16]
     ensures { result ≡ table_of bytes.now }
 {
     let mut table = [[0u8; 16]; 16];
-    let mut q = 0;
-    while q < 16 {
-        let row = row_of(bytes, q * 16);
-        table[q] = row;
-        q += 1;
+    for q in 0..16 {
+        table[q] = row_of(bytes, q * 16);
     }
     table
 }

@@ -36,7 +36,7 @@ fn spell_row(rows: &mut [u16], table: &[[u8; 16]; 16], set: u16, p: usize) -> u1
         let a = lowest(rest) as usize;
         let state = next_state(table, p, a);
         let moved = image_under(table, a, s);
-        grown = grown | grow_row(rows, state, moved);
+        grown |= grow_row(rows, state, moved);
         rest = without_lowest(rest);
     }
     grown

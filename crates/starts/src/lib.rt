@@ -30,9 +30,7 @@ pub fn start(work: &mut [u8], nodes: usize)
 {
     clear_pairs(work);
     clear_marks(work);
-    let mut n = 0;
-    while n < nodes {
+    for n in 0..nodes {
         start_node(work, n);
-        n += 1;
     }
 }

@@ -89,16 +89,3 @@ looked_more lasts sets count q out more l low e h =
         by_cases (ℕ_discrete p q)
         (λ (y : p ≡ q). omega (arith, y))
         (λ (y : p ≢ q). omega (arith, h.finals.below p (sym (other p y) ∙ g)))
-
-pub looked_all
-    : (lasts : ℕ) (sets : List ℕ) (count q out : ℕ) → count ≤ q → Looked lasts sets count q out → FinalsOf lasts sets count out
-looked_all lasts sets count q out l h =
-    record { ends = λ p a b. h.finals.ends p a (omega (arith, b, l)); start = h.finals.start; below = below }
-  where
-    below : (p : ℕ) → has out p ≡ true → p < count
-    below p g =
-        by_cases (ℕ_discrete p 0)
-        (λ (y : p ≡ 0). absurd (true≢false (sym g ∙ ap (λ (n : ℕ). has out n) y ∙ h.finals.start)))
-        (λ (y : p ≢ 0).
-        let low = h.finals.below p g in
-        omega (arith, low, h.within (omega (arith, low, y))))

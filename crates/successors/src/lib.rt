@@ -10,14 +10,13 @@ use graphreads::{start_at, target_at};
 use rows::join_pairs;
 
 // Joins sixteen rows into those of node n.
-fn join_rows(work: &mut [u8], n: usize, rows: &[u16; 16])
+#[inline(always)]
+pub fn join_rows(work: &mut [u8], n: usize, rows: &[u16; 16])
     requires { (Lent work.old) × (n < 512) }
     ensures { RowsJoined work.old work.new n rows.now }
 {
-    let mut p = 0;
-    while p < 16 {
+    for p in 0..16 {
         join_pairs(work, n, p, rows[p]);
-        p += 1;
     }
 }
 
@@ -27,10 +26,8 @@ pub fn join_successors(work: &mut [u8], n: usize, rows: &[u16; 16])
     ensures { JoinedPast work.old work.new n rows.now }
 {
     let end = start_at(work, n + 1);
-    let mut i = start_at(work, n);
-    while i < end {
+    for i in start_at(work, n)..end {
         let m = target_at(work, i);
         join_rows(work, m, rows);
-        i += 1;
     }
 }

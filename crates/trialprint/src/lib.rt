@@ -2,6 +2,7 @@
 #![tactic(auto)]
 
 use checking::check::Verdict;
+use refusal::Refusal;
 use std::io;
 use std::io::{Print, Write};
 
@@ -18,26 +19,18 @@ pub fn print_job_under(rt: &impl Print, title: &[u8], job: &[u8]) -> io::Result<
     print(rt, b"\n")
 }
 
-// Prints a byte of a plan.
-fn print_mark(rt: &impl Print, mark: u8) -> io::Result<()> {
-    print!(rt; " {mark}")
-}
-
 // Prints the bytes of a plan.
 pub fn print_marks(rt: &impl Print, plan: &[u8]) -> io::Result<()> {
-    let mut n = 0;
-    while n < plan.len() {
-        print_mark(rt, plan[n])?;
-        n += 1;
+    for mark in plan {
+        print!(rt; " {mark}")?;
     }
     Ok(())
 }
 
 // Prints the answer of the plan check.
-pub fn print_verdict(rt: &impl Print, verdict: Verdict) -> io::Result<()> {
-    match verdict {
-        Verdict::Faithful => print(rt, b"faithful\n\n"),
-        Verdict::Different => print(rt, b"different\n\n"),
-        Verdict::Refused(number) => print!(rt; "X {number}\n\n"),
+pub fn print_verdict(rt: &impl Print, answer: Result<Verdict, Refusal>) -> io::Result<()> {
+    match answer {
+        Ok(verdict) => print!(rt; "{verdict}\n\n"),
+        Err(refusal) => print!(rt; "X {refusal}\n\n"),
     }
 }

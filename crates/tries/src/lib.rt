@@ -20,8 +20,7 @@ pub fn first_gone(
     requires { (progress.last ≤ nodes) × (Usable work.old table.now states nodes × Carried work.old nodes progress.enabled) }
     ensures { FirstGone table.now finals states nodes progress work.old work.new result }
 {
-    let mut n = 0;
-    while n < progress.last {
+    for n in 0..progress.last {
         let left = try_node(work, table, finals, states, nodes, n, progress.enabled);
         if left != progress.enabled {
             return Progress {
@@ -29,7 +28,6 @@ pub fn first_gone(
                 last: n + 1,
             };
         }
-        n += 1;
     }
     Progress {
         enabled: progress.enabled,
@@ -51,17 +49,15 @@ pub fn last_gone(
 {
     let mut total = progress.enabled;
     let mut last = progress.last;
-    let mut n = progress.last;
-    while n < nodes {
+    for n in progress.last..nodes {
         let left = try_node(work, table, finals, states, nodes, n, total);
         if left != total {
             last = n + 1;
         }
         total = left;
-        n += 1;
     }
     Progress {
         enabled: total,
-        last: last,
+        last,
     }
 }

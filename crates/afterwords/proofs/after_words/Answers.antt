@@ -1,6 +1,5 @@
 -- `afterwords::after_words` meets its contract.
 -- Invariant: the rows of the nodes below n hold the after words of the exits among them, and the rows of the others are empty.
--- Measure: the nodes still to be done.
 -- Assumes nothing.
 use native.Mathlib.Omega.{arith}
 use Rattle.tables.proofs.SixteenLaws.{empty_rows, empty_row, empty_sixteen}

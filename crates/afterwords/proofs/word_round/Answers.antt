@@ -1,6 +1,6 @@
 -- `afterwords::word_round` meets its contract.
 -- Invariant: the rows below p were joined, and `grown` of them grew.
--- Measure: the rows still to be joined. Each turn is one step of `JoiningWords`.
+-- Each turn is one step of `JoiningWords`.
 -- Assumes nothing.
 use mathlib.Core.Path.{sym, ◌∙◌}
 use native.Mathlib.Omega.{arith}

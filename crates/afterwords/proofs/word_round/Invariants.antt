@@ -1,13 +1,9 @@
 -- `afterwords::word_round` meets its contract.
 -- Invariant: the rows below p were joined, and `grown` of them grew.
--- Measure: the rows still to be joined. Each turn is one step of `JoiningWords`.
+-- Each turn is one step of `JoiningWords`.
 -- Assumes nothing.
-use Prim.Native.Nat.{◌-◌}
 use Rattle.classes.proofs.WordLaws.{JoiningWords}
 use Rattle.afterwords.proofs.word_round.Given as goal
 
 abbrev pub invariant-loop-p : goal.invariant-loop-p
 invariant-loop-p l = JoiningWords l.table l.finals l.states l.initial.rows l.rows l.set l.grown l.p
-
-abbrev pub decreases-loop-p : goal.decreases-loop-p
-decreases-loop-p l = l.states - l.p

@@ -1,14 +1,17 @@
 -- `answernumbers::of_listed` meets its contract: a length of 16 bits is added without loss.
 -- Assumes nothing.
+use Rattle.std.specs.Prelude.{Result, ℕ}
 use mathlib.Core.Path.{sym, ap, subst}
 use native.Mathlib.Omega.{arith}
 use Rattle.listoutcome.specs.ListCall.{list_number}
 use Rattle.answernumbers.specs.Fits.{ListedFits}
+use Rattle.refusal.specs.declared.Refusal.{Refusal}
+use Rattle.refusal.specs.Refusal.{said}
 use Rattle.answernumbers.proofs.of_listed.Goals as goal
 
 pub overflow_add-result : goal.overflow_add-result
 overflow_add-result c =
-    let few = subst ListedFits c.in-Length.is c.requires in record { fits = omega (arith, few) }
+    let few = subst (λ (r : Result ℕ Refusal). ListedFits (said r)) c.in-Ok.is c.requires in record { fits = omega (arith, few) }
 
-pub returns-in-Length : goal.returns-in-Length
-returns-in-Length c = ap list_number (sym c.in-Length.is)
+pub returns-in-Ok : goal.returns-in-Ok
+returns-in-Ok c = ap (λ (r : Result ℕ Refusal). list_number (said r)) (sym c.in-Ok.is)

@@ -1,9 +1,8 @@
 -- `cellsbelow::are_cells_below` meets its contract.
 -- Invariants: all rows before q pass the test of a row, and in row q all cells before a pass that of a cell.
--- Measures: the rows, and the cells of the row, still to be looked at. A cell that fails makes its row fail, and the row the whole.
+-- A cell that fails makes its row fail, and the row the whole.
 -- Assumes nothing.
 use mathlib.Core.Path.{sym}
-use mathlib.Core.Bool.{true}
 use borrow.Author.Rules.{rules}
 use native.Mathlib.Omega.{arith}
 use Rattle.laws.proofs.Bounded.{all_none, all_more, all_end}
@@ -17,15 +16,15 @@ loop-q-init c = (search rules, all_none _)
 pub loop-a-init : goal.loop-a-init
 loop-a-init c = (search rules, all_none _)
 
-pub returns-then-states-wide : goal.returns-then-states-wide
+pub returns-then-states-from : goal.returns-then-states-from
 unfolding cell
-returns-then-states-wide c =
+returns-then-states-from c =
     let x = c.args in
     let q = c.loop-q.q in
     let a = c.loop-a.a in
     sym
     (cell_fails x.table.now x.states x.symbols q a (search rules) (search rules)
-    (cell_high x.table.now x.states q a c.wide.result c.wide.ensures.0 c.if-states-wide.true))
+    (cell_high x.table.now x.states q a c.from.result c.from.ensures c.if-states-from.true))
 
 pub loop-a-preserved : goal.loop-a-preserved
 unfolding cell
@@ -35,7 +34,7 @@ loop-a-preserved c =
     let a = c.loop-a.a in (
       search rules,
       all_more a (cell_below x.table.now x.states q) c.loop-a.invariant.1
-          (cell_low x.table.now x.states q a c.wide.result c.wide.ensures.0 c.if-states-wide.false),
+          (cell_low x.table.now x.states q a c.from.result c.from.ensures c.if-states-from.false),
     )
 
 pub loop-q-preserved : goal.loop-q-preserved

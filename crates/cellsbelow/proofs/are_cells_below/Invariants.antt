@@ -1,8 +1,8 @@
 -- `cellsbelow::are_cells_below` meets its contract.
 -- Invariants: all rows before q pass the test of a row, and in row q all cells before a pass that of a cell.
--- Measures: the rows, and the cells of the row, still to be looked at. A cell that fails makes its row fail, and the row the whole.
+-- A cell that fails makes its row fail, and the row the whole.
 -- Assumes nothing.
-use Prim.Native.Nat.{ℕ, ◌≤◌, ◌-◌}
+use Prim.Native.Nat.{ℕ, ◌≤◌}
 use mathlib.Core.Path.{◌≡◌}
 use mathlib.Core.Bool.{true}
 use Rattle.laws.specs.Bounded.{all_below}
@@ -12,12 +12,6 @@ use Rattle.cellsbelow.proofs.are_cells_below.Given as goal
 abbrev pub invariant-loop-a : goal.invariant-loop-a
 invariant-loop-a l = (l.a ≤ l.columns) × (all_below l.a (cell_below l.table l.states l.q) ≡ true)
 
-abbrev pub decreases-loop-a : goal.decreases-loop-a
-decreases-loop-a l = l.columns - l.a
-
 abbrev pub invariant-loop-q : goal.invariant-loop-q
 invariant-loop-q l =
     (l.q ≤ l.rows) × (all_below l.q (λ (p : ℕ). all_below l.symbols (cell_below l.table l.states p)) ≡ true)
-
-abbrev pub decreases-loop-q : goal.decreases-loop-q
-decreases-loop-q l = l.rows - l.q

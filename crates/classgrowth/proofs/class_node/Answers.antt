@@ -1,6 +1,5 @@
 -- `classgrowth::class_node` meets its contract.
 -- Invariant: the rows of node n below p were joined, and `grown` of them grew.
--- Measure: the rows still to be joined.
 -- Assumes nothing.
 use native.Mathlib.Omega.{arith}
 use Rattle.buffer.specs.Views.{class_row_in}

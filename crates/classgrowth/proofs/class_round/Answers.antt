@@ -1,6 +1,5 @@
 -- `classgrowth::class_round` meets its contract.
 -- Invariant: the nodes from n on were grown once, and `grown` of their rows grew.
--- Measure: the nodes still to be grown.
 -- Assumes nothing.
 use Prim.Native.Nat.{◌-◌, ◌<◌}
 use native.Mathlib.Omega.{arith}

@@ -1,12 +1,8 @@
 -- `classgrowth::class_round` meets its contract.
 -- Invariant: the nodes from n on were grown once, and `grown` of their rows grew.
--- Measure: the nodes still to be grown.
 -- Assumes nothing.
 use Rattle.classes.proofs.ClassLaws.{RoundSoFar}
 use Rattle.classgrowth.proofs.class_round.Given as goal
 
 abbrev pub invariant-loop-n : goal.invariant-loop-n
 invariant-loop-n l = RoundSoFar l.table l.finals l.states l.nodes l.initial.work l.work l.grown l.n
-
-abbrev pub decreases-loop-n : goal.decreases-loop-n
-decreases-loop-n l = l.n

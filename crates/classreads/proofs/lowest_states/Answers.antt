@@ -1,6 +1,6 @@
 -- `classreads::lowest_states` meets its contract.
 -- Invariant: `out` is the lowest states below q, and `apart` the states told apart from every state below q.
--- Measure: the states still to be looked at. Each turn keeps bit q of `apart`, then cuts `apart` by row q.
+-- Each turn keeps bit q of `apart`, then cuts `apart` by row q.
 -- Assumes nothing.
 use mathlib.Core.Path.{◌≡◌, sym, ap, ◌∙◌}
 use mathlib.Core.Bool.{Bool, not, cond, ◌&&◌}
@@ -45,7 +45,6 @@ turn_apart work n apart q row i other row_is =
 
 pub loop-q-init : goal.loop-q-init
 loop-q-init c = record {
-  within = omega arith;
   exact = sym (set_of_none (is_lowest c.args.work.now c.args.n));
   others = λ i l.
       has_complement 16 0 i (omega arith) l ∙ ap not (has_empty i)
@@ -57,7 +56,6 @@ loop-q-preserved c =
     let loop = c.loop-q in
     let l : loop.q < 16 = omega (arith, c.requires.1.1) in
     record {
-      within = omega arith;
       exact = turn_out _ _ loop.out loop.apart loop.q loop.invariant.exact l (loop.invariant.others loop.q l);
       others = λ i m. turn_apart _ _ loop.apart loop.q c.class_row-apart.result i (loop.invariant.others i m) c.class_row-apart.ensures;
     }
@@ -67,5 +65,5 @@ unfolding lowest_states
 returns c =
     let loop = c.loop-q in
     let args = c.args in
-    let e : loop.q ≡ args.states = omega (arith, loop.invariant.within) in
+    let e : loop.q ≡ args.states = omega arith in
     loop.invariant.exact ∙ ap (λ (k : ℕ). set_of k (is_lowest args.work.now args.n)) e

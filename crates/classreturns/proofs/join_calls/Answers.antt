@@ -1,5 +1,5 @@
 -- `classreturns::join_calls` meets its contract.
--- Invariant: the rows at the calls below n were joined, and `grown` rows grew. Measure: the nodes still to be passed.
+-- Invariant: the rows at the calls below n were joined, and `grown` rows grew.
 -- Assumes nothing.
 use native.Mathlib.Omega.{arith}
 use Rattle.buffer.proofs.ClassRowLaws.{apart_left_small}

@@ -1,5 +1,5 @@
 -- `classreturns::join_exits` meets its contract.
--- Invariant: the after words of the exits below n were joined, and `grown` rows grew. Measure: the nodes still to be passed.
+-- Invariant: the after words of the exits below n were joined, and `grown` rows grew.
 -- Assumes nothing.
 use native.Mathlib.Omega.{arith}
 use Rattle.buffer.proofs.ClassRowLaws.{apart_left_small}

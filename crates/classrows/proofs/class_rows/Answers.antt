@@ -1,5 +1,5 @@
 -- `classrows::class_rows` meets its contract.
--- Invariant: the rows before p are those of the node. Measure: the rows still to be read.
+-- Invariant: the rows before p are those of the node.
 -- Assumes nothing.
 use mathlib.Core.Path.{refl, ◌∙◌}
 use native.Mathlib.Nat.{not-suc-le-zero}

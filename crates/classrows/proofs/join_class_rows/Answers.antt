@@ -1,6 +1,6 @@
 -- `classrows::join_class_rows` meets its contract.
 -- Invariant: the rows below p are joined, `grown` of them grew, and nothing else is new.
--- Measure: the rows still to be joined. Each turn is one step of `JoiningApart`.
+-- Each turn is one step of `JoiningApart`.
 -- Assumes nothing.
 use mathlib.Core.Path.{refl}
 use native.Mathlib.Omega.{arith}

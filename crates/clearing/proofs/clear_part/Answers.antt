@@ -1,35 +1,27 @@
--- `clearing::clear_part` meets its contract.
--- Invariant: the bytes from `from` up to i are zero and the others as they were. Measure: the bytes still to be cleared.
+-- `clearing::clear_part` meets its contract: the part is filled with zeros, and the bytes before and after it stay.
 -- Assumes nothing.
-use mathlib.Core.Path.{◌≡◌, subst}
-use Prim.Native.Nat.{ℕ}
-use native.Mathlib.Nat.{le_refl}
+use mathlib.Core.Path.{◌≡◌, ap, ◌∙◌}
+use mathlib.Core.List.{List}
+use Prim.Native.Nat.{ℕ, ◌-◌, ◌≤◌}
 use native.Mathlib.Omega.{arith}
-use borrow.Author.Rules.{rules}
+use lib.ListN.{length, take, drop, replicate, length-take, length-drop}
+use borrow.Rule.Slice.PartMut.{put_mid}
+use Rattle.std.proofs.lemmas.Grind.{common_steps}
 use Rattle.buffer.specs.Kept.{Zeroed}
-use Rattle.buffer.proofs.KeptLaws.{zeroed_none, zeroed_more}
 use Rattle.clearing.proofs.clear_part.Goals as goal
 
-pub loop-i-init : goal.loop-i-init
-loop-i-init c = (le_refl c.args.from, search rules, search rules, zeroed_none c.args.work.now c.args.from)
-
-pub bounds-work-i : goal.bounds-work-i
-bounds-work-i c = search (rules, c.loop-i.invariant.3.kept.long)
-
-pub loop-i-preserved : goal.loop-i-preserved
-loop-i-preserved c =
-    let l = c.loop-i in (
-      search rules,
-      search rules,
-      l.invariant.2,
-      zeroed_more c.args.work.now l.work c.args.from l.i l.invariant.0 (omega arith) l.invariant.3,
-    )
-
-pub shape_of-work : goal.shape_of-work
-shape_of-work c = c.loop-i.invariant.3.kept.long
+-- zeros in the place of a part
+filled
+    : (l part : List ℕ) (i j : ℕ) → i ≤ j → j ≤ length l → part ≡ replicate (j - i) 0
+    → Zeroed l (put_mid i (j - i) l part) i j
+filled l part i j order within zeros = rw zeros (record {
+  kept = record { long = grind (arith, common_steps); outside = λ k outside. grind (arith, common_steps) };
+  zeros = λ k from below. grind (arith, common_steps);
+})
 
 pub returns : goal.returns
 returns c =
-    let l = c.loop-i in
-    let e : l.i ≡ c.args.to = omega arith in
-    subst (λ (x : ℕ). Zeroed c.args.work.now l.work c.args.from x) e l.invariant.3
+    let a = c.args in
+    let pre = c.requires in
+    let long : length (take (a.to - a.from) (drop a.from a.work.now)) ≡ a.to - a.from = simp (length-take, length-drop) (omega arith) in
+    filled a.work.now _ a.from a.to pre.1 pre.0 (c.fill.ensures.after (λ y e. e) ∙ ap (λ (n : ℕ). replicate n 0) long)

@@ -1,5 +1,5 @@
 -- `daycost::day_cost` meets its contract.
--- Invariant: the lines of the first n nodes pass, and the sum is what their events cost. Measure: the nodes still to come.
+-- Invariant: the lines of the first n nodes pass, and the sum is what their events cost.
 -- Assumes nothing.
 use native.Mathlib.Omega.{arith}
 use borrow.Author.Rules.{rules}
@@ -9,8 +9,7 @@ use Rattle.daycost.proofs.day_cost.Goals as goal
 pub returns-then-volumes-nodes : goal.returns-then-volumes-nodes
 returns-then-volumes-nodes c =
     let x = c.args in
-    sum_length x.volumes.now x.prices.now x.work.now x.plan.now x.nodes c.refused.result c.refused.ensures
-    c.if-volumes-nodes.true
+    sum_length x.volumes.now x.prices.now x.work.now x.plan.now x.nodes c.if-volumes-nodes.true
 
 pub loop-n-init : goal.loop-n-init
 loop-n-init c =
@@ -25,8 +24,7 @@ returns-in_default c =
     let x = c.args in
     let l = c.loop-n in
     let f = c.volume_line in
-    sum_stop x.volumes.now x.prices.now x.work.now x.plan.now l.sum x.nodes l.n f.result c.refused-in_default.result
-    c.refused-in_default.ensures c.loop-n-test.true l.invariant.1 f.ensures c.in_default.is
+    sum_stop x.volumes.now x.prices.now x.work.now x.plan.now l.sum x.nodes l.n f.result c.loop-n-test.true l.invariant.1 f.ensures c.in_default.is
 
 pub cost_at-sum-requires : goal.cost_at-sum-requires
 cost_at-sum-requires c =
@@ -34,7 +32,7 @@ cost_at-sum-requires c =
     let l = c.loop-n in
     let f = c.volume_line in
     let below = c.loop-n-test.true in
-    let few = volume_few x.volumes.now x.prices.now x.work.now x.plan.now l.n _ f.result f.ensures c.in-Number.is in
+    let few = volume_few x.volumes.now x.prices.now x.work.now x.plan.now l.n _ f.result f.ensures c.in-Some.is in
     record {
       long = c.requires.long;
       few = omega (arith, c.requires.few);
@@ -51,7 +49,7 @@ overflow_add-sum c =
     let f = c.volume_line in
     let more =
     sum_next x.volumes.now x.prices.now x.work.now x.plan.now l.sum l.n _ f.result c.cost_at-sum.result
-    c.requires.prices_fit l.invariant.1 f.ensures c.in-Number.is c.cost_at-sum.ensures in
+    c.requires.prices_fit l.invariant.1 f.ensures c.in-Some.is c.cost_at-sum.ensures in
     record { fits = omega (arith, more.small, c.requires.few, c.loop-n-test.true) }
 
 pub loop-n-preserved : goal.loop-n-preserved
@@ -61,7 +59,7 @@ loop-n-preserved c =
     let f = c.volume_line in (
       search rules,
       sum_next x.volumes.now x.prices.now x.work.now x.plan.now l.sum l.n _ f.result c.cost_at-sum.result
-          c.requires.prices_fit l.invariant.1 f.ensures c.in-Number.is c.cost_at-sum.ensures,
+          c.requires.prices_fit l.invariant.1 f.ensures c.in-Some.is c.cost_at-sum.ensures,
     )
 
 pub returns : goal.returns

@@ -1,5 +1,5 @@
 -- `duelines::fields_in` meets its contract.
--- Invariant: the first k fields are numbers, which stand in order, and those past them are as they were. Measure: the fields still to be read.
+-- Invariant: the first k fields are numbers, which stand in order, and those past them are as they were.
 -- Assumes nothing.
 use mathlib.Core.Path.{sym, ◌∙◌}
 use native.Mathlib.Omega.{arith}
@@ -23,8 +23,8 @@ loop-k-preserved c =
     let l = c.loop-k in
     let f = c.field_in in (
       search rules,
-      fields_more x.line.now x.numbers.now l.numbers l.k c.in-Number.n f.result (omega arith) l.invariant.1
-          f.ensures c.in-Number.is,
+      fields_more x.line.now x.numbers.now l.numbers l.k c.in-Some.n f.result (omega arith) l.invariant.1
+          f.ensures c.in-Some.is,
     )
 
 pub returns : goal.returns

@@ -1,5 +1,5 @@
 -- `edgelines::fill_starts` meets its contract.
--- Invariant: the starts from a up to j are v, and nothing else differs. Measure: the starts still to be stored.
+-- Invariant: the starts from a up to j are v, and nothing else differs.
 -- Assumes nothing.
 use native.Mathlib.Omega.{arith}
 use borrow.Author.Rules.{rules}

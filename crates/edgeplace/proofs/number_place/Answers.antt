@@ -1,37 +1,31 @@
--- `edgeplace::number_place` meets its contract.
--- Invariant: the numbers before place `low` are below the one given, those from `high` on are not. Measure: the places between them.
+-- `edgeplace::number_place` meets its contract: the numbers of the part below the one given come first.
 -- Assumes nothing.
-use Prim.Native.Nat.{◌+◌, ◌-◌, ◌/◌}
-use lib.ListN.{get_or}
-use borrow.Author.Rules.{rules}
-use borrow.Author.Tests.{lt-ltb, le-ltb}
-use Rattle.edgeplace.proofs.CutLaws.{halving_start, halving_passes, halving_fails, halving_end}
-use Rattle.edgeplace.proofs.number_place.Invariants.{is_below}
+use mathlib.Core.Path.{◌≡◌, refl, ap, ◌∙◌}
+use mathlib.Core.Bool.{Bool}
+use Prim.Native.Nat.{ℕ, ◌+◌, ◌-◌, ◌<◌}
+use native.Mathlib.Omega.{arith}
+use lib.Dec.{ltb}
+use lib.ListN.{length, get_or, drop, length-drop}
+use lib.Seq.{length-take-le}
+use Rattle.std.proofs.Common.{rules, of_calls}
+use Rattle.std.proofs.lemmas.Grind.{get_or_default_zero}
+use Rattle.std.proofs.lemmas.List.Edits.{get_or-between}
+use Rattle.std.proofs.lemmas.List.Sorted.{IsPartitionPoint-from_clause}
+use Rattle.std.specs.List.{between}
+use Rattle.edgeplace.proofs.CutLaws.{parted, point_cut}
 use Rattle.edgeplace.proofs.number_place.Goals as goal
-
-pub loop-low-init : goal.loop-low-init
-loop-low-init c =
-    let x = c.args in
-    halving_start (is_below x.list.now x.number) x.first x.last (search rules)
-
-pub loop-low-preserved-then-list-middle : goal.loop-low-preserved-then-list-middle
-loop-low-preserved-then-list-middle c =
-    let x = c.args in
-    let l = c.loop-low in
-    let middle = l.low + (l.high - l.low) / 2 in
-    halving_passes (is_below x.list.now x.number) x.first x.last l.low l.high middle c.requires.2
-    l.invariant (search rules) (search rules) (lt-ltb (get_or x.list.now middle 0) x.number c.if-list-middle.true)
-
-pub loop-low-preserved : goal.loop-low-preserved
-loop-low-preserved c =
-    let x = c.args in
-    let l = c.loop-low in
-    let middle = l.low + (l.high - l.low) / 2 in
-    halving_fails (is_below x.list.now x.number) x.first x.last l.low l.high middle c.requires.2
-    l.invariant (search rules) (search rules) (le-ltb (get_or x.list.now middle 0) x.number c.if-list-middle.false)
 
 pub returns : goal.returns
 returns c =
     let x = c.args in
-    let l = c.loop-low in
-    halving_end (is_below x.list.now x.number) x.first x.last l.low l.high l.invariant (search rules)
+    let part = between x.first x.last x.list.now in
+    let p : ℕ → Bool = λ y. ltb y x.number in
+    let f : ℕ → Bool = λ i. ltb (get_or x.list.now i 0) x.number in
+    let long = length-take-le (x.last - x.first) (drop x.first x.list.now) (omega (arith, length-drop x.first x.list.now)) in
+    let all : x.first + length part ≡ x.last = omega arith in
+    let same : (i d : ℕ) → i < length part → p (get_or part i d) ≡ f (x.first + i) = λ i d h.
+    ap p (get_or-between x.list.now x.first x.last i d (omega arith) ∙ get_or_default_zero x.list.now (x.first + i) d (omega arith)) in
+    let first = parted part p f x.first x.last all same c.requires.2 in
+    let r = c.partition_point.result in
+    point_cut part p f x.first x.last all same 0 r (x.first + r) refl c.partition_point.ensures.bound
+    (IsPartitionPoint-from_clause p part r c.partition_point.ensures.partitioned first (λ a r g k. search (rules, of_calls)))

@@ -24,10 +24,10 @@ overflow_cast-last c =
 pub number_place-at-requires : goal.number_place-at-requires
 number_place-at-requires c = searchable c.requires.place
 
-pub open_one-requires : goal.open_one-requires
-open_one-requires c =
+pub open_at-requires-2 : goal.open_at-requires-2
+open_at-requires-2 c =
     let w = c.requires in
-    (put_place w c.number_place-at.result c.number_place-at.ensures, omega (arith, w.predecessors_long))
+    (put_place w c.number_place-at.result c.number_place-at.ensures, w.predecessors_long)
 
 pub raise_starts-requires : goal.raise_starts-requires
 raise_starts-requires c =
@@ -40,9 +40,9 @@ returns c =
     c.requires
     c.number_place-at.result
     c.number_place-at.ensures
-    c.open_two.new.list
-    c.open_one.new.list
+    c.open_at.new.list
+    c.open_at-2.new.list
     c.raise_starts.new.starts
-    c.open_two.ensures
-    c.open_one.ensures
+    c.open_at.ensures
+    c.open_at-2.ensures
     c.raise_starts.ensures

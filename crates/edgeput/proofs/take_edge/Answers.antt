@@ -31,15 +31,15 @@ overflow_mul-place c = let w = c.requires in search (rules, take_edge_place w, (
 pub overflow_mul-count : goal.overflow_mul-count
 overflow_mul-count c = let w = c.requires in search (rules, (fit w.place).few_edges)
 
-pub close_two-requires : goal.close_two-requires
-close_two-requires c =
+pub close_at-requires : goal.close_at-requires
+close_at-requires c =
     let w = c.requires in
     (omega (arith, take_edge_place w), (fit w.place).edges_long)
 
-pub close_one-requires : goal.close_one-requires
-close_one-requires c =
+pub close_at-requires-2 : goal.close_at-requires-2
+close_at-requires-2 c =
     let w = c.requires in
-    (take_place w c.number_place-at.result c.number_place-at.ensures, (fit w.place).predecessors_long)
+    (omega (arith, take_place w c.number_place-at.result c.number_place-at.ensures), (fit w.place).predecessors_long)
 
 pub lower_starts-requires : goal.lower_starts-requires
 lower_starts-requires c =
@@ -52,9 +52,9 @@ returns c =
     c.requires
     c.number_place-at.result
     c.number_place-at.ensures
-    c.close_two.new.list
-    c.close_one.new.list
+    c.close_at.new.list
+    c.close_at-2.new.list
     c.lower_starts.new.starts
-    c.close_two.ensures
-    c.close_one.ensures
+    c.close_at.ensures
+    c.close_at-2.ensures
     c.lower_starts.ensures

@@ -1,32 +1,17 @@
 -- `edgeshift::raise_starts` meets its contract.
--- Invariant: the starts after node b, to before n, are one more. Measure: the starts still to be changed.
+-- Invariant: of the part of the starts after node b, those before the index are one more.
 -- Assumes nothing.
-use Prim.Native.Nat.{◌+◌}
-use native.Mathlib.Nat.{le_refl}
+use Prim.Native.Nat.{◌+◌, ◌-◌}
 use native.Mathlib.Omega.{arith}
 use borrow.Author.Rules.{rules}
 use Rattle.arrivals.specs.Shifts.{raised}
-use Rattle.edgeshift.proofs.ShiftLaws.{each_more, each_done}
+use Rattle.edgeshift.proofs.ShiftLaws.{changed_done}
 use Rattle.edgeshift.proofs.raise_starts.Goals as goal
-
-pub overflow_add-starts : goal.overflow_add-starts
-overflow_add-starts c =
-    let l = c.loop-n in
-    let r = c.requires in
-    record { fits = omega (arith, l.invariant.2.after l.n (le_refl l.n), r.2 l.n (search rules)) }
-
-pub loop-n-preserved : goal.loop-n-preserved
-loop-n-preserved c =
-    let x = c.args in
-    let l = c.loop-n in (
-      search rules,
-      search rules,
-      each_more x.starts.now l.starts x.b l.n (λ m. m + 1) l.invariant.2 (search rules) (search rules),
-    )
 
 pub returns : goal.returns
 unfolding raised
 returns c =
     let x = c.args in
-    let l = c.loop-n in
-    each_done x.starts.now l.starts x.b x.nodes l.n (λ m. m + 1) l.invariant.2 (omega arith)
+    let l = c.loop-start in
+    changed_done x.starts.now l.start-items x.b x.nodes (x.nodes + 1 - (x.b + 1)) l.start-index (λ m. m + 1) (search rules) (search rules)
+    (omega arith) (omega arith) l.invariant

@@ -1,12 +1,9 @@
 -- `edgeshift::raise_starts` meets its contract.
--- Invariant: the starts after node b, to before n, are one more. Measure: the starts still to be changed.
+-- Invariant: of the part of the starts after node b, those before the index are one more.
 -- Assumes nothing.
-use Prim.Native.Nat.{◌+◌, ◌-◌, ◌≤◌, ◌<◌}
-use Rattle.edgeshift.proofs.ShiftLaws.{Replaced, each}
+use Prim.Native.Nat.{◌+◌}
+use Rattle.edgeshift.proofs.ShiftLaws.{Changed}
 use Rattle.edgeshift.proofs.raise_starts.Given as goal
 
-abbrev pub invariant-loop-n : goal.invariant-loop-n
-invariant-loop-n l = (l.b < l.n) × (l.n ≤ l.nodes + 1) × Replaced l.initial.starts l.starts (l.b + 1) l.n (each (λ m. m + 1) l.initial.starts)
-
-abbrev pub decreases-loop-n : goal.decreases-loop-n
-decreases-loop-n l = l.nodes + 1 - l.n
+abbrev pub invariant-loop-start : goal.invariant-loop-start
+invariant-loop-start l = Changed l.initial.start-items l.start-items l.start-index (λ m. m + 1)

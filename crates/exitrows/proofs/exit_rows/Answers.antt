@@ -1,5 +1,5 @@
 -- `exitrows::exit_rows` meets its contract.
--- Invariant: what the words after the exits below n lead to is joined. Measure: the nodes still to be passed.
+-- Invariant: what the words after the exits below n lead to is joined.
 -- Assumes nothing.
 use mathlib.Core.Path.{sym}
 use native.Mathlib.Omega.{arith}

@@ -1,5 +1,5 @@
 -- `exitrows::join_past_rows` meets its contract.
--- Invariant: the rows below p are joined past the node. Measure: the rows still to be joined.
+-- Invariant: the rows below p are joined past the node.
 -- Assumes nothing.
 use mathlib.Core.Path.{sym, ◌∙◌}
 use native.Mathlib.Omega.{arith}

@@ -1,5 +1,5 @@
 -- `images::preimage_under` meets its contract.
--- Invariant: bit i of `out` says whether the symbol leads state q + i, one below S, into the set. Measure: the states still to be looked at.
+-- Invariant: bit i of `out` says whether the symbol leads state q + i, one below S, into the set.
 -- Each turn moves `out` up by one and joins the bit of the state led to.
 -- Assumes nothing.
 use mathlib.Core.Path.{◌≡◌, refl, sym, ap, ◌∙◌, subst}

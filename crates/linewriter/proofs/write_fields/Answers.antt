@@ -1,5 +1,5 @@
 -- `linewriter::write_fields` meets its contract.
--- Invariant: the first k fields are stored, and storing the others leaves what storing all leaves. Measure: the fields that are due.
+-- Invariant: the first k fields are stored, and storing the others leaves what storing all leaves.
 -- Assumes nothing.
 use native.Mathlib.Omega.{arith}
 use borrow.Author.Rules.{rules}

@@ -1,13 +1,8 @@
 -- `linewriter::write_fields` meets its contract.
--- Invariant: the first k fields are stored, and storing the others leaves what storing all leaves. Measure: the fields that are due.
+-- Invariant: the first k fields are stored, and storing the others leaves what storing all leaves.
 -- Assumes nothing.
-use Prim.Native.Nat.{◌-◌}
-use lib.ListN.{length}
 use Rattle.linewriter.proofs.WriteLaws.{Stored}
 use Rattle.linewriter.proofs.write_fields.Given as goal
 
 abbrev pub invariant-loop-k : goal.invariant-loop-k
 invariant-loop-k l = Stored l.initial.out l.out l.at l.numbers l.k
-
-abbrev pub decreases-loop-k : goal.decreases-loop-k
-decreases-loop-k l = length l.numbers - l.k

@@ -1,6 +1,5 @@
 -- `listlines::write_points` meets its contract.
 -- Invariant: the lines of the nodes before n are stored, and storing the others from `at` on leaves what storing all leaves.
--- Measure: the nodes still to be written.
 -- Assumes nothing.
 use native.Mathlib.Omega.{arith}
 use Rattle.listingtext.proofs.TextLaws.{stored_start, stored_more, stored_end}

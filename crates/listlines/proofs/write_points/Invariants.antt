@@ -1,13 +1,8 @@
 -- `listlines::write_points` meets its contract.
 -- Invariant: the lines of the nodes before n are stored, and storing the others from `at` on leaves what storing all leaves.
--- Measure: the nodes still to be written.
 -- Assumes nothing.
-use Prim.Native.Nat.{◌-◌}
 use Rattle.listingtext.proofs.TextLaws.{LinesStored}
 use Rattle.listlines.proofs.write_points.Given as goal
 
 abbrev pub invariant-loop-n : goal.invariant-loop-n
 invariant-loop-n l = LinesStored l.table l.finals l.states l.nodes l.work l.initial.out l.out l.at l.n
-
-abbrev pub decreases-loop-n : goal.decreases-loop-n
-decreases-loop-n l = l.nodes - l.n

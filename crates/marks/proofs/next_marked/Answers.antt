@@ -1,6 +1,5 @@
 -- `marks::next_marked` meets its contract.
 -- Invariant: no node from the first up to `next` has marks.
--- Measure: the nodes still to be passed.
 -- Assumes nothing.
 use Rattle.tables.proofs.TableLaws.{unmarked_start, unmarked_more, next_here, next_none}
 use Rattle.marks.proofs.next_marked.Goals as goal

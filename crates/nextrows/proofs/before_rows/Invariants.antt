@@ -1,7 +1,7 @@
 -- `nextrows::before_rows` meets its contract.
--- Invariant: the rows before p are those before the node. Measure: the rows still to be made.
+-- Invariant: the rows before p are those before the node.
 -- Assumes nothing.
-use Prim.Native.Nat.{ℕ, ◌-◌, ◌≤◌, ◌<◌}
+use Prim.Native.Nat.{ℕ, ◌<◌}
 use mathlib.Core.Path.{◌≡◌}
 use lib.ListN.{length, get_or}
 use Rattle.classes.specs.Classes.{before_row}
@@ -9,7 +9,4 @@ use Rattle.nextrows.proofs.before_rows.Given as goal
 
 abbrev pub invariant-loop-p : goal.invariant-loop-p
 invariant-loop-p l =
-    (length l.rows ≡ 16) × (l.p ≤ 16) × ((k : ℕ) → k < l.p → get_or l.rows k 0 ≡ before_row l.table l.finals l.states l.work l.m k)
-
-abbrev pub decreases-loop-p : goal.decreases-loop-p
-decreases-loop-p l = 16 - l.p
+    (length l.rows ≡ 16) × ((k : ℕ) → k < l.p → get_or l.rows k 0 ≡ before_row l.table l.finals l.states l.work l.m k)

@@ -1,6 +1,5 @@
 -- `nextrows::successor_row` meets its contract.
 -- Invariant: `out` has the states told apart before the ends of the edges below i.
--- Measure: the edges still to be passed.
 -- Assumes nothing.
 use Prim.Native.Nat.{suc, ◌<◌, ◌≤◌}
 use native.Mathlib.Numerals.{add-one}

@@ -1,10 +1,12 @@
 -- `nodelines::node_lines` meets its contract.
--- Invariant: the first n lines pass, their nodes are stored, and sum is that of their entry sets. Measure: the lines still to be read.
+-- Invariant: the first n lines pass, their nodes are stored, and sum is that of their entry sets.
 -- Assumes nothing.
-use mathlib.Core.Path.{◌∙◌}
+use mathlib.Core.Path.{refl, ◌∙◌}
 use native.Mathlib.Omega.{arith}
 use borrow.Author.Rules.{rules}
 use lib.ListN.{drop, length-drop}
+use Rattle.std.proofs.lemmas.Result.{err_from_is_err_and}
+use Rattle.refusal.proofs.RefusalLaws.{number_some}
 use Rattle.nodelines.proofs.NodesLaws.{nodes_none, nodes_more, nodes_stop, nodes_end}
 use Rattle.nodelines.proofs.node_lines.Goals as goal
 
@@ -15,35 +17,33 @@ loop-n-init c = let x = c.args in
 pub overflow_add-at : goal.overflow_add-at
 overflow_add-at c = omega (arith, c.loop-n.invariant.1.within, length-drop c.args.at c.args.file.now)
 
-pub node_line-r-requires : goal.node_line-r-requires
-node_line-r-requires c = let x = c.args in
+pub node_line-requires : goal.node_line-requires
+node_line-requires c = let x = c.args in
     let i = c.loop-n.invariant.1 in
     omega (arith, i.within, i.kept.long, length-drop x.at x.file.now)
 
-pub shape_of-work-then-status-ne0 : goal.shape_of-work-then-status-ne0
-shape_of-work-then-status-ne0 c = let i = c.loop-n.invariant.1 in
-    c.node_line-r.ensures.kept.long ∙ i.kept.long
+pub shape_of-work-in_err-entries : goal.shape_of-work-in_err-entries
+shape_of-work-in_err-entries c = let i = c.loop-n.invariant.1 in
+    c.in_err-entries.ensures.kept.long ∙ i.kept.long
 
-pub returns-then-status-ne0 : goal.returns-then-status-ne0
-returns-then-status-ne0 c = let x = c.args in
+pub returns-in_err-entries : goal.returns-in_err-entries
+returns-in_err-entries c = let x = c.args in
     let l = c.loop-n in
-    let r = c.node_line-r in
-    rw c.refused.ensures
-    (nodes_stop x.states x.symbols x.file.now x.at x.work.now l.work _ l.n l.sum r.result l.invariant.1 (omega arith) r.ensures
-    x.nodes (omega arith) c.if-status-ne0.true)
+    let e = err_from_is_err_and c.from_residual.result c.from_residual.ensures.1 in
+    rw (e.1, e.2)
+    (nodes_stop x.states x.symbols x.file.now x.at x.work.now l.work _ l.n l.sum _ l.invariant.1 (omega arith) c.in_err-entries.ensures
+    x.nodes (omega arith) (number_some _))
 
 pub overflow_add-sum : goal.overflow_add-sum
 overflow_add-sum c = let l = c.loop-n in
-    let r = c.node_line-r in
-    omega (arith, l.invariant.1.small, r.ensures.small)
+    omega (arith, l.invariant.1.small, c.in_ok-entries.ensures.small)
 
 pub loop-n-preserved : goal.loop-n-preserved
 loop-n-preserved c = let x = c.args in
-    let l = c.loop-n in
-    let r = c.node_line-r in (
+    let l = c.loop-n in (
       search rules,
-      nodes_more x.states x.symbols x.file.now x.at x.work.now l.work _ l.n l.sum r.result l.invariant.1 (omega arith) r.ensures
-          c.if-status-ne0.false,
+      nodes_more x.states x.symbols x.file.now x.at x.work.now l.work _ l.n l.sum _ l.invariant.1 (omega arith)
+          c.in_ok-entries.ensures refl,
     )
 
 pub shape_of-work : goal.shape_of-work

@@ -1,11 +1,9 @@
 -- `nodereads::any_reentrant` meets its contract.
--- Invariant: none of the nodes below n may come back in. Measure: the nodes still to be looked at.
+-- Invariant: none of the nodes below n may come back in.
 -- Assumes nothing.
 use mathlib.Core.Path.{sym, ◌∙◌}
-use mathlib.Core.Bool.{false}
 use native.Mathlib.Omega.{arith}
 use Rattle.laws.proofs.Bounded.{any_none, any_more, any_of, any_end}
-use Rattle.job.specs.Job.{is_reentrant}
 use Rattle.nodereads.proofs.any_reentrant.Invariants.{again}
 use Rattle.nodereads.proofs.any_reentrant.Goals as goal
 

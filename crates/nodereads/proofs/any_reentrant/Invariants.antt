@@ -1,10 +1,10 @@
 -- `nodereads::any_reentrant` meets its contract.
--- Invariant: none of the nodes below n may come back in. Measure: the nodes still to be looked at.
+-- Invariant: none of the nodes below n may come back in.
 -- Assumes nothing.
 use mathlib.Core.Path.{◌≡◌}
 use mathlib.Core.Bool.{Bool, false}
 use mathlib.Core.List.{List}
-use Prim.Native.Nat.{ℕ, ◌-◌}
+use Prim.Native.Nat.{ℕ}
 use Rattle.laws.specs.Bounded.{any_below}
 use Rattle.job.specs.Job.{is_reentrant}
 use Rattle.buffer.specs.Views.{node_in}
@@ -16,6 +16,3 @@ again work n = is_reentrant (node_in work n).kind
 
 abbrev pub invariant-loop-n : goal.invariant-loop-n
 invariant-loop-n l = any_below l.n (again l.work) ≡ false
-
-abbrev pub decreases-loop-n : goal.decreases-loop-n
-decreases-loop-n l = l.nodes - l.n

@@ -1,10 +1,10 @@
 -- `planmarks::is_plan` meets its contract.
--- Invariant: the first n nodes may have their bytes. Measure: the nodes still to be looked at.
+-- Invariant: the first n nodes may have their bytes.
 -- Assumes nothing.
 use mathlib.Core.Path.{◌≡◌}
 use mathlib.Core.Bool.{Bool, true}
 use mathlib.Core.List.{List}
-use Prim.Native.Nat.{ℕ, ◌-◌, ◌≤◌}
+use Prim.Native.Nat.{ℕ}
 use lib.ListN.{get_or}
 use Rattle.laws.specs.Bounded.{all_below}
 use Rattle.buffer.specs.Views.{node_in}
@@ -16,7 +16,4 @@ abbrev pub good : List ℕ → List ℕ → ℕ → Bool
 good plan work n = good_mark (node_in work n).kind (get_or plan n 0)
 
 abbrev pub invariant-loop-n : goal.invariant-loop-n
-invariant-loop-n l = (l.n ≤ l.nodes) × (all_below l.n (good l.plan l.work) ≡ true)
-
-abbrev pub decreases-loop-n : goal.decreases-loop-n
-decreases-loop-n l = l.nodes - l.n
+invariant-loop-n l = all_below l.n (good l.plan l.work) ≡ true

@@ -1,5 +1,5 @@
 -- `points::held_states` meets its contract.
--- Invariant: `out` is the states below q whose rows hold pairs. Measure: the states still to be looked at.
+-- Invariant: `out` is the states below q whose rows hold pairs.
 -- Assumes nothing.
 use mathlib.Core.Path.{◌≡◌, sym, ap, ◌∙◌}
 use mathlib.Core.Logic.{◌≢◌}
@@ -37,25 +37,21 @@ turn_empty work n out q row out' exact row_is none same =
     (sym (ap (λ (b : Bool). cond (not b) (2 ^ q) 0) (eq-eqb (pair_row_in work n q) 0 (sym row_is ∙ none))))
 
 pub loop-q-init : goal.loop-q-init
-loop-q-init c = record { within = omega arith; exact = sym (set_of_none (holds c.args.work.now c.args.n)) }
+loop-q-init c = sym (set_of_none (holds c.args.work.now c.args.n))
 
 pub loop-q-preserved : goal.loop-q-preserved
 loop-q-preserved c =
     let loop = c.loop-q in
     let row = c.pair_row in
-    record {
-      within = omega arith;
-      exact =
-          elim c.if-pair_row-ne0.branch [
-            | then-pair_row-ne0 w ↦ turn_held _ _ loop.out loop.q _ _ loop.invariant.exact row.ensures w.if-pair_row-ne0.true (w.out-is ∙ w.insert-out.ensures)
-            | else-pair_row-ne0 w ↦ turn_empty _ _ loop.out loop.q _ _ loop.invariant.exact row.ensures w.if-pair_row-ne0.false w.out-is
-          ];
-    }
+    elim c.if-pair_row-ne0.branch [
+      | then-pair_row-ne0 w ↦ turn_held _ _ loop.out loop.q _ _ loop.invariant row.ensures w.if-pair_row-ne0.true (w.out-is ∙ w.insert-out.ensures)
+      | else-pair_row-ne0 w ↦ turn_empty _ _ loop.out loop.q _ _ loop.invariant row.ensures w.if-pair_row-ne0.false w.out-is
+    ]
 
 pub returns : goal.returns
 unfolding held_states
 returns c =
     let loop = c.loop-q in
     let args = c.args in
-    let e : loop.q ≡ args.states = omega (arith, loop.invariant.within) in
-    loop.invariant.exact ∙ ap (λ (k : ℕ). set_of k (holds args.work.now args.n)) e
+    let e : loop.q ≡ args.states = omega arith in
+    loop.invariant ∙ ap (λ (k : ℕ). set_of k (holds args.work.now args.n)) e

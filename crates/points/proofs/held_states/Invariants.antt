@@ -1,10 +1,10 @@
 -- `points::held_states` meets its contract.
--- Invariant: `out` is the states below q whose rows hold pairs. Measure: the states still to be looked at.
+-- Invariant: `out` is the states below q whose rows hold pairs.
 -- Assumes nothing.
 use mathlib.Core.Path.{◌≡◌}
 use mathlib.Core.Bool.{Bool, not}
 use mathlib.Core.List.{List}
-use Prim.Native.Nat.{ℕ, ◌-◌, ◌≤◌}
+use Prim.Native.Nat.{ℕ}
 use lib.Dec.{eqb}
 use Rattle.job.specs.Found.{set_of}
 use Rattle.buffer.specs.Views.{pair_row_in}
@@ -14,13 +14,5 @@ use Rattle.points.proofs.held_states.Given as goal
 abbrev pub holds : List ℕ → ℕ → ℕ → Bool
 holds work n q = not (eqb (pair_row_in work n q) 0)
 
--- out is right for the states below q
-pub record Looked (work : List ℕ) (n states out q : ℕ) : Type 0 where
-  pub within : q ≤ states
-  pub exact : out ≡ set_of q (holds work n)
-
 abbrev pub invariant-loop-q : goal.invariant-loop-q
-invariant-loop-q l = Looked l.work l.n l.states l.out l.q
-
-abbrev pub decreases-loop-q : goal.decreases-loop-q
-decreases-loop-q l = l.states - l.q
+invariant-loop-q l = l.out ≡ set_of l.q (holds l.work l.n)

@@ -2,7 +2,6 @@
 -- Invariant: `rest` is the members from some number on, and the mark holds for the members before it.
 -- Measure: the set that is left, as a number. Each turn is one step of the walk; a member without the mark ends it.
 -- Assumes nothing.
-use mathlib.Core.Bool.{true, false}
 use native.Mathlib.Omega.{arith}
 use Rattle.laws.proofs.Walk.{rest_lt, clear_lt}
 use Rattle.points.proofs.is_nop.Invariants.{walk_start, turn, end_final, end_apart, end_all}

@@ -1,12 +1,8 @@
 -- `positionsets::fill_places` meets its contract.
--- Invariant: the positions of the symbols before s are filled in. Measure: the symbols still to be done.
+-- Invariant: the positions of the symbols before s are filled in.
 -- Assumes nothing.
-use Prim.Native.Nat.{◌-◌}
 use Rattle.positionsets.proofs.NumberLaws.{Filled}
 use Rattle.positionsets.proofs.fill_places.Given as goal
 
 abbrev pub invariant-loop-s : goal.invariant-loop-s
 invariant-loop-s l = Filled l.text l.symbols l.initial.places l.places l.s
-
-abbrev pub decreases-loop-s : goal.decreases-loop-s
-decreases-loop-s l = l.symbols - l.s

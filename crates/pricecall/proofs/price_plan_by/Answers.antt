@@ -1,5 +1,6 @@
 -- `pricecall::price_plan_by` meets its contract: the answer at the prices that were read, or 28 in place of a price.
 -- Assumes nothing.
+use Rattle.refusal.specs.Refusal.{said}
 use mathlib.Core.Path.{◌∙◌}
 use Rattle.pricecall.proofs.PriceCallLaws.{none_fit, by_list, by_none}
 use Rattle.pricecall.proofs.price_plan_by.Goals as goal
@@ -14,7 +15,7 @@ pub returns-then-listed : goal.returns-then-listed
 returns-then-listed c =
     let x = c.args in
     let read = c.read_prices-listed in
-    by_list x.file.now x.plan.now x.volumes.now x.prices.now read.new.prices read.result c.price_at-price.result read.ensures
+    by_list x.file.now x.plan.now x.volumes.now x.prices.now read.new.prices read.result (said c.price_at-price.result) read.ensures
     c.if-listed.true c.price_at-price.ensures
 
 pub returns : goal.returns
@@ -22,5 +23,5 @@ returns c =
     let x = c.args in
     let read = c.read_prices-listed in
     c.without_prices.ensures
-    ∙ by_none x.file.now x.plan.now x.volumes.now x.prices.now read.new.prices read.result c.price_at-price.result
+    ∙ by_none x.file.now x.plan.now x.volumes.now x.prices.now read.new.prices read.result (said c.price_at-price.result)
     read.ensures c.if-listed.false c.price_at-price.ensures

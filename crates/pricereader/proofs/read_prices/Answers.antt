@@ -1,5 +1,5 @@
 -- `pricereader::read_prices` meets its contract.
--- Invariant: the lines of the first s symbols pass, and their prices stand in the list. Measure: the symbols still to come.
+-- Invariant: the lines of the first s symbols pass, and their prices stand in the list.
 -- Assumes nothing.
 use mathlib.Core.Path.{sym, ◌∙◌}
 use native.Mathlib.Omega.{arith}
@@ -27,7 +27,7 @@ returns-in_default c =
     let x = c.args in
     let l = c.loop-s in
     let f = c.numbered_line in
-    read_stop x.file.now l.prices l.s f.result c.loop-s-test.true l.invariant.1 f.ensures c.in_default.is
+    read_stop x.file.now l.prices l.s f.result (omega (arith, c.loop-s-test.true)) l.invariant.1 f.ensures c.in_default.is
 
 pub bounds-prices-s : goal.bounds-prices-s
 bounds-prices-s c =
@@ -39,8 +39,8 @@ loop-s-preserved c =
     let l = c.loop-s in
     let f = c.numbered_line in (
       search rules,
-      read_next x.file.now l.prices l.s _ f.result c.loop-s-test.true l.invariant.1 f.ensures
-          c.in-Number.is,
+      read_next x.file.now l.prices l.s _ f.result (omega (arith, c.loop-s-test.true)) l.invariant.1 f.ensures
+          c.in-Some.is,
     )
 
 pub shape_of-prices : goal.shape_of-prices

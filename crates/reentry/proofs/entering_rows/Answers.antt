@@ -1,5 +1,5 @@
 -- `reentry::entering_rows` meets its contract.
--- Invariant: the rows of the calls below n are joined. Measure: the nodes still to be passed.
+-- Invariant: the rows of the calls below n are joined.
 -- Assumes nothing.
 use mathlib.Core.Path.{sym}
 use native.Mathlib.Omega.{arith}

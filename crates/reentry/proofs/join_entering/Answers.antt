@@ -1,5 +1,5 @@
 -- `reentry::join_entering` meets its contract.
--- Invariant: the rows of the node below p are joined. Measure: the rows still to be joined.
+-- Invariant: the rows of the node below p are joined.
 -- Assumes nothing.
 use mathlib.Core.Path.{sym, ◌∙◌}
 use native.Mathlib.Omega.{arith}

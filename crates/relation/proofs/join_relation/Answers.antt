@@ -1,5 +1,5 @@
 -- `relation::join_relation` meets its contract.
--- Invariant: the rows below p are joined. Measure: the rows still to be joined.
+-- Invariant: the rows below p are joined.
 -- Assumes nothing.
 use Prim.Native.Nat.{ℕ}
 use mathlib.Core.Path.{sym, ◌∙◌}

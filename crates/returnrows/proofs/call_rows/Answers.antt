@@ -1,5 +1,5 @@
 -- `returnrows::call_rows` meets its contract.
--- Invariant: the rows hold the pairs past the calls that may come back in below n, and nothing else. Measure: the nodes still to be passed.
+-- Invariant: the rows hold the pairs past the calls that may come back in below n, and nothing else.
 -- Assumes nothing.
 use native.Mathlib.Omega.{arith}
 use Rattle.tables.proofs.SixteenLaws.{empty_rows, empty_sixteen}

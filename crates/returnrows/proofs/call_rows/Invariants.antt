@@ -1,7 +1,7 @@
 -- `returnrows::call_rows` meets its contract.
--- Invariant: the rows hold the pairs past the calls that may come back in below n, and nothing else. Measure: the nodes still to be passed.
+-- Invariant: the rows hold the pairs past the calls that may come back in below n, and nothing else.
 -- Assumes nothing.
-use Prim.Native.Nat.{◌-◌, ◌≤◌}
+use Prim.Native.Nat.{◌≤◌}
 use Rattle.tables.specs.Sixteen.{Sixteen}
 use Rattle.tables.proofs.SixteenLaws.{empty_rows}
 use Rattle.relation.specs.Union.{Union, Below}
@@ -10,6 +10,3 @@ use Rattle.returnrows.proofs.call_rows.Given as goal
 
 abbrev pub invariant-loop-n : goal.invariant-loop-n
 invariant-loop-n l = (l.n ≤ l.nodes) × (Sixteen l.rows) × Union (Below (AtCall l.work) l.n) (empty_rows 16) l.rows
-
-abbrev pub decreases-loop-n : goal.decreases-loop-n
-decreases-loop-n l = l.nodes - l.n

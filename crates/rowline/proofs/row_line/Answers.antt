@@ -6,19 +6,20 @@ use lib.ListN.{drop}
 use Rattle.rowline.proofs.RowLineLaws.{row_stop, row_tested}
 use Rattle.rowline.proofs.row_line.Goals as goal
 
-pub returns-then-status-ne0 : goal.returns-then-status-ne0
-returns-then-status-ne0 c =
+pub returns-in_err-ok : goal.returns-in_err-ok
+returns-in_err-ok c =
     let x = c.args in
-    row_stop x.states x.symbols (drop x.at x.text.now) c.due_line-status.ensures c.if-status-ne0.true
+    c.from_residual.ensures
+    ∙ row_stop x.states x.symbols (drop x.at x.text.now) c.due_line.result c.due_line.ensures (sym c.in_err-ok.ensures.value)
 
-pub returns-then-is_row : goal.returns-then-is_row
-returns-then-is_row c =
+pub returns-then-not-is_row : goal.returns-then-not-is_row
+returns-then-not-is_row c =
     let x = c.args in
-    row_tested x.states x.symbols (drop x.at x.text.now) c.due_line-status.ensures
-    c.if-status-ne0.false true (sym c.is_row.ensures ∙ c.if-is_row.true)
+    row_tested x.states x.symbols (drop x.at x.text.now) c.due_line.result c.due_line.ensures _ (sym c.in_ok-ok.ensures.value) false
+    (sym c.is_row.ensures ∙ c.if-not-is_row.true)
 
 pub returns : goal.returns
 returns c =
     let x = c.args in
-    row_tested x.states x.symbols (drop x.at x.text.now) c.due_line-status.ensures
-    c.if-status-ne0.false false (sym c.is_row.ensures ∙ c.if-is_row.false)
+    row_tested x.states x.symbols (drop x.at x.text.now) c.due_line.result c.due_line.ensures _ (sym c.in_ok-ok.ensures.value) true
+    (sym c.is_row.ensures ∙ c.if-not-is_row.false)

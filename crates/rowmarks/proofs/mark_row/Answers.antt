@@ -1,6 +1,6 @@
 -- `rowmarks::mark_row` meets its contract.
 -- Invariant: the pairs that the row names with the states before q are marked, had no mark, and no other pair changed; q is at most one past the last
--- state, or the first where that is past it. Measure: the states still to be marked.
+-- state, or the first where that is past it.
 -- Assumes nothing.
 use mathlib.Core.Path.{refl, ◌∙◌}
 use native.Mathlib.Omega.{arith}

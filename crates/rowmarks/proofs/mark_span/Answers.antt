@@ -1,6 +1,6 @@
 -- `rowmarks::mark_span` meets its contract.
 -- Invariant: the places from the start to before i are marked, had no mark, and no other place changed; i is at most the stop, or the start where
--- that is past the stop. Measure: the places still to be marked.
+-- that is past the stop.
 -- Assumes nothing.
 use borrow.Author.Rules.{rules}
 use Rattle.rowmarks.proofs.SpanLaws.{span_none, span_more, span_done, span_met}

@@ -1,5 +1,5 @@
 -- `rowsrule::is_missing` meets its contract.
--- Invariant: the pairs of the first q states have marks. Measure: the states still to be looked at.
+-- Invariant: the pairs of the first q states have marks.
 -- Assumes nothing.
 use mathlib.Core.Path.{sym, ◌∙◌}
 use borrow.Author.Rules.{rules}

@@ -1,5 +1,5 @@
 -- `rowsrule::lacks_mark` meets its contract.
--- Invariant: the pairs of the state with the first c symbols have marks. Measure: the symbols still to be looked at.
+-- Invariant: the pairs of the state with the first c symbols have marks.
 -- Assumes nothing.
 use mathlib.Core.Path.{sym}
 use borrow.Author.Rules.{rules}

@@ -1,5 +1,5 @@
 -- `rowsrule::write_rule` meets its contract.
--- Invariant: the first i bytes of the rule are written. Measure: the bytes still to be written.
+-- Invariant: the first i bytes of the rule are written.
 -- Assumes nothing.
 use Prim.Native.Nat.{ℕ, ◌-◌}
 use native.Mathlib.Nat.{not-suc-le-zero}
@@ -19,8 +19,8 @@ loop-i-preserved c =
     let l = c.loop-i in (
       search rules,
       search rules,
-      fill_more l.rule l.i (λ (k : ℕ). get_or x.marks.now k 0 - 1) c.next_of.result 0
-          (omega (arith, l.invariant.1, p.1)) l.invariant.2 c.next_of.ensures,
+      fill_more l.rule l.i (λ (k : ℕ). get_or x.marks.now k 0 - 1) c.saturating_sub.result 0
+          (omega (arith, l.invariant.1, p.1)) l.invariant.2 c.saturating_sub.ensures,
     )
 
 pub shape_of-rule : goal.shape_of-rule

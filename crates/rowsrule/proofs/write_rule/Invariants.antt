@@ -1,5 +1,5 @@
 -- `rowsrule::write_rule` meets its contract.
--- Invariant: the first i bytes of the rule are written. Measure: the bytes still to be written.
+-- Invariant: the first i bytes of the rule are written.
 -- Assumes nothing.
 use mathlib.Core.Path.{◌≡◌}
 use Prim.Native.Nat.{ℕ, ◌-◌, ◌≤◌, ◌<◌}
@@ -8,6 +8,3 @@ use Rattle.rowsrule.proofs.write_rule.Given as goal
 
 abbrev pub invariant-loop-i : goal.invariant-loop-i
 invariant-loop-i l = (l.i ≤ 256) × (length l.rule ≡ length l.initial.rule) × ((k : ℕ) → k < l.i → get_or l.rule k 0 ≡ get_or l.marks k 0 - 1)
-
-abbrev pub decreases-loop-i : goal.decreases-loop-i
-decreases-loop-i l = 256 - l.i

@@ -1,9 +1,8 @@
 -- `rulestore::are_below` meets its contract.
--- Invariant: the first c next states are below S. Measure: the next states still to be looked at.
+-- Invariant: the first c next states are below S.
 -- Assumes nothing.
 use Prim.Native.Nat.{ℕ, ◌+◌}
 use mathlib.Core.Path.{sym}
-use mathlib.Core.Bool.{true}
 use native.Mathlib.Omega.{arith}
 use borrow.Author.Rules.{rules}
 use borrow.Author.Tests.{lt-ltb, le-ltb}

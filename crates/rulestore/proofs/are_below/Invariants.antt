@@ -1,7 +1,7 @@
 -- `rulestore::are_below` meets its contract.
--- Invariant: the first c next states are below S. Measure: the next states still to be looked at.
+-- Invariant: the first c next states are below S.
 -- Assumes nothing.
-use Prim.Native.Nat.{ℕ, ◌+◌, ◌≤◌, ◌-◌}
+use Prim.Native.Nat.{ℕ, ◌+◌, ◌≤◌}
 use mathlib.Core.Path.{◌≡◌}
 use mathlib.Core.Bool.{true}
 use lib.Dec.{ltb}
@@ -11,6 +11,3 @@ use Rattle.rulestore.proofs.are_below.Given as goal
 
 abbrev pub invariant-loop-c : goal.invariant-loop-c
 invariant-loop-c l = (l.c ≤ l.symbols) × (all_below l.c (λ (k : ℕ). ltb (get_or l.numbers (k + 2) 0) l.states) ≡ true)
-
-abbrev pub decreases-loop-c : goal.decreases-loop-c
-decreases-loop-c l = l.symbols - l.c

@@ -1,5 +1,5 @@
 -- `rulestore::clear_rule` meets its contract.
--- Invariant: the first k bytes of the part are zero, and nothing else differs. Measure: the bytes still to be cleared.
+-- Invariant: the first k bytes of the part are zero, and nothing else differs.
 -- Assumes nothing.
 use Prim.Native.Nat.{◌+◌}
 use mathlib.Core.Path.{refl}

@@ -1,7 +1,7 @@
 -- `rulestore::clear_rule` meets its contract.
--- Invariant: the first k bytes of the part are zero, and nothing else differs. Measure: the bytes still to be cleared.
+-- Invariant: the first k bytes of the part are zero, and nothing else differs.
 -- Assumes nothing.
-use Prim.Native.Nat.{ℕ, ◌+◌, ◌≤◌, ◌<◌, ◌-◌}
+use Prim.Native.Nat.{ℕ, ◌+◌, ◌≤◌, ◌<◌}
 use mathlib.Core.Path.{◌≡◌}
 use lib.ListN.{get_or}
 use Rattle.buffer.specs.Layout.{rule_part, marks_part, Lent}
@@ -10,6 +10,3 @@ use Rattle.rulestore.proofs.clear_rule.Given as goal
 
 abbrev pub invariant-loop-k : goal.invariant-loop-k
 invariant-loop-k l = (l.k ≤ 256) × (Lent l.initial.work) × SameOutside l.initial.work l.work rule_part marks_part × ((j : ℕ) → j < l.k → get_or l.work (rule_part + j) 0 ≡ 0)
-
-abbrev pub decreases-loop-k : goal.decreases-loop-k
-decreases-loop-k l = 256 - l.k

@@ -1,5 +1,5 @@
 -- `rulestore::store_row` meets its contract.
--- Invariant: the first c cells of the row are stored, and nothing else differs. Measure: the cells still to be stored.
+-- Invariant: the first c cells of the row are stored, and nothing else differs.
 -- Assumes nothing.
 use mathlib.Core.Path.{refl}
 use native.Mathlib.Omega.{arith}

@@ -1,5 +1,5 @@
 -- `ruletable::table_of` meets its contract.
--- Invariant: the rows before q are those of the bytes. Measure: the rows still to be filled.
+-- Invariant: the rows before q are those of the bytes.
 -- Assumes nothing.
 use Prim.Native.Nat.{◌*◌}
 use mathlib.Core.Path.{refl, ◌∙◌}
@@ -21,7 +21,7 @@ loop-q-preserved c =
       length-set l.table l.q _ ∙ l.invariant.0,
       search rules,
       fill_more l.table l.q (λ k. row_of c.args.bytes.now (k * 16)) _ [] (omega arith) l.invariant.2
-          c.row_of-row.ensures,
+          c.row_of.ensures,
     )
 
 pub returns : goal.returns

@@ -1,8 +1,8 @@
 -- `statenumbers::final_states` meets its contract.
--- Invariant: out has the final states before q. Measure: the states still to be looked at.
+-- Invariant: out has the final states before q.
 -- Assumes nothing.
 use native.Mathlib.Omega.{arith}
-use Rattle.statenumbers.proofs.FinalLaws.{looked_none, looked_more, looked_all}
+use Rattle.statenumbers.proofs.FinalLaws.{looked_none, looked_more}
 use Rattle.statenumbers.proofs.final_states.Goals as goal
 
 pub loop-q-init : goal.loop-q-init
@@ -12,11 +12,5 @@ pub loop-q-preserved : goal.loop-q-preserved
 loop-q-preserved c =
     let l = c.loop-q in
     let z = c.args in
-    looked_more z.lasts z.sets.now z.count l.q l.out c.set_when-more.result c.loop-q-test.true
-    (omega (arith, c.loop-q-test.true, c.requires.0)) c.set_when-more.ensures l.invariant
-
-pub returns : goal.returns
-returns c =
-    let l = c.loop-q in
-    let z = c.args in
-    looked_all z.lasts z.sets.now z.count l.q l.out c.loop-q-test.false l.invariant
+    looked_more z.lasts z.sets.now z.count l.q l.out c.set_when-out.result c.loop-q-test.true
+    (omega (arith, c.loop-q-test.true, c.requires.0)) c.set_when-out.ensures l.invariant

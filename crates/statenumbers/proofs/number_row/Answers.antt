@@ -1,13 +1,8 @@
 -- `statenumbers::number_row` meets its contract.
--- Invariant: the cells of the row before symbol s are done, and the set of its state is as it was. Measure: the symbols still to be done.
+-- Invariant: the cells of the row before symbol s are done, and the set of its state is as it was.
 -- Assumes nothing.
-use Rattle.expressionrule.proofs.GrowLaws.{rowing_none, Rowing-more, row_many, row_done}
+use Rattle.expressionrule.proofs.GrowLaws.{Rowing-more, row_many, row_done}
 use Rattle.statenumbers.proofs.number_row.Goals as goal
-
-pub loop-s-init : goal.loop-s-init
-loop-s-init c =
-    let z = c.args in
-    rowing_none z.symbols z.places.now z.follow.now z.firsts z.q z.count z.sets.now z.cells.now c.requires.few
 
 pub returns-then-i-eq16 : goal.returns-then-i-eq16
 returns-then-i-eq16 c =
@@ -29,6 +24,8 @@ loop-s-preserved c =
 pub returns : goal.returns
 returns c =
     let l = c.loop-s in
-    let z = c.args in
-    row_done z.symbols z.places.now z.follow.now z.firsts z.q z.count z.sets.now z.cells.now l.sets l.cells
-    l.n l.s c.requires.symbols c.loop-s-test.false l.invariant
+    let z = c.args in (
+      row_done z.symbols z.places.now z.follow.now z.firsts z.q z.count z.sets.now z.cells.now l.sets l.cells
+          l.n l.s c.requires.symbols c.loop-s-test.false l.invariant,
+      l.invariant.few,
+    )

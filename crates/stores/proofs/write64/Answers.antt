@@ -1,11 +1,12 @@
--- `stores::write64` meets its contract: a number is written by its low half and then its high half.
+-- `stores::write64` meets its contract: the bytes that are copied are those of the number.
 -- Assumes nothing.
-use mathlib.Core.Path.{sym, ◌∙◌}
-use Rattle.laws.proofs.Bytes.{put_split}
+use mathlib.Core.Path.{◌∙◌}
+use native.Mathlib.Omega.{arith}
+use Rattle.stores.proofs.CopyLaws.{eight_bytes, put_copied}
 use Rattle.stores.proofs.write64.Goals as goal
 
 pub returns : goal.returns
 returns c =
-    let low = c.write_quad.ensures in
-    let args = c.args in
-    c.write_quad-2.ensures ∙ rw low (sym (put_split 4 4 args.s.now args.at args.v))
+    let a = c.args in
+    let copied = c.copy_from_slice.ensures.after ∙ c.to_le_bytes.ensures ∙ eight_bytes a.v in
+    put_copied 8 _ a.s.now _ a.at a.v copied (omega arith) c.requires

@@ -1,6 +1,6 @@
 -- `successors::join_rows` meets its contract.
 -- Invariant: the rows below p are joined, and nothing else is new.
--- Measure: the rows still to be joined. Each turn is one step of `JoiningRows`.
+-- Each turn is one step of `JoiningRows`.
 -- Assumes nothing.
 use native.Mathlib.Omega.{arith}
 use mathlib.Core.Path.{refl}

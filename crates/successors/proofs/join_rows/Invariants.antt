@@ -1,13 +1,9 @@
 -- `successors::join_rows` meets its contract.
 -- Invariant: the rows below p are joined, and nothing else is new.
--- Measure: the rows still to be joined. Each turn is one step of `JoiningRows`.
+-- Each turn is one step of `JoiningRows`.
 -- Assumes nothing.
-use Prim.Native.Nat.{◌-◌}
 use Rattle.successors.proofs.SuccessorLaws.{JoiningRows}
 use Rattle.successors.proofs.join_rows.Given as goal
 
 abbrev pub invariant-loop-p : goal.invariant-loop-p
 invariant-loop-p l = JoiningRows l.initial.work l.work l.n l.rows l.p
-
-abbrev pub decreases-loop-p : goal.decreases-loop-p
-decreases-loop-p l = 16 - l.p

@@ -1,6 +1,6 @@
 -- `successors::join_successors` meets its contract.
 -- Invariant: the rows are joined at the ends of the edges of the node below i, and nothing else is new.
--- Measure: the edges still to be passed. Each turn is one step of `Joining`.
+-- Each turn is one step of `Joining`.
 -- Assumes nothing.
 use native.Mathlib.Omega.{arith}
 use Rattle.successors.proofs.SuccessorLaws.{joining_start, index_within, target_within, joining_more, joining_end}

@@ -1,6 +1,5 @@
 -- `tries::first_gone` meets its contract.
 -- Invariant: of the nodes before n none went.
--- Measure: the nodes still to be tried.
 -- Assumes nothing.
 use mathlib.Core.Path.{refl, ◌∙◌}
 use native.Mathlib.Omega.{arith}
@@ -9,13 +8,13 @@ use Rattle.passes.proofs.GoneLaws.{none_gone_start, none_gone_carried, none_gone
 use Rattle.tries.proofs.first_gone.Goals as goal
 
 pub loop-n-init : goal.loop-n-init
-loop-n-init c = (omega arith, none_gone_start _)
+loop-n-init c = none_gone_start _
 
 pub try_node-left-requires : goal.try_node-left-requires
 try_node-left-requires c =
     let l = c.loop-n in
     let p = c.requires in
-    (omega (arith, p.0), (usable_kept l.invariant.1.kept p.1.0, none_gone_carried l.invariant.1 p.1.1))
+    (omega (arith, p.0), (usable_kept l.invariant.kept p.1.0, none_gone_carried l.invariant p.1.1))
 
 pub overflow_add-result : goal.overflow_add-result
 overflow_add-result c =
@@ -25,29 +24,24 @@ overflow_add-result c =
 pub shape_of-work-then-left-progress : goal.shape_of-work-then-left-progress
 shape_of-work-then-left-progress c =
     c.try_node-left.ensures.kept.long
-    ∙ c.loop-n.invariant.1.kept.long
+    ∙ c.loop-n.invariant.kept.long
 
 pub returns-then-left-progress : goal.returns-then-left-progress
 returns-then-left-progress c =
     let p = c.requires in
     let l = c.loop-n in
-    first_gone_here p.1.0 l.invariant.1 c.try_node-left.ensures refl (omega arith) (λ e. omega arith)
-
-pub overflow_add-n : goal.overflow_add-n
-overflow_add-n c =
-    let p = c.requires in
-    omega (arith, p.0, p.1.0.few_nodes)
+    first_gone_here p.1.0 l.invariant c.try_node-left.ensures refl (omega arith) (λ e. omega arith)
 
 pub loop-n-preserved : goal.loop-n-preserved
 loop-n-preserved c =
     let p = c.requires in
     let l = c.loop-n in
-    (omega arith, none_gone_more p.1.0 l.invariant.1 c.try_node-left.ensures (omega arith))
+    none_gone_more p.1.0 l.invariant c.try_node-left.ensures (omega arith)
 
 pub shape_of-work : goal.shape_of-work
-shape_of-work c = c.loop-n.invariant.1.kept.long
+shape_of-work c = c.loop-n.invariant.kept.long
 
 pub returns : goal.returns
 returns c =
     let p = c.requires in
-    first_gone_none (omega arith) p.1.1 c.loop-n.invariant.1
+    first_gone_none (omega arith) p.1.1 c.loop-n.invariant

@@ -5,4 +5,4 @@ use Rattle.automaton.proofs.rule.next.Goals as goal
 
 pub returns : goal.returns
 unfolding cell
-returns c = c.wide.ensures.0
+returns c = c.from.ensures

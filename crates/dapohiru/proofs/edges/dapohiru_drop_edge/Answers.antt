@@ -1,6 +1,7 @@
 -- `dapohiru::edges::dapohiru_drop_edge` meets its contract: the number of the answer, whose count is small, and the lists as the call on values left
 -- them.
 -- Assumes nothing.
+use Rattle.refusal.specs.Refusal.{said}
 use mathlib.Core.Path.{sym, ap, subst, ◌∙◌}
 use Rattle.arrivals.specs.Arrivals.{lists, Edited, edge_number}
 use Rattle.arrivals.specs.ArrivalsSay.{Told}
@@ -12,7 +13,7 @@ pub of_edges-requires : goal.of_edges-requires
 of_edges-requires c =
     let x = c.args in
     let r = c.drop_edge in
-    edges_fit r.result (subst Told (sym (ap (λ (e : Edited). e.answer) r.ensures)) (answers_say.drop x.nodes x.count x.from x.to (lists x.edges.now x.predecessors.now x.starts.now)))
+    edges_fit (said r.result) (subst Told (sym (ap (λ (e : Edited). e.answer) r.ensures)) (answers_say.drop x.nodes x.count x.from x.to (lists x.edges.now x.predecessors.now x.starts.now)))
 
 pub returns : goal.returns
 returns c =

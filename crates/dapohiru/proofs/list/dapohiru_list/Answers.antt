@@ -1,6 +1,7 @@
 -- `dapohiru::list::dapohiru_list` meets its contract: the number of the answer, whose length fits, and the buffers as
 -- listing left them.
 -- Assumes nothing.
+use Rattle.refusal.specs.Refusal.{said}
 use mathlib.Core.Path.{ap, ◌∙◌}
 use mathlib.Core.Bool.{◌||◌}
 use lib.Dec.{ltb}
@@ -14,7 +15,7 @@ pub of_listed-requires : goal.of_listed-requires
 of_listed-requires c =
     let x = c.args in
     let r = c.list_job in
-    listed_fits x.job.now (ltb (length x.work.now) work_size || ltb (length x.listing.now) listing_size) r.result r.ensures.0
+    listed_fits x.job.now (ltb (length x.work.now) work_size || ltb (length x.listing.now) listing_size) (said r.result) r.ensures.0
 
 pub returns : goal.returns
 returns c =

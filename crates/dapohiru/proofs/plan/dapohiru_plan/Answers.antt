@@ -1,6 +1,7 @@
 -- `dapohiru::plan::dapohiru_plan` meets its contract: the number of the outcome, whose counts are small, and the buffers
 -- as planning left them.
 -- Assumes nothing.
+use Rattle.refusal.specs.Refusal.{said}
 use mathlib.Core.Path.{ap, ◌∙◌}
 use mathlib.Core.Bool.{◌||◌}
 use lib.Dec.{ltb}
@@ -14,7 +15,7 @@ pub of_outcome-requires : goal.of_outcome-requires
 of_outcome-requires c =
     let x = c.args in
     let r = c.plan_job in
-    outcome_fits x.job.now (ltb (length x.work.now) work_size || ltb (length x.plan.now) plan_size) r.result r.ensures.0
+    outcome_fits x.job.now (ltb (length x.work.now) work_size || ltb (length x.plan.now) plan_size) (said r.result) r.ensures.0
 
 pub returns : goal.returns
 returns c =

@@ -1,6 +1,7 @@
 -- `dapohiru::rule::dapohiru_rule` meets its contract: the number of the answer, whose numbers are small, and the buffers as the call on values
 -- left them.
 -- Assumes nothing.
+use Rattle.refusal.specs.Refusal.{said}
 use mathlib.Core.Path.{ap, ◌∙◌}
 use lib.ListN.{length}
 use Rattle.ruleoutcome.specs.RuleCall.{rule_number}
@@ -11,7 +12,7 @@ pub of_rule-requires : goal.of_rule-requires
 of_rule-requires c =
     let x = c.args in
     let r = c.take_rule in
-    rule_fits x.job.now (length x.work.now) (length x.rule.now) r.result r.ensures.0
+    rule_fits x.job.now (length x.work.now) (length x.rule.now) (said r.result) r.ensures.0
 
 pub returns : goal.returns
 returns c =

@@ -19,9 +19,6 @@ offset_bounds-follow-q c = let inv = c.loop-rest.invariant in record { fits = om
 pub bounds-follow-q : goal.bounds-follow-q
 bounds-follow-q c = let inv = c.loop-rest.invariant in omega (arith, rest_lt inv.left (omega arith), inv.long, c.requires)
 
-pub offset_bounds-follow-q-in-loop-rest : goal.offset_bounds-follow-q-in-loop-rest
-offset_bounds-follow-q-in-loop-rest c = let inv = c.loop-rest.invariant in record { fits = omega (arith, rest_lt inv.left (omega arith)) }
-
 pub bounds-follow-q-in-loop-rest : goal.bounds-follow-q-in-loop-rest
 bounds-follow-q-in-loop-rest c = let inv = c.loop-rest.invariant in omega (arith, rest_lt inv.left (omega arith), inv.long, c.requires)
 

@@ -16,7 +16,7 @@ pub overflow_add-end : goal.overflow_add-end
 overflow_add-end c =
     let z = c.args in
     let p = c.is_at.ensures.yes_so (c.if-not-is_at.false) in
-    record { fits = omega (arith, char_within z.text.now z.d.end (omega (arith, p)), c.shared_slice_known-1.given z.d.end) }
+    record { fits = omega (arith, char_within z.text.now z.d.end (omega (arith, p))) }
 
 pub loop-end-init : goal.loop-end-init
 loop-end-init c =
@@ -28,7 +28,7 @@ overflow_add-end-in-loop-end c =
     let l = c.loop-end in
     let z = c.args in
     let p = c.is_at-in-loop-end.ensures.yes_so c.loop-end-test.true in
-    record { fits = omega (arith, char_within z.text.now l.end (omega (arith, p)), c.shared_slice_known-1.given l.end) }
+    record { fits = omega (arith, char_within z.text.now l.end (omega (arith, p))) }
 
 pub loop-end-smaller : goal.loop-end-smaller
 loop-end-smaller c =

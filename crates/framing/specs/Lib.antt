@@ -1,3 +1,0 @@
--- What a reader of lines returns.
--- Assumes nothing.
-pub mod Framing

@@ -1,3 +1,0 @@
--- Laws of the test of lent lists.
--- Assumes nothing.
-pub mod HeldTestLaws

@@ -1,0 +1,3 @@
+-- The reasons for which a call is turned back.
+-- Assumes nothing.
+pub mod Refusal

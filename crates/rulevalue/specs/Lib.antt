@@ -1,0 +1,3 @@
+-- A rule by value.
+-- Assumes nothing.
+pub mod Value

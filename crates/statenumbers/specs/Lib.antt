@@ -1,0 +1,3 @@
+-- What the numbering of states answers: inner contracts.
+-- Assumes nothing.
+pub mod Inner
