@@ -1,5 +1,7 @@
-// The running monitor: its record, and what an event that is taken reports and leaves.
+// The running monitor: its record, and what an event call reports and leaves.
 #![tactic(auto)]
+
+use refusal::Refusal;
 
 // What an event reports.
 #[derive(Clone, Copy, Debug, PartialEq, Eq)]
@@ -17,9 +19,9 @@ pub struct Record {
     pub alarms: u64,
 }
 
-// What an event leaves: the record, and what is reported.
+// What an event call leaves: the record, and what is reported, or the reason for which it is turned back.
 #[derive(Clone, Copy)]
 pub struct Taken {
     pub left: Record,
-    pub report: Report,
+    pub report: Result<Report, Refusal>,
 }

@@ -22,9 +22,9 @@ pub fn take_event(
 ) -> Result<Report, Refusal>
     ensures { reported r.new (said result) ≡ taken (automaton_of table states symbols finals) symbol r.old }
 {
-    let taken = step(table, states, symbols, finals, symbol, *r)?;
+    let taken = step(table, states, symbols, finals, symbol, *r);
     *r = taken.left;
-    Ok(taken.report)
+    taken.report
 }
 
 // Lends a record to the call that takes an event, and gives it back with the report.
@@ -35,13 +35,10 @@ pub fn take_event_on(
     finals: u64,
     symbol: u64,
     r: Record,
-) -> Result<Taken, Refusal>
-    ensures { step_of r result ≡ taken (automaton_of table states symbols finals) symbol r }
+) -> Taken
+    ensures { step_of result ≡ taken (automaton_of table states symbols finals) symbol r }
 {
     let mut held = r;
-    let report = take_event(&mut held, table, states, symbols, finals, symbol)?;
-    Ok(Taken {
-        left: held,
-        report: report,
-    })
+    let report = take_event(&mut held, table, states, symbols, finals, symbol);
+    Taken { left: held, report }
 }

@@ -3,12 +3,23 @@
 
 ghost use Rattle.std.specs.Prelude.{◌≡◌};
 ghost use Rattle.automaton.specs.Automaton.{automaton_of};
-ghost use Rattle.events.specs.Monitor.{taken};
+ghost use Rattle.events.specs.Monitor.{refused_with, taken};
 ghost use Rattle.events.specs.Answer.{step_of};
+ghost use Rattle.refusal.specs.Refusal.{number_of};
 
 use events::{Record, Report, Taken};
 use raising::raise;
 use refusal::Refusal;
+
+// The record as it was, with the reason for which the event is turned back.
+fn refuse(refusal: Refusal, r: Record) -> Taken
+    ensures { step_of result ≡ refused_with (number_of refusal) r }
+{
+    Taken {
+        left: r,
+        report: Err(refusal),
+    }
+}
 
 // Takes one event: the state moves on, and the total rises at an alarm. A refusal leaves the record.
 pub fn step(
@@ -18,33 +29,33 @@ pub fn step(
     finals: u64,
     symbol: u64,
     r: Record,
-) -> Result<Taken, Refusal>
-    ensures { step_of r result ≡ taken (automaton_of table states symbols finals) symbol r }
+) -> Taken
+    ensures { step_of result ≡ taken (automaton_of table states symbols finals) symbol r }
 {
     if !wellformed::is_well_formed(table, states, symbols, finals) {
-        return Err(Refusal::WrongRule);
+        return refuse(Refusal::WrongRule, r);
     }
     if symbols <= symbol {
-        return Err(Refusal::NoSymbol);
+        return refuse(Refusal::NoSymbol, r);
     }
     if states <= r.state {
-        return Err(Refusal::NoState);
+        return refuse(Refusal::NoState, r);
     }
     let moved = automaton::rule::next(&table, r.state, symbol);
     if automaton::rule::is_final(finals, moved) {
-        return Ok(Taken {
+        return Taken {
             left: Record {
                 state: moved,
                 alarms: raise(r.alarms),
             },
-            report: Report::Alarm,
-        });
+            report: Ok(Report::Alarm),
+        };
     }
-    Ok(Taken {
+    Taken {
         left: Record {
             state: moved,
             alarms: r.alarms,
         },
-        report: Report::Quiet,
-    })
+        report: Ok(Report::Quiet),
+    }
 }

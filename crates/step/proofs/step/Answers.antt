@@ -15,7 +15,8 @@ use Rattle.events.specs.declared.Report.TheVariants.{Alarm}
 pub returns-then-not-is_well_formed : goal.returns-then-not-is_well_formed
 returns-then-not-is_well_formed c =
     let x = c.args in
-    sym
+    c.refuse.ensures
+    ∙ sym
     (taken_13 (automaton_of x.table x.states x.symbols x.finals) x.symbol x.r
     (sym c.is_well_formed.ensures ∙ c.if-not-is_well_formed.true))
 
@@ -24,14 +25,14 @@ returns-then-symbols-symbol c =
     let x = c.args in
     let m = automaton_of x.table x.states x.symbols x.finals in
     let w : well_formed m ≡ true = sym c.is_well_formed.ensures ∙ c.if-not-is_well_formed.false in
-    sym (taken_14 m x.symbol x.r w c.if-symbols-symbol.true)
+    c.refuse-then-symbols-symbol.ensures ∙ sym (taken_14 m x.symbol x.r w c.if-symbols-symbol.true)
 
 pub returns-then-states-r : goal.returns-then-states-r
 returns-then-states-r c =
     let x = c.args in
     let m = automaton_of x.table x.states x.symbols x.finals in
     let w : well_formed m ≡ true = sym c.is_well_formed.ensures ∙ c.if-not-is_well_formed.false in
-    sym (taken_15 m x.symbol x.r w c.if-symbols-symbol.false c.if-states-r.true)
+    c.refuse-then-states-r.ensures ∙ sym (taken_15 m x.symbol x.r w c.if-symbols-symbol.false c.if-states-r.true)
 
 pub next-moved-requires : goal.next-moved-requires
 next-moved-requires c =
