@@ -13,5 +13,7 @@ pub fn copy_plan(work: &[u8], plan: &mut [u8], nodes: usize)
     requires { (Lent work.now) × ((nodes ≤ 512) × (512 ≤ length plan.old)) }
     ensures { plan.new ≡ sets plan.old 0 (plan_in work.now nodes) }
 {
-    plan[..nodes].copy_from_slice(&work[PLAN..PLAN + nodes]);
+    for n in 0..nodes {
+        plan[n] = work[PLAN + n];
+    }
 }

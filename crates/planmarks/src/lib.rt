@@ -40,5 +40,7 @@ pub fn store_plan(plan: &[u8], work: &mut [u8], nodes: usize)
     requires { (Lent work.old) × ((nodes ≤ 512) × (nodes ≤ length plan.now)) }
     ensures { PlanStored plan.now work.old work.new nodes }
 {
-    work[PLAN..PLAN + nodes].copy_from_slice(&plan[..nodes]);
+    for n in 0..nodes {
+        work[PLAN + n] = plan[n];
+    }
 }

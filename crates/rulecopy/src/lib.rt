@@ -11,5 +11,7 @@ pub fn copy_rule(work: &[u8], rule: &mut [u8])
     requires { (Lent work.now) × (length rule.old ≡ 256) }
     ensures { rule.new ≡ take 256 (drop rule_part work.now) }
 {
-    rule.copy_from_slice(&work[RULE..RULE + 256]);
+    for i in 0..256 {
+        rule[i] = work[RULE + i];
+    }
 }

@@ -1,0 +1,3 @@
+-- The law that the proof of the copy cites.
+-- Assumes nothing.
+pub mod CopyLaws
