@@ -1,0 +1,3 @@
+-- The laws that other crates cite.
+-- Assumes nothing.
+pub mod ReasonsLaws

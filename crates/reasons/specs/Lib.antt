@@ -1,0 +1,3 @@
+-- Answers by the number of what they are turned back with.
+-- Assumes nothing.
+pub mod Reasons
