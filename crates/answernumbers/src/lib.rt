@@ -2,19 +2,19 @@
 #![tactic(auto)]
 
 ghost use Rattle.std.specs.Prelude.{◌≡◌};
-ghost use Rattle.refusal.specs.Refusal.{said};
+ghost use Rattle.reasons.specs.Reasons.{said_by};
 ghost use Rattle.planoutcome.specs.PlanCall.{plan_number};
 ghost use Rattle.listoutcome.specs.ListCall.{list_number};
 ghost use Rattle.answernumbers.specs.Fits.{OutcomeFits, ListedFits};
 
 use callnumber::ACCEPTED;
 use passes::passes::Counts;
-use refusal::Refusal;
+use reasons::Reason;
 
 // 2^48 plus event nodes times 2^32, watched points times 2^16, and passes, or the refusal's number.
-pub fn of_outcome(outcome: Result<Counts, Refusal>) -> u64
-    requires { OutcomeFits (said outcome) }
-    ensures { result ≡ plan_number (said outcome) }
+pub fn of_outcome<E: Reason>(outcome: Result<Counts, E>) -> u64
+    requires { OutcomeFits (said_by E.number outcome) }
+    ensures { result ≡ plan_number (said_by E.number outcome) }
 {
     match outcome {
         Ok(counts) => {
@@ -23,17 +23,17 @@ pub fn of_outcome(outcome: Result<Counts, Refusal>) -> u64
                 + counts.enabled as u64 * 65_536
                 + counts.passes as u64
         }
-        Err(unplanned) => u64::from(unplanned),
+        Err(unplanned) => unplanned.number(),
     }
 }
 
 // 2^48 plus the length of the listing, or the refusal's number.
-pub fn of_listed(listed: Result<usize, Refusal>) -> u64
-    requires { ListedFits (said listed) }
-    ensures { result ≡ list_number (said listed) }
+pub fn of_listed<E: Reason>(listed: Result<usize, E>) -> u64
+    requires { ListedFits (said_by E.number listed) }
+    ensures { result ≡ list_number (said_by E.number listed) }
 {
     match listed {
         Ok(length) => ACCEPTED + length as u64,
-        Err(unlisted) => u64::from(unlisted),
+        Err(unlisted) => unlisted.number(),
     }
 }

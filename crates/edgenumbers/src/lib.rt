@@ -2,20 +2,20 @@
 #![tactic(auto)]
 
 ghost use Rattle.std.specs.Prelude.{◌≡◌};
-ghost use Rattle.refusal.specs.Refusal.{said};
+ghost use Rattle.reasons.specs.Reasons.{said_by};
 ghost use Rattle.arrivals.specs.Arrivals.{edge_number};
 ghost use Rattle.edgenumbers.specs.Fits.{EdgesFit};
 
 use callnumber::ACCEPTED;
-use refusal::Refusal;
+use reasons::Reason;
 
 // 2^48 plus the count, or the refusal's number.
-pub fn of_edges(answer: Result<u64, Refusal>) -> u64
-    requires { EdgesFit (said answer) }
-    ensures { result ≡ edge_number (said answer) }
+pub fn of_edges<E: Reason>(answer: Result<u64, E>) -> u64
+    requires { EdgesFit (said_by E.number answer) }
+    ensures { result ≡ edge_number (said_by E.number answer) }
 {
     match answer {
         Ok(count) => ACCEPTED + count,
-        Err(refusal) => u64::from(refusal),
+        Err(refusal) => refusal.number(),
     }
 }

@@ -2,20 +2,20 @@
 #![tactic(auto)]
 
 ghost use Rattle.std.specs.Prelude.{◌≡◌};
-ghost use Rattle.refusal.specs.Refusal.{said};
+ghost use Rattle.reasons.specs.Reasons.{said_by};
 ghost use Rattle.pricing.specs.Pricing.{price_number};
 ghost use Rattle.pricing.specs.Inner.{CentsFit};
 
 use callnumber::ACCEPTED;
-use refusal::Refusal;
+use reasons::Reason;
 
 // 2^48 plus the cents, or the refusal's number.
-pub fn of_price(price: Result<u64, Refusal>) -> u64
-    requires { CentsFit (said price) }
-    ensures { result ≡ price_number (said price) }
+pub fn of_price<E: Reason>(price: Result<u64, E>) -> u64
+    requires { CentsFit (said_by E.number price) }
+    ensures { result ≡ price_number (said_by E.number price) }
 {
     match price {
         Ok(cents) => ACCEPTED + cents,
-        Err(refusal) => u64::from(refusal),
+        Err(refusal) => refusal.number(),
     }
 }

@@ -2,11 +2,12 @@
 #![tactic(auto)]
 
 ghost use Rattle.std.specs.Prelude.{◌≡◌};
-ghost use Rattle.refusal.specs.Refusal.{said};
+ghost use Rattle.reasons.specs.Reasons.{said_by};
 ghost use Rattle.pricelist.specs.Inner.{SixteenFit, PricesRead};
 ghost use Rattle.pricelist.specs.PriceList.{unlisted};
 
 use numberedline::numbered_line;
+use reasons::Reason;
 use refusal::Refusal;
 
 // Reads the prices of a price file, cents per thousand events of each symbol: whether it is exactly its sixteen B lines.
@@ -27,11 +28,11 @@ pub fn read_prices(file: &[u8], prices: &mut [u64]) -> bool
 }
 
 // The answer where the price file is not its lines: 28 in place of a price.
-pub fn without_prices(price: Result<u64, Refusal>) -> Result<u64, Refusal>
-    ensures { said result ≡ unlisted (said price) }
+pub fn without_prices<E: Reason>(price: Result<u64, E>) -> Result<u64, E>
+    ensures { said_by E.number result ≡ unlisted (said_by E.number price) }
 {
     match price {
-        Ok(_) => Err(Refusal::WrongPrices),
+        Ok(_) => Err(E::of(Refusal::WrongPrices)),
         Err(refusal) => Err(refusal),
     }
 }

@@ -2,9 +2,8 @@
 #![tactic(auto)]
 
 use checking::check::Verdict;
-use refusal::Refusal;
-use std::io;
 use std::io::{Print, Write};
+use std::{fmt, io};
 
 // Writes to standard output.
 pub fn print(rt: &impl Print, bytes: &[u8]) -> io::Result<()> {
@@ -28,7 +27,10 @@ pub fn print_marks(rt: &impl Print, plan: &[u8]) -> io::Result<()> {
 }
 
 // Prints the answer of the plan check.
-pub fn print_verdict(rt: &impl Print, answer: Result<Verdict, Refusal>) -> io::Result<()> {
+pub fn print_verdict<E: fmt::Display + Drop>(
+    rt: &impl Print,
+    answer: Result<Verdict, E>,
+) -> io::Result<()> {
     match answer {
         Ok(verdict) => print!(rt; "{verdict}\n\n"),
         Err(refusal) => print!(rt; "X {refusal}\n\n"),

@@ -2,20 +2,20 @@
 #![tactic(auto)]
 
 ghost use Rattle.std.specs.Prelude.{◌≡◌};
-ghost use Rattle.refusal.specs.Refusal.{said};
+ghost use Rattle.reasons.specs.Reasons.{said_by};
 ghost use Rattle.checking.specs.Checking.{verdict_number};
 
 use callnumber::ACCEPTED;
 use checking::check::Verdict;
-use refusal::Refusal;
+use reasons::Reason;
 
 // 2^48 for faithful, 2^48 + 1 for different, or the refusal's number.
-pub fn of_verdict(answer: Result<Verdict, Refusal>) -> u64
-    ensures { result ≡ verdict_number (said answer) }
+pub fn of_verdict<E: Reason>(answer: Result<Verdict, E>) -> u64
+    ensures { result ≡ verdict_number (said_by E.number answer) }
 {
     match answer {
         Ok(Verdict::Faithful) => ACCEPTED,
         Ok(Verdict::Different) => ACCEPTED + 1,
-        Err(refusal) => u64::from(refusal),
+        Err(refusal) => refusal.number(),
     }
 }

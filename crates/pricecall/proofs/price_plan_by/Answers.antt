@@ -1,7 +1,9 @@
 -- `pricecall::price_plan_by` meets its contract: the answer at the prices that were read, or 28 in place of a price.
 -- Assumes nothing.
 use Rattle.refusal.specs.Refusal.{said}
-use mathlib.Core.Path.{◌∙◌}
+use mathlib.Core.Path.{sym, ap, ◌∙◌}
+use Rattle.reasons.proofs.ReasonsLaws.{said_by_reason}
+use Rattle.pricelist.specs.PriceList.{unlisted}
 use Rattle.pricecall.proofs.PriceCallLaws.{none_fit, by_list, by_none}
 use Rattle.pricecall.proofs.price_plan_by.Goals as goal
 
@@ -22,6 +24,8 @@ pub returns : goal.returns
 returns c =
     let x = c.args in
     let read = c.read_prices-listed in
-    c.without_prices.ensures
+    sym (said_by_reason c.without_prices.result)
+    ∙ c.without_prices.ensures
+    ∙ ap unlisted (said_by_reason c.price_at-price.result)
     ∙ by_none x.file.now x.plan.now x.volumes.now x.prices.now read.new.prices read.result (said c.price_at-price.result)
     read.ensures c.if-listed.false c.price_at-price.ensures
