@@ -1,7 +1,7 @@
 -- `pricereader::without_prices` meets its contract, in either case of the answer.
 -- Assumes nothing.
-use Rattle.std.specs.Prelude.{Result, Err, ℕ}
-use mathlib.Core.Path.{sym, ap, ◌∙◌}
+use Rattle.std.specs.Prelude.{Result, ℕ}
+use mathlib.Core.Path.{sym, ap}
 use Rattle.reasons.specs.Reasons.{said_by}
 use Rattle.pricelist.specs.PriceList.{unlisted}
 use Rattle.pricereader.proofs.without_prices.Goals as goal

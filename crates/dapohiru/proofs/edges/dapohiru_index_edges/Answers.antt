@@ -3,9 +3,11 @@
 -- Assumes nothing.
 use Rattle.refusal.specs.Refusal.{said}
 use mathlib.Core.Path.{sym, ap, subst, ◌∙◌}
+use Rattle.reasons.proofs.ReasonsLaws.{said_by_reason}
 use Rattle.arrivals.specs.Arrivals.{lists, Edited, edge_number}
 use Rattle.arrivals.specs.ArrivalsSay.{Told}
 use Rattle.arrivals.proofs.ToldLaws.{answers_say}
+use Rattle.edgenumbers.specs.Fits.{EdgesFit}
 use Rattle.dapohiru.proofs.FitsLaws.{edges_fit}
 use Rattle.dapohiru.proofs.edges.dapohiru_index_edges.Goals as goal
 
@@ -13,9 +15,9 @@ pub of_edges-requires : goal.of_edges-requires
 of_edges-requires c =
     let x = c.args in
     let r = c.index_edges in
-    edges_fit (said r.result) (subst Told (sym (ap (λ (e : Edited). e.answer) r.ensures)) (answers_say.index x.nodes x.count (lists x.edges.now x.predecessors.now x.starts.now)))
+    subst EdgesFit (sym (said_by_reason r.result)) (edges_fit (said r.result) (subst Told (sym (ap (λ (e : Edited). e.answer) r.ensures)) (answers_say.index x.nodes x.count (lists x.edges.now x.predecessors.now x.starts.now))))
 
 pub returns : goal.returns
 returns c =
     let r = c.index_edges in
-    (c.of_edges.ensures ∙ ap (λ (e : Edited). edge_number e.answer) r.ensures, ap (λ (e : Edited). e.left) r.ensures)
+    (c.of_edges.ensures ∙ ap edge_number (said_by_reason r.result) ∙ ap (λ (e : Edited). edge_number e.answer) r.ensures, ap (λ (e : Edited). e.left) r.ensures)

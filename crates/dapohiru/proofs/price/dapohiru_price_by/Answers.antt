@@ -1,7 +1,9 @@
 -- `dapohiru::price::dapohiru_price_by` meets its contract: the number of the answer, whose cents fit.
 -- Assumes nothing.
 use Rattle.refusal.specs.Refusal.{said}
-use mathlib.Core.Path.{ap, ◌∙◌}
+use mathlib.Core.Path.{sym, ap, subst, ◌∙◌}
+use Rattle.reasons.proofs.ReasonsLaws.{said_by_reason}
+use Rattle.pricing.specs.Inner.{CentsFit}
 use Rattle.pricing.specs.Pricing.{price_number}
 use Rattle.dapohiru.proofs.FitsLaws.{own_price_fits}
 use Rattle.dapohiru.proofs.price.dapohiru_price_by.Goals as goal
@@ -9,7 +11,7 @@ use Rattle.dapohiru.proofs.price.dapohiru_price_by.Goals as goal
 pub of_price-requires : goal.of_price-requires
 of_price-requires c =
     let x = c.args in
-    own_price_fits x.job.now x.plan.now x.volumes.now x.prices.now (said c.price_plan_by.result) c.price_plan_by.ensures
+    subst CentsFit (sym (said_by_reason c.price_plan_by.result)) (own_price_fits x.job.now x.plan.now x.volumes.now x.prices.now (said c.price_plan_by.result) c.price_plan_by.ensures)
 
 pub returns : goal.returns
-returns c = c.of_price.ensures ∙ ap price_number c.price_plan_by.ensures
+returns c = c.of_price.ensures ∙ ap price_number (said_by_reason c.price_plan_by.result ∙ c.price_plan_by.ensures)
